@@ -1,0 +1,4 @@
+pub mod Marks
+pub mod Loops
+pub mod Cases
+pub mod Laws
