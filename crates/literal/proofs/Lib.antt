@@ -1,0 +1,7 @@
+pub mod Orders
+pub mod Numbers
+pub mod Decimals
+pub mod Keys
+pub mod Strings
+pub mod Texts
+pub mod Answers

@@ -1,0 +1,7 @@
+pub mod Literal
+pub mod Order
+pub mod Text
+pub mod Reading
+pub mod Laws
+pub mod Key
+pub mod Written

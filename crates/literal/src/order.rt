@@ -1,0 +1,120 @@
+// The order of keys.
+use super::Comparison;
+use super::LiteralRef;
+use super::key::key_of;
+use super::key::part;
+ghost use mathlib.Core.Path.{_≡_};
+ghost use Rattle.literal.specs.Order.{natOrder, numberOrder, bytesOrder, told, compared};
+ghost use Rattle.literal.specs.Reading.{literalOf, bytesOf};
+
+fn compare_sizes(a: u64, b: u64) -> Comparison
+    ensures { λ r. ⌜ r ≡ told (natOrder a b) ⌝ }
+{
+    if a < b {
+        return Comparison::Less;
+    }
+    if a == b {
+        return Comparison::Equal;
+    }
+    Comparison::Greater
+}
+
+fn compare_numbers(a_below: bool, a_size: u64, b_below: bool, b_size: u64) -> Comparison
+    ensures { λ r. ⌜ r ≡ told (numberOrder «a_below» «a_size» «b_below» «b_size») ⌝ }
+{
+    if a_below {
+        if b_below {
+            return compare_sizes(b_size, a_size);
+        }
+        return Comparison::Less;
+    }
+    if b_below {
+        return Comparison::Greater;
+    }
+    compare_sizes(a_size, b_size)
+}
+
+// The first byte that differs decides; a prefix comes first.
+pub fn compare_bytes(a: &[u8], b: &[u8]) -> Comparison
+    ensures { λ r. ⌜ r ≡ told (bytesOrder (now (a .entry)) (now (b .entry))) ⌝ }
+{
+    let mut i = 0;
+    while i < a.len() {
+        if b.len() <= i {
+            return Comparison::Greater;
+        }
+        if a[i] < b[i] {
+            return Comparison::Less;
+        }
+        if b[i] < a[i] {
+            return Comparison::Greater;
+        }
+        i += 1;
+    }
+    if i == b.len() {
+        return Comparison::Equal;
+    }
+    Comparison::Less
+}
+
+// The bytes with those of a string; no other reference has any.
+pub(crate) fn compare_to_string(
+    bytes: &[u8],
+    strings: &[u8],
+    text: &[u8],
+    l: LiteralRef,
+) -> Comparison
+    ensures { λ r. ⌜ r ≡ told (bytesOrder (now (bytes .entry)) (bytesOf (now (strings .entry)) (now (text .entry)) l)) ⌝ }
+{
+    match l {
+        LiteralRef::String { start, count } => compare_bytes(bytes, part(strings, start, count)),
+        LiteralRef::RawString { start, count } => compare_bytes(bytes, part(text, start, count)),
+        _ => compare_bytes(bytes, &bytes[0..0]),
+    }
+}
+
+fn compare_strings(strings: &[u8], text: &[u8], a: LiteralRef, b: LiteralRef) -> Comparison
+    ensures { λ r. ⌜ r ≡ told (bytesOrder (bytesOf (now (strings .entry)) (now (text .entry)) a) (bytesOf (now (strings .entry)) (now (text .entry)) b)) ⌝ }
+{
+    match a {
+        LiteralRef::String { start, count } => {
+            compare_to_string(part(strings, start, count), strings, text, b)
+        }
+        LiteralRef::RawString { start, count } => {
+            compare_to_string(part(text, start, count), strings, text, b)
+        }
+        _ => compare_to_string(&strings[0..0], strings, text, b),
+    }
+}
+
+pub fn compare(
+    numbers: &[u64],
+    strings: &[u8],
+    text: &[u8],
+    a: LiteralRef,
+    b: LiteralRef,
+) -> Comparison
+    ensures { λ r. ⌜ r ≡ compared (literalOf (now (numbers .entry)) (now (strings .entry)) (now (text .entry)) a) (literalOf (now (numbers .entry)) (now (strings .entry)) (now (text .entry)) b) ⌝ }
+{
+    let x = key_of(numbers, strings, text, a);
+    let y = key_of(numbers, strings, text, b);
+    if x.rank == 5 {
+        return Comparison::NoLiteral;
+    }
+    if y.rank == 5 {
+        return Comparison::NoLiteral;
+    }
+    if x.rank < y.rank {
+        return Comparison::Less;
+    }
+    if y.rank < x.rank {
+        return Comparison::Greater;
+    }
+    if x.rank == 3 {
+        return compare_numbers(x.below, x.size, y.below, y.size);
+    }
+    if x.rank == 4 {
+        return compare_strings(strings, text, a, b);
+    }
+    Comparison::Equal
+}

@@ -1,0 +1,163 @@
+// The text of a key.
+use super::Comparison;
+use super::KeyText;
+use super::LiteralRef;
+use super::key::key_of;
+use super::key::part;
+use super::order::compare_bytes;
+use super::order::compare_to_string;
+ghost use mathlib.Core.Path.{_≡_};
+ghost use Prim.Native.Nat.{_+_, _≤_};
+ghost use lib.ListN.{length};
+ghost use Rattle.literal.specs.Text.{decimal, signed, textCompared, textsCompared};
+ghost use Rattle.literal.specs.Reading.{literalOf, bytesOf, TextDone};
+ghost use Rattle.literal.specs.Written.{writeDigits, Written};
+
+// A part of whichever of the two holds the string; empty for every other reference.
+pub fn string_bytes<'a>(strings: &'a [u8], text: &'a [u8], l: LiteralRef) -> &'a [u8]
+    ensures { λ r. ⌜ now r ≡ bytesOf (now (strings .entry)) (now (text .entry)) l ⌝ }
+{
+    match l {
+        LiteralRef::String { start, count } => part(strings, start, count),
+        LiteralRef::RawString { start, count } => part(text, start, count),
+        _ => &strings[0..0],
+    }
+}
+
+fn digit_count(size: u64) -> usize
+    ensures { λ r. ⌜ r ≡ length (decimal size) ⌝ }
+{
+    let mut count = 1;
+    let mut rest = size;
+    while 9 < rest {
+        rest = rest / 10;
+        count += 1;
+    }
+    count
+}
+
+// The lowest digits of a number, count of them, from start on.
+fn write_digits(out: &mut [u8], start: usize, count: usize, size: u64)
+    requires { ⌜ start + count ≤ length (now out) ⌝ }
+    ensures { λ _. ⌜ now (out .exit) ≡ writeDigits (now (out .entry)) start count size ⌝ }
+{
+    let mut left = count;
+    let mut rest = size;
+    while 0 < left {
+        left -= 1;
+        out[start + left] = 48 + (rest % 10) as u8;
+        rest = rest / 10;
+    }
+}
+
+fn write_number(out: &mut [u8], below: bool, size: u64) -> KeyText
+    requires { ⌜ length (signed below (decimal size)) ≤ length (now out) ⌝ }
+    ensures { λ r. ⌜ Written (signed below (decimal size)) (now (out .entry)) (now (out .exit)) r ⌝ }
+{
+    let count = digit_count(size);
+    if below {
+        out[0] = 45;
+        write_digits(out, 1, count, size);
+        return KeyText::Written { length: count + 1 };
+    }
+    write_digits(out, 0, count, size);
+    KeyText::Written { length: count }
+}
+
+fn write_word(out: &mut [u8], word: &[u8]) -> KeyText
+    requires { ⌜ length (now word) ≤ length (now out) ⌝ }
+    ensures { λ r. ⌜ Written (now (word .entry)) (now (out .entry)) (now (out .exit)) r ⌝ }
+{
+    let mut i = 0;
+    while i < word.len() {
+        out[i] = word[i];
+        i += 1;
+    }
+    KeyText::Written { length: i }
+}
+
+// The longest is -9223372036854775808, of 20 bytes.
+pub fn key_text(
+    numbers: &[u64],
+    strings: &[u8],
+    text: &[u8],
+    l: LiteralRef,
+    out: &mut [u8; 20],
+) -> KeyText
+    ensures { λ r. ⌜ TextDone (literalOf (now (numbers .entry)) (now (strings .entry)) (now (text .entry)) l) (now (out .entry)) (now (out .exit)) r ⌝ }
+{
+    let x = key_of(numbers, strings, text, l);
+    if x.rank == 0 {
+        return write_word(out, b"null");
+    }
+    if x.rank == 1 {
+        return write_word(out, b"false");
+    }
+    if x.rank == 2 {
+        return write_word(out, b"true");
+    }
+    if x.rank == 3 {
+        return write_number(out, x.below, x.size);
+    }
+    if x.rank == 4 {
+        return KeyText::Lent;
+    }
+    KeyText::NoText
+}
+
+// The bytes with the text of a key.
+fn compare_to_text(
+    bytes: &[u8],
+    numbers: &[u64],
+    strings: &[u8],
+    text: &[u8],
+    l: LiteralRef,
+) -> Comparison
+    ensures { λ r. ⌜ r ≡ textCompared (now (bytes .entry)) (literalOf (now (numbers .entry)) (now (strings .entry)) (now (text .entry)) l) ⌝ }
+{
+    let mut out = [0u8; 20];
+    match key_text(numbers, strings, text, l, &mut out) {
+        KeyText::Lent => compare_to_string(bytes, strings, text, l),
+        KeyText::Written { length } => compare_bytes(bytes, &out[..length]),
+        KeyText::NoText => Comparison::NoLiteral,
+    }
+}
+
+fn compare_string_text(
+    numbers: &[u64],
+    strings: &[u8],
+    text: &[u8],
+    a: LiteralRef,
+    b: LiteralRef,
+) -> Comparison
+    ensures { λ r. ⌜ r ≡ textCompared (bytesOf (now (strings .entry)) (now (text .entry)) a) (literalOf (now (numbers .entry)) (now (strings .entry)) (now (text .entry)) b) ⌝ }
+{
+    match a {
+        LiteralRef::String { start, count } => {
+            compare_to_text(part(strings, start, count), numbers, strings, text, b)
+        }
+        LiteralRef::RawString { start, count } => {
+            compare_to_text(part(text, start, count), numbers, strings, text, b)
+        }
+        _ => compare_to_text(&strings[0..0], numbers, strings, text, b),
+    }
+}
+
+pub fn compare_key_texts(
+    numbers: &[u64],
+    strings: &[u8],
+    text: &[u8],
+    a: LiteralRef,
+    b: LiteralRef,
+) -> Comparison
+    ensures { λ r. ⌜ r ≡ textsCompared (literalOf (now (numbers .entry)) (now (strings .entry)) (now (text .entry)) a) (literalOf (now (numbers .entry)) (now (strings .entry)) (now (text .entry)) b) ⌝ }
+{
+    let mut out = [0u8; 20];
+    match key_text(numbers, strings, text, a, &mut out) {
+        KeyText::Lent => compare_string_text(numbers, strings, text, a, b),
+        KeyText::Written { length } => {
+            compare_to_text(&out[..length], numbers, strings, text, b)
+        }
+        KeyText::NoText => Comparison::NoLiteral,
+    }
+}
