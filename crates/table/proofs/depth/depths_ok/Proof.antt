@@ -1,0 +1,32 @@
+use Prim.Native.Nat.{_-_}
+use Rattle.table.proofs.Deepest.{Deep, deep-start, deep-on, deep-fails, deep-ends, ask-children}
+use borrow.Author.Needs.{needs}
+use Rattle.table.proofs.depth.depths_ok.Statement.{statement}
+use Rattle.table.proofs.depth.depths_ok.Tie as tie
+
+abbrev Inv-loop : tie.InvT-loop
+Inv-loop nodes children depths₀ total n₀ depths n = Deep nodes children n depths
+
+abbrev μ-loop : tie.MeasureT-loop
+μ-loop nodes children depths₀ total n₀ depths n = total - n
+
+pub depths-ok-spec : {M : Type 1} → statement M
+depths-ok-spec =
+    tie.close
+    (tie.spec
+    Inv-loop
+    μ-loop
+    (λ c. search (deep-start, needs))
+    (λ c. search needs)
+    (λ c. search needs)
+    (λ c κs. search needs)
+    (λ c. search needs)
+    (λ c κs. search needs)
+    (λ c κs. search (ask-children, needs))
+    (λ c. search (deep-fails, needs))
+    (λ c. search needs)
+    (λ c. search needs)
+    (λ c. search needs)
+    (λ c. search needs)
+    (λ c. search (deep-on, needs))
+    (λ c. search (deep-ends, needs)))

@@ -1,0 +1,10 @@
+pub mod Tables
+pub mod Expr
+pub mod Decode
+pub mod Names
+pub mod Rules
+pub mod Marks
+pub mod Depths
+pub mod Passes
+pub mod Check
+pub mod Sound

@@ -1,0 +1,53 @@
+// The nodes' depths, from the lowest number up.
+use crate::reading::child_at;
+use crate::reading::first_of;
+use crate::reading::width_of;
+ghost use mathlib.Core.Path.{_≡_};
+ghost use Prim.Native.Nat.{max};
+ghost use Rattle.table.specs.Depths.{deepest, listedDepth, ChildrenAsk, DepthsAsk, DepthsTold};
+
+fn deeper(a: u8, b: u8) -> u8
+    ensures { λ r. ⌜ r ≡ max a b ⌝ }
+{
+    if a < b {
+        return b;
+    }
+    a
+}
+
+// The greatest depth of the children, where the depth of node n stands at n - 1.
+fn deepest_of(children: &[u32], depths: &[u8; 512], first: usize, count: usize) -> u8
+    requires { ⌜ ChildrenAsk (now children) first count ⌝ }
+    ensures { λ r. ⌜ r ≡ deepest (listedDepth (now (depths .entry))) (now (children .entry)) first count ⌝ }
+{
+    let mut deep: u8 = 0;
+    let mut i: usize = 0;
+    while i < count {
+        let child = child_at(children, first + i) as usize;
+        deep = deeper(deep, depths[child - 1]);
+        i += 1;
+    }
+    deep
+}
+
+// Is every depth at most 32? A child's stands before its parent's.
+pub fn depths_ok(nodes: &[u32], children: &[u32]) -> bool
+    requires { ⌜ DepthsAsk (now nodes) (now children) ⌝ }
+    ensures { λ r. ⌜ DepthsTold (now (nodes .entry)) (now (children .entry)) r ⌝ }
+{
+    let mut depths = [0u8; 512];
+    let total = nodes.len() / 5;
+    let mut n: usize = 0;
+    while n < total {
+        let node = (n + 1) as u32;
+        let first = first_of(nodes, node) as usize;
+        let count = width_of(nodes, node);
+        let deep = deepest_of(children, &depths, first, count);
+        if 31 < deep {
+            return false;
+        }
+        depths[n] = deep + 1;
+        n += 1;
+    }
+    true
+}

@@ -1,0 +1,181 @@
+// The table rules that speak of the nodes.
+use crate::marks::distinct_entries;
+use crate::marks::places_apart;
+use crate::reading::child_at;
+use crate::reading::count_of;
+use crate::reading::end_of;
+use crate::reading::first_of;
+use crate::reading::kind_of;
+use crate::reading::name_bytes;
+use crate::reading::node_text;
+use crate::reading::same_bytes;
+use crate::reading::start_of;
+use crate::reading::width_of;
+ghost use mathlib.Core.Path.{_≡_};
+ghost use mathlib.Core.Bool.{_&&_};
+ghost use mathlib.Core.List.{[]};
+ghost use Prim.Native.Nat.{_+_, _/_, _≤_};
+ghost use lib.Dec.{eqb, leb, ltb};
+ghost use lib.ListN.{length};
+ghost use Rattle.table.specs.Tables.{tables, kindOf, firstOf, countOf};
+ghost use Rattle.table.specs.Rules.{allFrom, spanOk, wordsOk, childrenBelow};
+ghost use Rattle.table.specs.Passes.{headOkAt, childrenBelowAt, NodesAsk, nodesOk};
+
+// Does a range end no later than what it points into?
+pub fn in_range(start: usize, count: usize, length: usize) -> bool
+    ensures { λ r. ⌜ r ≡ leb (start + count) length ⌝ }
+{
+    if length < start {
+        return false;
+    }
+    count <= length - start
+}
+
+fn span_ok(nodes: &[u32], text: &[u8], node: u32) -> bool
+    ensures { λ r. ⌜ r ≡ spanOk (tables (now (nodes .entry)) [] [] [] [] (now (text .entry))) node ⌝ }
+{
+    let start = start_of(nodes, node);
+    let end = end_of(nodes, node);
+    if end < start {
+        return false;
+    }
+    end as usize <= text.len()
+}
+
+// One word below a limit, and the other unused.
+fn one_word(first: usize, limit: usize, count: usize) -> bool
+    ensures { λ r. ⌜ r ≡ (ltb first limit && eqb count 0) ⌝ }
+{
+    if first < limit {
+        return count == 0;
+    }
+    false
+}
+
+fn name_words_ok(nodes: &[u32], names: &[u32], text: &[u8], node: u32) -> bool
+    ensures { λ r. ⌜ r ≡ wordsOk (tables (now (nodes .entry)) [] [] (now (names .entry)) [] (now (text .entry))) node 6 (firstOf (now (nodes .entry)) node) (countOf (now (nodes .entry)) node) ⌝ }
+{
+    let name = first_of(nodes, node);
+    if name < 1 {
+        return false;
+    }
+    if names.len() / 2 < name as usize {
+        return false;
+    }
+    if count_of(nodes, node) != 0 {
+        return false;
+    }
+    let own = node_text(nodes, text, node);
+    let bytes = name_bytes(names, text, name);
+    same_bytes(own, bytes)
+}
+
+// What first and count are, by the kind.
+fn words_ok(
+    nodes: &[u32],
+    children: &[u32],
+    numbers: &[u64],
+    names: &[u32],
+    strings: &[u8],
+    text: &[u8],
+    node: u32,
+) -> bool
+    ensures { λ r. ⌜ r ≡ wordsOk (tables (now (nodes .entry)) (now (children .entry)) (now (numbers .entry)) (now (names .entry)) (now (strings .entry)) (now (text .entry))) node (kindOf (now (nodes .entry)) node) (firstOf (now (nodes .entry)) node) (countOf (now (nodes .entry)) node) ⌝ }
+{
+    let kind = kind_of(nodes, node);
+    let first = first_of(nodes, node) as usize;
+    let count = count_of(nodes, node) as usize;
+    match kind {
+        1 => in_range(first, count, strings.len()),
+        2 => in_range(first, count, text.len()),
+        3 => one_word(first, numbers.len() / 2, count),
+        4 => one_word(first, 2, count),
+        5 => one_word(first, 1, count),
+        6 => name_words_ok(nodes, names, text, node),
+        7 => in_range(first, count, children.len()),
+        8 => in_range(first, count, children.len()),
+        9 => in_range(first, count * 2, children.len()),
+        10 => one_word(first, 1, count),
+        _ => false,
+    }
+}
+
+fn heads_ok(
+    nodes: &[u32],
+    children: &[u32],
+    numbers: &[u64],
+    names: &[u32],
+    strings: &[u8],
+    text: &[u8],
+) -> bool
+    requires { ⌜ length (now nodes) / 5 ≤ 512 ⌝ }
+    ensures { λ r. ⌜ r ≡ allFrom (headOkAt (tables (now (nodes .entry)) (now (children .entry)) (now (numbers .entry)) (now (names .entry)) (now (strings .entry)) (now (text .entry)))) 0 (length (now (nodes .entry)) / 5) ⌝ }
+{
+    let total = nodes.len() / 5;
+    let mut i: usize = 0;
+    while i < total {
+        let node = (i + 1) as u32;
+        if !span_ok(nodes, text, node) {
+            return false;
+        }
+        if !words_ok(nodes, children, numbers, names, strings, text, node) {
+            return false;
+        }
+        i += 1;
+    }
+    true
+}
+
+fn children_below(nodes: &[u32], children: &[u32], node: u32) -> bool
+    ensures { λ r. ⌜ r ≡ childrenBelow (tables (now (nodes .entry)) (now (children .entry)) [] [] [] []) node ⌝ }
+{
+    let first = first_of(nodes, node) as usize;
+    let count = width_of(nodes, node);
+    let mut i: usize = 0;
+    while i < count {
+        if node <= child_at(children, first + i) {
+            return false;
+        }
+        i += 1;
+    }
+    true
+}
+
+fn all_below(nodes: &[u32], children: &[u32]) -> bool
+    requires { ⌜ length (now nodes) / 5 ≤ 512 ⌝ }
+    ensures { λ r. ⌜ r ≡ allFrom (childrenBelowAt (tables (now (nodes .entry)) (now (children .entry)) [] [] [] [])) 0 (length (now (nodes .entry)) / 5) ⌝ }
+{
+    let total = nodes.len() / 5;
+    let mut i: usize = 0;
+    while i < total {
+        if !children_below(nodes, children, (i + 1) as u32) {
+            return false;
+        }
+        i += 1;
+    }
+    true
+}
+
+// The children come last: by then no child entry serves two nodes, so each is looked at once.
+pub fn nodes_ok(
+    nodes: &[u32],
+    children: &[u32],
+    numbers: &[u64],
+    names: &[u32],
+    strings: &[u8],
+    text: &[u8],
+) -> bool
+    requires { ⌜ NodesAsk (tables (now nodes) (now children) (now numbers) (now names) (now strings) (now text)) ⌝ }
+    ensures { λ r. ⌜ r ≡ nodesOk (tables (now (nodes .entry)) (now (children .entry)) (now (numbers .entry)) (now (names .entry)) (now (strings .entry)) (now (text .entry))) ⌝ }
+{
+    if !heads_ok(nodes, children, numbers, names, strings, text) {
+        return false;
+    }
+    if !distinct_entries(children) {
+        return false;
+    }
+    if !places_apart(nodes) {
+        return false;
+    }
+    all_below(nodes, children)
+}

@@ -1,0 +1,240 @@
+// The words of the tables, 0 where there is none.
+ghost use mathlib.Core.Path.{_≡_};
+ghost use mathlib.Core.List.{[]};
+ghost use Prim.Native.Nat.{_-_, _<_, _≤_, _^_};
+ghost use Rattle.table.specs.Tables.{tables, isNode, recordWord, kindOf, startOf, endOf, firstOf, countOf, width, childAt, nameStart, nameLength, nameBytes};
+ghost use Rattle.literal.specs.Reading.{part};
+ghost use Rattle.table.specs.Decode.{refOf, literalNode};
+ghost use Rattle.table.specs.Names.{sameBytes, classOf};
+ghost use Rattle.literal.specs.Order.{compared};
+ghost use Rattle.literal.specs.Text.{textsCompared};
+use crate::Key;
+use crate::NameClass;
+use literal::Comparison;
+use literal::LiteralRef;
+use literal::order::compare;
+use literal::order::compare_bytes;
+use literal::text;
+
+// Word k of record n, of `size` words each.
+fn record_word(words: &[u32], size: usize, k: usize, n: u32) -> u32
+    requires { ⌜ (size ≤ 5) × (k < 5) ⌝ }
+    ensures { λ r. ⌜ r ≡ recordWord size k (now (words .entry)) n ⌝ }
+{
+    if n == 0 {
+        return 0;
+    }
+    let at = (n as usize - 1) * size + k;
+    if at < words.len() {
+        return words[at];
+    }
+    0
+}
+
+pub fn kind_of(nodes: &[u32], node: u32) -> u32
+    ensures { λ r. ⌜ r ≡ kindOf (now (nodes .entry)) node ⌝ }
+{
+    record_word(nodes, 5, 0, node)
+}
+
+pub fn start_of(nodes: &[u32], node: u32) -> u32
+    ensures { λ r. ⌜ r ≡ startOf (now (nodes .entry)) node ⌝ }
+{
+    record_word(nodes, 5, 1, node)
+}
+
+pub fn end_of(nodes: &[u32], node: u32) -> u32
+    ensures { λ r. ⌜ r ≡ endOf (now (nodes .entry)) node ⌝ }
+{
+    record_word(nodes, 5, 2, node)
+}
+
+pub fn first_of(nodes: &[u32], node: u32) -> u32
+    ensures { λ r. ⌜ r ≡ firstOf (now (nodes .entry)) node ⌝ }
+{
+    record_word(nodes, 5, 3, node)
+}
+
+pub fn count_of(nodes: &[u32], node: u32) -> u32
+    ensures { λ r. ⌜ r ≡ countOf (now (nodes .entry)) node ⌝ }
+{
+    record_word(nodes, 5, 4, node)
+}
+
+pub fn child_at(children: &[u32], place: usize) -> u32
+    ensures { λ r. ⌜ r ≡ childAt (now (children .entry)) place ⌝ }
+{
+    if place < children.len() {
+        return children[place];
+    }
+    0
+}
+
+// The child entries of a node.
+pub fn width_of(nodes: &[u32], node: u32) -> usize
+    ensures { λ r. ⌜ (r ≡ width (now (nodes .entry)) node) × (r < 2 ^ 33) ⌝ }
+{
+    let kind = kind_of(nodes, node);
+    let count = count_of(nodes, node) as usize;
+    if kind == 9 {
+        return count * 2;
+    }
+    if kind == 7 {
+        return count;
+    }
+    if kind == 8 {
+        return count;
+    }
+    0
+}
+
+pub fn name_start(names: &[u32], name: u32) -> u32
+    ensures { λ r. ⌜ r ≡ nameStart (now (names .entry)) name ⌝ }
+{
+    record_word(names, 2, 0, name)
+}
+
+pub fn name_length(names: &[u32], name: u32) -> u32
+    ensures { λ r. ⌜ r ≡ nameLength (now (names .entry)) name ⌝ }
+{
+    record_word(names, 2, 1, name)
+}
+
+// The bytes of a range, as far as they are there.
+fn bytes_at(bytes: &[u8], start: usize, count: usize) -> &[u8]
+    ensures { λ r. ⌜ now r ≡ part (now (bytes .entry)) start count ⌝ }
+{
+    if bytes.len() < start {
+        return &bytes[0..0];
+    }
+    if bytes.len() - start < count {
+        return &bytes[start..];
+    }
+    &bytes[start..start + count]
+}
+
+// A name's bytes, lent back from the text.
+pub fn name_bytes<'a>(names: &[u32], text: &'a [u8], name: u32) -> &'a [u8]
+    ensures { λ r. ⌜ now r ≡ nameBytes (now (names .entry)) (now (text .entry)) name ⌝ }
+{
+    let start = name_start(names, name) as usize;
+    let length = name_length(names, name) as usize;
+    bytes_at(text, start, length)
+}
+
+// A node's own text, lent back.
+pub fn node_text<'a>(nodes: &[u32], text: &'a [u8], node: u32) -> &'a [u8]
+    ensures { λ r. ⌜ now r ≡ part (now (text .entry)) (startOf (now (nodes .entry)) node) (endOf (now (nodes .entry)) node - startOf (now (nodes .entry)) node) ⌝ }
+{
+    let start = start_of(nodes, node) as usize;
+    let end = end_of(nodes, node) as usize;
+    if end < start {
+        return bytes_at(text, start, 0);
+    }
+    bytes_at(text, start, end - start)
+}
+
+// The literal that a node refers to, or that it is none.
+pub fn extract_literal_key(nodes: &[u32], node: u32) -> Key
+    ensures { λ r. ⌜ r ≡ refOf (now (nodes .entry)) node ⌝ }
+{
+    let kind = kind_of(nodes, node);
+    let first = first_of(nodes, node) as usize;
+    let count = count_of(nodes, node) as usize;
+    match kind {
+        1 => Key::Literal(LiteralRef::String {
+            start: first,
+            count,
+        }),
+        2 => Key::Literal(LiteralRef::RawString {
+            start: first,
+            count,
+        }),
+        3 => Key::Literal(LiteralRef::Number { place: first }),
+        4 => {
+            if first == 0 {
+                return Key::Literal(LiteralRef::False);
+            }
+            Key::Literal(LiteralRef::True)
+        }
+        5 => Key::Literal(LiteralRef::Null),
+        _ => Key::Computed,
+    }
+}
+
+// Is it a node's number?
+pub fn is_node(nodes: &[u32], node: u32) -> bool
+    ensures { λ r. ⌜ r ≡ isNode (tables (now (nodes .entry)) [] [] [] [] []) node ⌝ }
+{
+    if node < 1 {
+        return false;
+    }
+    node as usize <= nodes.len() / 5
+}
+
+pub fn same_bytes(a: &[u8], b: &[u8]) -> bool
+    ensures { λ r. ⌜ r ≡ sameBytes (now (a .entry)) (now (b .entry)) ⌝ }
+{
+    match compare_bytes(a, b) {
+        Comparison::Equal => true,
+        Comparison::Less => false,
+        Comparison::Greater => false,
+        Comparison::NoLiteral => false,
+    }
+}
+
+pub fn name_class(names: &[u32], text: &[u8], name: u32) -> NameClass
+    ensures { λ r. ⌜ r ≡ classOf (nameBytes (now (names .entry)) (now (text .entry)) name) ⌝ }
+{
+    let bytes = name_bytes(names, text, name);
+    if same_bytes(bytes, b"_") {
+        return NameClass::Underscore;
+    }
+    if same_bytes(bytes, b"input") {
+        return NameClass::InputOrData;
+    }
+    if same_bytes(bytes, b"data") {
+        return NameClass::InputOrData;
+    }
+    NameClass::Ordinary
+}
+
+// The literals of two nodes, in the order of keys.
+pub fn compare_literals(
+    nodes: &[u32],
+    numbers: &[u64],
+    strings: &[u8],
+    text: &[u8],
+    a: u32,
+    b: u32,
+) -> Comparison
+    ensures { λ r. ⌜ r ≡ compared (literalNode (now (nodes .entry)) (now (numbers .entry)) (now (strings .entry)) (now (text .entry)) a) (literalNode (now (nodes .entry)) (now (numbers .entry)) (now (strings .entry)) (now (text .entry)) b) ⌝ }
+{
+    let Key::Literal(x) = extract_literal_key(nodes, a) else {
+        return Comparison::NoLiteral;
+    };
+    let Key::Literal(y) = extract_literal_key(nodes, b) else {
+        return Comparison::NoLiteral;
+    };
+    compare(numbers, strings, text, x, y)
+}
+
+// The key texts of two nodes, by their bytes.
+pub fn compare_key_texts(
+    nodes: &[u32],
+    numbers: &[u64],
+    strings: &[u8],
+    text: &[u8],
+    a: u32,
+    b: u32,
+) -> Comparison
+    ensures { λ r. ⌜ r ≡ textsCompared (literalNode (now (nodes .entry)) (now (numbers .entry)) (now (strings .entry)) (now (text .entry)) a) (literalNode (now (nodes .entry)) (now (numbers .entry)) (now (strings .entry)) (now (text .entry)) b) ⌝ }
+{
+    let Key::Literal(x) = extract_literal_key(nodes, a) else {
+        return Comparison::NoLiteral;
+    };
+    let Key::Literal(y) = extract_literal_key(nodes, b) else {
+        return Comparison::NoLiteral;
+    };
+    text::compare_key_texts(numbers, strings, text, x, y)
+}
