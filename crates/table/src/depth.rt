@@ -31,7 +31,7 @@ fn deepest_of(children: &[u32], depths: &[u8; 512], first: usize, count: usize) 
 }
 
 // Is every depth at most 32? A child's stands before its parent's.
-pub fn depths_ok(nodes: &[u32], children: &[u32]) -> bool
+pub(crate) fn depths_ok(nodes: &[u32], children: &[u32]) -> bool
     requires { ⌜ DepthsAsk (now nodes) (now children) ⌝ }
     ensures { λ r. ⌜ DepthsTold (now (nodes .entry)) (now (children .entry)) r ⌝ }
 {

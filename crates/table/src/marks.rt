@@ -8,7 +8,7 @@ ghost use Rattle.table.specs.Rules.{noRepeat, usedPlaces};
 ghost use Rattle.table.specs.Marks.{PlacesMarked, PlacesAsk};
 
 // Does no node stand twice in the child list?
-pub fn distinct_entries(children: &[u32]) -> bool
+pub(crate) fn distinct_entries(children: &[u32]) -> bool
     requires { ⌜ ((i : ℕ) → i < length (now children) → getD (now children) i 0 ≤ 512) ⌝ }
     ensures { λ r. ⌜ r ≡ noRepeat (now (children .entry)) ⌝ }
 {
@@ -43,7 +43,7 @@ fn mark_places(used: &mut [u8; 512], first: usize, count: usize) -> bool
 }
 
 // Does no child entry serve two nodes?
-pub fn places_apart(nodes: &[u32]) -> bool
+pub(crate) fn places_apart(nodes: &[u32]) -> bool
     requires { ⌜ PlacesAsk (now nodes) ⌝ }
     ensures { λ r. ⌜ r ≡ noRepeat (usedPlaces (now (nodes .entry)) 1 (length (now (nodes .entry)) / 5)) ⌝ }
 {

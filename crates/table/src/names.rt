@@ -24,7 +24,7 @@ fn new_name(names: &[u32], text: &[u8], i: usize) -> bool
     true
 }
 
-pub fn names_differ(names: &[u32], text: &[u8]) -> bool
+pub(crate) fn names_differ(names: &[u32], text: &[u8]) -> bool
     requires { ⌜ length (now names) / 2 ≤ 128 ⌝ }
     ensures { λ r. ⌜ r ≡ namesDiffer (tables [] [] [] (now (names .entry)) [] (now (text .entry))) ⌝ }
 {

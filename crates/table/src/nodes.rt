@@ -22,7 +22,7 @@ ghost use Rattle.table.specs.Rules.{allFrom, spanOk, wordsOk, childrenBe
 ghost use Rattle.table.specs.Passes.{headOkAt, childrenBelowAt, NodesAsk, nodesOk};
 
 // Does a range end no later than what it points into?
-pub fn in_range(start: usize, count: usize, length: usize) -> bool
+pub(crate) fn in_range(start: usize, count: usize, length: usize) -> bool
     ensures { λ r. ⌜ r ≡ leb (start + count) length ⌝ }
 {
     if length < start {
@@ -157,7 +157,7 @@ fn all_below(nodes: &[u32], children: &[u32]) -> bool
 }
 
 // The children come last: by then no child entry serves two nodes, so each is looked at once.
-pub fn nodes_ok(
+pub(crate) fn nodes_ok(
     nodes: &[u32],
     children: &[u32],
     numbers: &[u64],

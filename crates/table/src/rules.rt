@@ -17,7 +17,7 @@ ghost use Rattle.table.specs.Tables.{tables};
 ghost use Rattle.table.specs.Rules.{allFrom, withinLimits, wholeRecords, nameOk, nameOkAt, numberOk, entryOk, scopeOk, followsRules};
 ghost use Rattle.table.specs.Passes.{listsOk};
 
-pub fn within_limits(
+pub(crate) fn within_limits(
     nodes: &[u32],
     children: &[u32],
     numbers: &[u64],
@@ -146,7 +146,7 @@ fn scope_ok(names: &[u32], text: &[u8], scope: Scope) -> bool
     same_bytes(name_bytes(names, text, underscore), b"_")
 }
 
-pub fn follows_rules(
+pub(crate) fn follows_rules(
     nodes: &[u32],
     children: &[u32],
     numbers: &[u64],
