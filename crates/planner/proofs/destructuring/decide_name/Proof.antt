@@ -1,0 +1,56 @@
+use Rattle.planner.proofs.FirstPass.{name-known, name-seen, name-binds}
+use borrow.Author.Needs.{needs}
+use Rattle.planner.proofs.destructuring.decide_name.Statement.{statement}
+use Rattle.planner.proofs.destructuring.decide_name.Tie as tie
+use Rattle.planner.proofs.destructuring.decide_name.Reads as reads
+use Rattle.planner.proofs.destructuring.decide_name.Lts as lts
+
+-- src/destructuring.rt:17:14
+sub-at : tie.Need-sub-at
+sub-at c = search needs
+
+-- src/destructuring.rt:18:8
+element-copy-out-if1 : tie.Need-element-copy-out-if1
+element-copy-out-if1 c = search needs
+
+-- src/destructuring.rt:19:12
+mul-if2 : tie.Need-mul-if2
+mul-if2 c = search needs
+
+-- src/destructuring.rt:19:12
+element-copy-out-if2 : tie.Need-element-copy-out-if2
+element-copy-out-if2 c = search needs
+
+-- src/destructuring.rt:20:13
+mul-binders : tie.Need-mul-binders
+mul-binders c = search needs
+
+-- src/destructuring.rt:20:13
+element-write-binders : tie.Need-element-write-binders
+element-write-binders c = search needs
+
+-- src/destructuring.rt:13:1
+returns : tie.Need-returns
+returns c = search (name-binds, needs)
+
+-- src/destructuring.rt:13:1
+returns-2 : tie.Need-returns-2
+returns-2 c = search (name-seen, needs)
+
+-- src/destructuring.rt:13:1
+returns-3 : tie.Need-returns-3
+returns-3 c = search (name-known, needs)
+
+pub decide-name-spec : {M : Type 1} → statement M
+decide-name-spec =
+    tie.close
+    (tie.spec
+    sub-at
+    element-copy-out-if1
+    mul-if2
+    element-copy-out-if2
+    mul-binders
+    element-write-binders
+    returns
+    returns-2
+    returns-3)

@@ -1,0 +1,26 @@
+use Rattle.planner.proofs.Operations.{ask-plan, pattern-planned}
+use borrow.Author.Needs.{needs}
+use Rattle.planner.proofs.destructuring.plan_pattern.Statement.{statement}
+use Rattle.planner.proofs.destructuring.plan_pattern.Tie as tie
+use Rattle.planner.proofs.destructuring.plan_pattern.Reads as reads
+use Rattle.planner.proofs.destructuring.plan_pattern.Lts as lts
+use Rattle.planner.proofs.context.name_states.Reads as name-states-reads
+use Rattle.planner.proofs.destructuring.create_destructuring_plan_with_tracking.Reads as create-destructuring-plan-with-tracking-reads
+
+-- src/destructuring.rt:131:18
+name-states-requires : tie.Need-name-states-requires
+name-states-requires c κs = search needs
+
+-- src/destructuring.rt:132:5
+create-destructuring-plan-with-tracking-requires :
+    tie.Need-create-destructuring-plan-with-tracking-requires
+create-destructuring-plan-with-tracking-requires c κs = search (ask-plan, needs)
+
+-- src/destructuring.rt:115:1
+returns : tie.Need-returns
+returns c = search (pattern-planned, needs)
+
+pub plan-pattern-spec : {M : Type 1} → statement M
+plan-pattern-spec =
+    tie.close
+    (tie.spec name-states-requires create-destructuring-plan-with-tracking-requires returns)

@@ -1,0 +1,11 @@
+pub mod Plan
+pub mod Layout
+pub mod Answer
+pub mod Parameters
+pub mod Operations
+pub mod Laws
+pub mod Passes
+pub mod Post
+pub mod Ordering
+pub mod Validation
+pub mod Trial

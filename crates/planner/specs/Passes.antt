@@ -1,0 +1,125 @@
+-- What the code's two passes over a pattern make: `binders`, in written order, and the entries by binders, in plan order.
+use Prim.Native.Nat.{ℕ, zero, suc, _+_, _-_, _*_}
+use mathlib.Core.Bool.{Bool, true, false, cond, _&&_}
+use mathlib.Core.List.{List, [], _∷_, _++_, map}
+use mathlib.Core.Option.{Option}
+use lib.Dec.{eqb, leb}
+use lib.ListN.{length, getD, set}
+use Rattle.literal.specs.Literal.{Literal}
+use Rattle.table.specs.Tables.{Tables, childAt}
+use Rattle.table.specs.Decode.{expr, items, literalAt}
+use Rattle.table.specs.declared.NameClass.{NameClass}
+use Rattle.table.specs.declared.NameClass.the-variants.{Underscore, InputOrData, Ordinary}
+use Rattle.table.specs.Expr as Expr
+use Rattle.table.specs.Expr.{Expr, literal, name, wildcard, array, object, other, Exprs, none, item, Fields, done, field, nodeOf, count}
+use Rattle.planner.specs.Layout.{Entry, entry, literalKey, FieldOrder, noFields, addField, inOrder, concat}
+
+-- `binders` has for each name number the node that binds it, or 0
+abbrev pub binderOf : List ℕ → ℕ → ℕ
+binderOf binders x = getD binders (x - 1) 0
+
+module _ (unbound : ℕ → Bool) where
+  abbrev pub bindName : ℕ → ℕ → List ℕ → List ℕ
+  bindName n x binders = cond (unbound x && eqb (binderOf binders x) 0) (set binders (x - 1) n) binders
+
+  unfoldable mutual
+    pub bindersOf : Expr → List ℕ → List ℕ
+    bindersOf (literal n l) binders = binders
+    bindersOf (name n x) binders = bindName n x binders
+    bindersOf (wildcard n) binders = binders
+    bindersOf (array n es) binders = bindersAll es binders
+    bindersOf (Expr.set n es) binders = binders
+    bindersOf (object n fs) binders = bindersFields fs binders
+    bindersOf (other n) binders = binders
+
+    pub bindersAll : Exprs → List ℕ → List ℕ
+    bindersAll none binders = binders
+    bindersAll (item e es) binders = bindersAll es (bindersOf e binders)
+
+    pub bindersFields : Fields → List ℕ → List ℕ
+    bindersFields done binders = binders
+    bindersFields (field k v fs) binders = bindersFields fs (bindersOf v binders)
+
+-- a name node binds where it is its name's binder
+abbrev pub nameKind : List ℕ → ℕ → ℕ → ℕ
+nameKind binders n x = cond (eqb (binderOf binders x) n) 1 3
+
+module _ (binders : List ℕ) where
+  unfoldable mutual
+    pub layOut : Expr → ℕ → List Entry
+    layOut (literal n l) key = entry 4 n 0 key ∷ []
+    layOut (name n x) key = entry (nameKind binders n x) n 0 key ∷ []
+    layOut (wildcard n) key = entry 2 n 0 key ∷ []
+    layOut (array n es) key = entry 5 n (count es) key ∷ layOutAll es
+    layOut (Expr.set n es) key = entry 3 n 0 key ∷ []
+    layOut (object n fs) key =
+        let order = inOrder (layOutFields fs noFields) in
+        entry 6 n (length order) key ∷ concat order
+    layOut (other n) key = entry 3 n 0 key ∷ []
+
+    pub layOutAll : Exprs → List Entry
+    layOutAll none = []
+    layOutAll (item e es) = layOut e 0 ++ layOutAll es
+
+    pub layOutFields : Fields → FieldOrder (List Entry) → FieldOrder (List Entry)
+    layOutFields done o = o
+    layOutFields (field k v fs) o = layOutFields fs (addField (literalKey k) (layOut v (nodeOf k)) o)
+
+-- the children at `at`, `at + step` and so on, k of them
+unfoldable pub bindersFrom : (ℕ → Bool) → (ℕ → Expr) → List ℕ → ℕ → ℕ → ℕ → List ℕ → List ℕ
+bindersFrom unbound g ch at step zero binders = binders
+bindersFrom unbound g ch at step (suc k) binders = bindersFrom unbound g ch (at + step) step k (bindersOf unbound (g (childAt ch at)) binders)
+
+-- `states` has for each name number 0 known, 1 unbound, 2 `_`
+abbrev pub unboundIn : List ℕ → ℕ → Bool
+unboundIn states x = eqb (getD states (x - 1) 0) 1
+
+-- the order of k fields from field number i on, by their keys
+unfoldable pub orderFrom : (ℕ → Option Literal) → ℕ → ℕ → FieldOrder ℕ → FieldOrder ℕ
+orderFrom key i zero o = o
+orderFrom key i (suc k) o = orderFrom key (i + 1) k (addField (key i) i o)
+
+-- The entry kinds of a name node and of any other node with no entries below it.
+abbrev pub nameEntryKind : List ℕ → List ℕ → ℕ → ℕ → ℕ
+nameEntryKind states binders n x = cond (eqb (getD states (x - 1) 0) 2) 2 (nameKind binders n x)
+
+abbrev pub leafEntryKind : ℕ → ℕ
+leafEntryKind kind = cond (leb kind 5) 4 3
+
+-- The entries of k items from child entry `from` on.
+abbrev pub layOutItems : List ℕ → Tables → ℕ → ℕ → List Entry
+layOutItems binders T from k = layOutAll binders (items (expr T) (T .children) from k)
+
+-- Field i of an object whose child entries start at `first`: its key node, its literal key, its entries.
+abbrev pub keyNode : Tables → ℕ → ℕ → ℕ
+keyNode T first i = childAt (T .children) (first + i * 2)
+
+abbrev pub valueNode : Tables → ℕ → ℕ → ℕ
+valueNode T first i = childAt (T .children) (first + i * 2 + 1)
+
+abbrev pub fieldKey : Tables → ℕ → ℕ → Option Literal
+fieldKey T first i = literalAt T (keyNode T first i)
+
+abbrev pub fieldEntries : List ℕ → Tables → ℕ → ℕ → List Entry
+fieldEntries binders T first i = layOut binders (expr T (valueNode T first i)) (keyNode T first i)
+
+-- the order of an object's fields, and the entries of fields in an order
+abbrev pub orderOf : Tables → ℕ → ℕ → FieldOrder ℕ
+orderOf T first k = orderFrom (fieldKey T first) 0 k noFields
+
+-- f of k numbers of a list from place q on
+unfoldable pub concatAt : (ℕ → List Entry) → List ℕ → ℕ → ℕ → List Entry
+concatAt f order q zero = []
+concatAt f order q (suc k) = f (getD order q 0) ++ concatAt f order (q + 1) k
+
+abbrev pub layOutOrdered : List ℕ → Tables → ℕ → List ℕ → ℕ → ℕ → List Entry
+layOutOrdered binders T first order q k = concatAt (fieldEntries binders T first) order q k
+
+-- a name's state: `_` by its bytes, else by the scope's answer
+abbrev pub unboundMark : Bool → ℕ
+unboundMark unbound = cond unbound 1 0
+
+abbrev pub stateBy : NameClass → Bool → ℕ
+stateBy Underscore unbound = 2
+stateBy InputOrData unbound = unboundMark unbound
+stateBy Ordinary unbound = unboundMark unbound

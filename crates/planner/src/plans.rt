@@ -1,0 +1,254 @@
+// The second pass: a plan's entries in plan order (plans.rs, destructuring.rs).
+ghost use mathlib.Core.Path.{_≡_};
+ghost use Prim.Native.Nat.{_<_, _≤_};
+ghost use Rattle.table.specs.Tables.{tables};
+ghost use Rattle.table.specs.Decode.{expr};
+ghost use Rattle.planner.specs.Layout.{entry};
+ghost use Rattle.planner.specs.Passes.{nameEntryKind, leafEntryKind, layOut, layOutItems, layOutOrdered};
+ghost use Rattle.planner.specs.Post.{NameNumber, Laid, LayAsks, LayObjectAsks, LayItemsAsks, LayOrderedAsks, PutAt};
+use crate::fields::field_at;
+use crate::fields::order_fields;
+use table::reading::child_at;
+use table::reading::count_of;
+use table::reading::first_of;
+use table::reading::kind_of;
+
+// One entry into a scratch of 512.
+fn put(plan: &mut [u32; 2048], at: usize, kind: u32, node: u32, count: u32, key: u32)
+    requires { ⌜ at < 512 ⌝ }
+    ensures { λ _. ⌜ PutAt (now (plan .entry)) at (entry kind node count key) (now (plan .exit)) ⌝ }
+{
+    let base = at * 4;
+    plan[base] = kind;
+    plan[base + 1] = node;
+    plan[base + 2] = count;
+    plan[base + 3] = key;
+}
+
+// `_` is ignored, a binder binds, any other name is compared.
+fn name_kind(states: &[u8; 128], binders: &[u32; 128], node: u32, name: u32) -> u32
+    requires { ⌜ NameNumber name ⌝ }
+    ensures { λ r. ⌜ r ≡ nameEntryKind (now (states .entry)) (now (binders .entry)) node name ⌝ }
+{
+    let at = name as usize - 1;
+    if states[at] == 2 {
+        return 2;
+    }
+    if binders[at] == node {
+        return 1;
+    }
+    3
+}
+
+// The kind of entry of a node that has no entries below it, names aside.
+fn leaf_kind(kind: u32) -> u32
+    ensures { λ r. ⌜ r ≡ leafEntryKind kind ⌝ }
+{
+    if kind <= 5 {
+        return 4;
+    }
+    3
+}
+
+// The entries of a node's plan from entry `at` on; the next entry's place.
+pub(crate) fn lay_out(
+    nodes: &[u32],
+    children: &[u32],
+    numbers: &[u64],
+    names: &[u32],
+    strings: &[u8],
+    text: &[u8],
+    states: &[u8; 128],
+    binders: &[u32; 128],
+    node: u32,
+    key: u32,
+    plan: &mut [u32; 2048],
+    at: usize,
+) -> usize
+    requires { ⌜ LayAsks (tables (now nodes) (now children) (now numbers) (now names) (now strings) (now text)) (now states) (now binders) node key at ⌝ }
+    ensures { λ r. ⌜ Laid (now (plan .entry)) at (layOut (now (binders .entry)) (expr (tables (now (nodes .entry)) (now (children .entry)) (now (numbers .entry)) (now (names .entry)) (now (strings .entry)) (now (text .entry))) node) key) (now (plan .exit)) r ⌝ }
+{
+    let kind = kind_of(nodes, node);
+    let first = first_of(nodes, node);
+    if kind == 6 {
+        let bound = name_kind(states, binders, node, first);
+        put(plan, at, bound, node, 0, key);
+        return at + 1;
+    }
+    if kind == 7 {
+        let count = count_of(nodes, node);
+        put(plan, at, 5, node, count, key);
+        return lay_items(
+            nodes,
+            children,
+            numbers,
+            names,
+            strings,
+            text,
+            states,
+            binders,
+            node,
+            first as usize,
+            count as usize,
+            plan,
+            at + 1,
+        );
+    }
+    if kind == 9 {
+        return lay_object(
+            nodes,
+            children,
+            numbers,
+            names,
+            strings,
+            text,
+            states,
+            binders,
+            node,
+            key,
+            plan,
+            at,
+        );
+    }
+    put(plan, at, leaf_kind(kind), node, 0, key);
+    at + 1
+}
+
+// An array's items, `left` of them from child entry `from` on.
+fn lay_items(
+    nodes: &[u32],
+    children: &[u32],
+    numbers: &[u64],
+    names: &[u32],
+    strings: &[u8],
+    text: &[u8],
+    states: &[u8; 128],
+    binders: &[u32; 128],
+    parent: u32,
+    from: usize,
+    left: usize,
+    plan: &mut [u32; 2048],
+    at: usize,
+) -> usize
+    requires { ⌜ LayItemsAsks (tables (now nodes) (now children) (now numbers) (now names) (now strings) (now text)) (now states) (now binders) parent from left at ⌝ }
+    ensures { λ r. ⌜ Laid (now (plan .entry)) at (layOutItems (now (binders .entry)) (tables (now (nodes .entry)) (now (children .entry)) (now (numbers .entry)) (now (names .entry)) (now (strings .entry)) (now (text .entry))) from left) (now (plan .exit)) r ⌝ }
+{
+    let mut place = from;
+    let mut more = left;
+    let mut here = at;
+    while 0 < more {
+        let child = child_at(children, place);
+        here = lay_out(
+            nodes,
+            children,
+            numbers,
+            names,
+            strings,
+            text,
+            states,
+            binders,
+            child,
+            0,
+            plan,
+            here,
+        );
+        place += 1;
+        more -= 1;
+    }
+    here
+}
+
+fn lay_object(
+    nodes: &[u32],
+    children: &[u32],
+    numbers: &[u64],
+    names: &[u32],
+    strings: &[u8],
+    text: &[u8],
+    states: &[u8; 128],
+    binders: &[u32; 128],
+    node: u32,
+    key: u32,
+    plan: &mut [u32; 2048],
+    at: usize,
+) -> usize
+    requires { ⌜ LayObjectAsks (tables (now nodes) (now children) (now numbers) (now names) (now strings) (now text)) (now states) (now binders) node key at ⌝ }
+    ensures { λ r. ⌜ Laid (now (plan .entry)) at (layOut (now (binders .entry)) (expr (tables (now (nodes .entry)) (now (children .entry)) (now (numbers .entry)) (now (names .entry)) (now (strings .entry)) (now (text .entry))) node) key) (now (plan .exit)) r ⌝ }
+{
+    let first = first_of(nodes, node) as usize;
+    let count = count_of(nodes, node) as usize;
+    let mut order = [0u32; 256];
+    let total = order_fields(
+        nodes,
+        children,
+        numbers,
+        names,
+        strings,
+        text,
+        first,
+        count,
+        &mut order,
+    );
+    put(plan, at, 6, node, total, key);
+    lay_fields(
+        nodes,
+        children,
+        numbers,
+        names,
+        strings,
+        text,
+        states,
+        binders,
+        node,
+        first,
+        &order,
+        total as usize,
+        plan,
+        at + 1,
+    )
+}
+
+// An object's fields by `order`, the first `total` of its field numbers.
+fn lay_fields(
+    nodes: &[u32],
+    children: &[u32],
+    numbers: &[u64],
+    names: &[u32],
+    strings: &[u8],
+    text: &[u8],
+    states: &[u8; 128],
+    binders: &[u32; 128],
+    parent: u32,
+    first: usize,
+    order: &[u32; 256],
+    total: usize,
+    plan: &mut [u32; 2048],
+    at: usize,
+) -> usize
+    requires { ⌜ LayOrderedAsks (tables (now nodes) (now children) (now numbers) (now names) (now strings) (now text)) (now states) (now binders) parent first (now order) total at ⌝ }
+    ensures { λ r. ⌜ Laid (now (plan .entry)) at (layOutOrdered (now (binders .entry)) (tables (now (nodes .entry)) (now (children .entry)) (now (numbers .entry)) (now (names .entry)) (now (strings .entry)) (now (text .entry))) first (now (order .entry)) 0 total) (now (plan .exit)) r ⌝ }
+{
+    let mut q: usize = 0;
+    let mut here = at;
+    while q < total {
+        let place = first + field_at(order, q) * 2;
+        let key = child_at(children, place);
+        let value = child_at(children, place + 1);
+        here = lay_out(
+            nodes,
+            children,
+            numbers,
+            names,
+            strings,
+            text,
+            states,
+            binders,
+            value,
+            key,
+            plan,
+            here,
+        );
+        q += 1;
+    }
+    here
+}
