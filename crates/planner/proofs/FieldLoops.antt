@@ -24,7 +24,7 @@ use Rattle.literal.proofs.Orders.{key-order}
 use Rattle.table.specs.declared.Key.{Key}
 use Rattle.table.specs.declared.Key.the-variants.{Computed}
 use Rattle.table.specs.Tables.{Tables, kindOf, childAt}
-use Rattle.table.specs.Decode.{literalNode, refOf}
+use Rattle.table.specs.Decode.{literalNode, literalAt, refOf}
 use Rattle.table.proofs.Key.{the-type as the-key}
 use Rattle.table.proofs.Words.{ref-none}
 use Rattle.planner.specs.Layout.{FieldOrder, noFields, addField, inOrder}
@@ -145,10 +145,10 @@ module _ {T : Tables} {first i : ℕ} {order : List ℕ} {m total : ℕ} (a : Ad
 
 -- the search
 
-pub compared-keys : (nodes children numbers strings text : List ℕ) (first i j : ℕ) {a b : ℕ} {r : Comparison} → a ≡ childAt children (first + i * 2) → b ≡ childAt children (first + j * 2)
+pub compared-keys : (nodes children numbers strings text : List ℕ) (first a j : ℕ) {b : ℕ} {r : Comparison} → b ≡ childAt children (first + j * 2)
     → r ≡ compared (literalNode nodes numbers strings text a) (literalNode nodes numbers strings text b)
-    → r ≡ compared (literalNode nodes numbers strings text (childAt children (first + i * 2))) (literalNode nodes numbers strings text (childAt children (first + j * 2)))
-compared-keys nodes children numbers strings text first i j is-a is-b is-r = rw (← is-a, ← is-b) is-r
+    → r ≡ compared (literalNode nodes numbers strings text a) (literalNode nodes numbers strings text (childAt children (first + j * 2)))
+compared-keys nodes children numbers strings text first a j is-b is-r = rw (← is-b) is-r
 
 -- neither less nor equal
 abbrev pub Otherwise : Comparison → Type 0
@@ -158,57 +158,55 @@ not-first : (tag : ℕ) → tag ≤ 1 → OneOf (2 ∷ 3 ∷ []) tag → ⊥
 not-first tag le (inl e) = omega arith
 not-first tag le (inr e) = omega arith
 
-pub record Finding (T : Tables) (first i : ℕ) (order : List ℕ) (m low high : ℕ) : Type 0 where
-  pub asks : FindAsks T first i order m
-  pub between : Between (fieldKey T first) i order m low high
-  pub few : m ≤ 255
-  pub small : first + i * 2 < 512
+pub record Finding (T : Tables) (first : ℕ) (order : List ℕ) (m node low high : ℕ) : Type 0 where
+  pub asks : FindAsks T first order m node
+  pub between : Between (fieldKey T first) (literalAt T node) order m low high
+  pub few : m ≤ 256
+  pub small : first ≤ 512
 
-pub finding-start : {T : Tables} {first i : ℕ} {order : List ℕ} {m : ℕ} → FindAsks T first i order m → Finding T first i order m 0 m
-finding-start {T} {first} {i} {order} {m} a =
-    let l = literals-few (a .adds .so-far) in
-    let f = add-few (a .adds) in
-    record { asks = a; between = between-start (fieldKey T first) i order m; few = omega arith; small = add-place (a .adds) }
+pub finding-start : {T : Tables} {first : ℕ} {order : List ℕ} {m node : ℕ} → FindAsks T first order m node → Finding T first order m node 0 m
+finding-start {T} {first} {order} {m} {node} a =
+    record { asks = a; between = between-start (fieldKey T first) (literalAt T node) order m; few = a .few; small = a .small }
 
-module _ {T : Tables} {first i : ℕ} {order : List ℕ} {m low high : ℕ} (f : Finding T first i order m low high) where
-  module _ {q other : ℕ} {way : Comparison} (lt : low < high) (is-q : q ≡ low + (high - low) / 2) (is-other : other ≡ getD order q 0) (is-way : way ≡ compared (fieldKey T first i) (fieldKey T first other)) where
-    way-at : way ≡ compared (fieldKey T first i) (fieldKey T first (getD order q 0))
+module _ {T : Tables} {first : ℕ} {order : List ℕ} {m node low high : ℕ} (f : Finding T first order m node low high) where
+  module _ {q other : ℕ} {way : Comparison} (lt : low < high) (is-q : q ≡ low + (high - low) / 2) (is-other : other ≡ getD order q 0) (is-way : way ≡ compared (literalAt T node) (fieldKey T first other)) where
+    way-at : way ≡ compared (literalAt T node) (fieldKey T first (getD order q 0))
     way-at = rw is-other at is-way
 
-    pub finding-equal : way ≡ Equal → FoundBy (fieldKey T first) i order m q true
+    pub finding-equal : way ≡ Equal → FoundBy (fieldKey T first) (literalAt T node) order m q true
     finding-equal e =
         let n = f .between .inside in
         record { old = λ t. (omega arith, sym way-at ∙ e); new = λ x. let z : _≡_ {A = ℕ} 0 1 = cc in absurd (omega arith) }
 
-    pub finding-down : way ≡ Less → Finding T first i order m low q
+    pub finding-down : way ≡ Less → Finding T first order m node low q
     finding-down e = record {
       asks = f .asks;
-      between = between-down key-order (in-order (f .asks .adds .so-far)) (f .asks .literal) (f .between) q (omega arith) (omega arith) (sym way-at ∙ e);
+      between = between-down key-order (in-order (f .asks .so-far)) (f .asks .literal) (f .between) q (omega arith) (omega arith) (sym way-at ∙ e);
       few = f .few;
       small = f .small;
     }
 
-    pub finding-up : Otherwise way → Finding T first i order m (q + 1) high
+    pub finding-up : Otherwise way → Finding T first order m node (q + 1) high
     finding-up otherwise =
         let n = f .between .inside in
         record {
           asks = f .asks;
-          between = between-up key-order (in-order (f .asks .adds .so-far)) (f .asks .literal) (f .between) q (omega arith) (omega arith)
-              (at-more (in-order (f .asks .adds .so-far)) (f .asks .literal) q (omega arith) (λ e. not-first 1 (omega arith) (subst Otherwise (way-at ∙ e) otherwise)) (λ e. not-first 0 (omega arith) (subst Otherwise (way-at ∙ e) otherwise)));
+          between = between-up key-order (in-order (f .asks .so-far)) (f .asks .literal) (f .between) q (omega arith) (omega arith)
+              (at-more (in-order (f .asks .so-far)) (f .asks .literal) q (omega arith) (λ e. not-first 1 (omega arith) (subst Otherwise (way-at ∙ e) otherwise)) (λ e. not-first 0 (omega arith) (subst Otherwise (way-at ∙ e) otherwise)));
           few = f .few;
           small = f .small;
         }
 
-  pub finding-ends : high ≤ low → FoundBy (fieldKey T first) i order m low false
+  pub finding-ends : high ≤ low → FoundBy (fieldKey T first) (literalAt T node) order m low false
   finding-ends le =
       let s = f .between .spans in
       let e : high ≡ low = omega arith in
-      record { old = λ x. let z : _≡_ {A = ℕ} 0 1 = cc in absurd (omega arith); new = λ t. subst (λ (h : ℕ). Between (fieldKey T first) i order m low h) e (f .between) }
+      record { old = λ x. let z : _≡_ {A = ℕ} 0 1 = cc in absurd (omega arith); new = λ t. subst (λ (h : ℕ). Between (fieldKey T first) (literalAt T node) order m low h) e (f .between) }
 
 -- one field more
 
 -- a node that is above kind 5 is no literal
-ref-above : (nodes : List ℕ) (n : ℕ) → 5 < kindOf nodes n → refOf nodes n ≡ Computed
+pub ref-above : (nodes : List ℕ) (n : ℕ) → 5 < kindOf nodes n → refOf nodes n ≡ Computed
 ref-above nodes n h = sym (ref-none nodes n refl refl refl (λ e. omega arith) (λ e. omega arith) (λ e. omega arith) (λ e. omega arith) (λ e. omega arith))
 
 module _ {T : Tables} {first i : ℕ} {order : List ℕ} {m total : ℕ} (a : AddAsks T first i order m total) where
@@ -236,8 +234,13 @@ module _ {T : Tables} {first i : ℕ} {order : List ℕ} {m total : ℕ} (a : Ad
         go true h = a .asks .table .literals (keyNode T first i) (a .asks .keys i (omega arith)) (leb-true _ _ h)
         go false h = absurd (no-tag (sym ref-is ∙ ref-above (T .nodes) (keyNode T first i) (leb-false _ _ h)))
 
-    pub ask-find : tagOf the-key key ≡ 0 → FindAsks T first i order m
-    ask-find tag = let l = key-found tag in record { total = total; adds = a; own = l .0; literal = l .1 }
+    pub ask-find : tagOf the-key key ≡ 0 → FindAsks T first order m node
+    ask-find tag =
+        let l = key-found tag in
+        let k = literals-few (a .so-far) in
+        let f = add-few a in
+        let p = add-place a in
+        record { fields = i; total = total; so-far = a .so-far; few = omega arith; small = omega arith; own = l .0; literal = ap (literalAt T) is-node ∙ l .1 }
 
     -- a computed field goes to the end
     pub added-computed : key ≡ Computed → length order ≡ 256 → {later : List ℕ} → later ≡ moved order total total i → FieldsIn T first (i + 1) later m (total + 1)
@@ -248,17 +251,17 @@ module _ {T : Tables} {first i : ℕ} {order : List ℕ} {m total : ℕ} (a : Ad
         ap (λ (l : List ℕ). take (total + 1) l) is ∙ (moved-take order total total i (omega arith) (omega arith) ∙ rw z) in
         in-next (a .so-far) (ordered-append key-order (in-order (a .so-far)) i later (key-computed e) t)
 
-    module _ (tag : tagOf the-key key ≡ 0) {place : ℕ} {equal : Bool} (found : FoundBy (fieldKey T first) i order m place equal) where
+    module _ (tag : tagOf the-key key ≡ 0) {place : ℕ} {equal : Bool} (found : FoundBy (fieldKey T first) (literalAt T node) order m place equal) where
       pub added-equal : equal ≡ true → FieldsIn T first (i + 1) (set order place i) m total
       added-equal e =
           let l = key-found tag in
-          let p = found .old e in
+          let p = rw is-node at (found .old e) in
           in-next (a .so-far) (ordered-replace key-order (in-order (a .so-far)) i (set order place i) (l .0) (l .1) place (p .0) (p .1) refl)
 
       pub added-new : equal ≡ false → length order ≡ 256 → {later : List ℕ} → later ≡ moved order place total i → FieldsIn T first (i + 1) later (m + 1) (total + 1)
       added-new e long {later} is =
           let l = key-found tag in
-          let b = found .new e in
+          let b = rw is-node at (found .new e) in
           let n = b .inside in
           let k = literals-few (a .so-far) in
           let f = add-few a in
@@ -268,7 +271,7 @@ module _ {T : Tables} {first i : ℕ} {order : List ℕ} {m total : ℕ} (a : Ad
   pub append-room : length order ≡ 256 → RoomAsks order total total
   append-room long = let f = add-few a in record { inside = omega arith; room = omega arith }
 
-  module _ {place : ℕ} {equal : Bool} (found : FoundBy (fieldKey T first) i order m place equal) where
+  module _ {own : Option Literal} {place : ℕ} {equal : Bool} (found : FoundBy (fieldKey T first) own order m place equal) where
     pub found-place : equal ≡ true → place < 256
     found-place e =
         let p = found .old e in

@@ -207,12 +207,12 @@ module _ (laws : TotalOrder keyOrder) {A : Type 0} (d : Slot A) (l : Literal) (s
 -- lists
 
 module _ {A B : Type 0} (f : A → B) where
-  map-take : (p : ℕ) (l : List A) → map f (take p l) ≡ take p (map f l)
+  pub map-take : (p : ℕ) (l : List A) → map f (take p l) ≡ take p (map f l)
   map-take zero l = refl
   map-take (suc p) [] = refl
   map-take (suc p) (a ∷ l) = ap (λ (r : List B). f a ∷ r) (map-take p l)
 
-  map-drop : (p : ℕ) (l : List A) → map f (drop p l) ≡ drop p (map f l)
+  pub map-drop : (p : ℕ) (l : List A) → map f (drop p l) ≡ drop p (map f l)
   map-drop zero l = refl
   map-drop (suc p) [] = refl
   map-drop (suc p) (a ∷ l) = map-drop p l
@@ -223,7 +223,7 @@ module _ {A B : Type 0} (f : A → B) where
   map-set (x ∷ l) (suc p) a = ap (λ (r : List B). f x ∷ r) (map-set l p a)
 
 module _ {A : Type 0} where
-  drop-take : (p n : ℕ) (l : List A) → p ≤ n → drop p (take n l) ≡ take (n - p) (drop p l)
+  pub drop-take : (p n : ℕ) (l : List A) → p ≤ n → drop p (take n l) ≡ take (n - p) (drop p l)
   drop-take zero n l le = let e : n - 0 ≡ n = omega arith in rw e
   drop-take (suc p) zero l le = absurd (omega arith)
   drop-take (suc p) (suc n) [] le = sym (take-nil (suc n - suc p))
@@ -270,7 +270,7 @@ told-order more less e = cc
 told-order more same e = cc
 told-order more more e = refl
 
-abbrev blank : Slot ℕ
+abbrev pub blank : Slot ℕ
 blank = record { at = null; held = 0 }
 
 module _ {key : ℕ → Option Literal} {o : FieldOrder ℕ} {order : List ℕ} {m total : ℕ} (a : Ordered key o order m total) where
@@ -285,7 +285,7 @@ module _ {key : ℕ → Option Literal} {o : FieldOrder ℕ} {order : List ℕ} 
       omega arith
 
   -- the number at a place of a literal field
-  place-held : (q : ℕ) → q < m → getD order q 0 ≡ getD (o .literals) q blank .held
+  pub place-held : (q : ℕ) → q < m → getD order q 0 ≡ getD (o .literals) q blank .held
   place-held q lt =
       let le = literals-first in
       let h = held-count in
@@ -298,35 +298,35 @@ module _ {key : ℕ → Option Literal} {o : FieldOrder ℕ} {order : List ℕ} 
       let c = a .counted in
       ap key (place-held q lt) ∙ all-at (Keyed key) blank (o .literals) q (omega arith) (a .keyed)
 
-  -- field j has the literal key l
-  module _ {j : ℕ} {l : Literal} (own : key j ≡ Option.some l) where
-    at-slot : (q : ℕ) → q < m → compared (key j) (key (getD order q 0)) ≡ told (keyOrder l (getD (o .literals) q blank .at))
+  -- a literal key l
+  module _ {k : Option Literal} {l : Literal} (own : k ≡ Option.some l) where
+    at-slot : (q : ℕ) → q < m → compared k (key (getD order q 0)) ≡ told (keyOrder l (getD (o .literals) q blank .at))
     unfolding compared
     at-slot q lt = rw (own, place-key q lt)
 
-    to-slot : (r : Order) (q : ℕ) → q < m → At r key j order q → keyOrder l (getD (o .literals) q blank .at) ≡ r
+    pub to-slot : (r : Order) (q : ℕ) → q < m → At r key k order q → keyOrder l (getD (o .literals) q blank .at) ≡ r
     to-slot r q lt h = told-order (keyOrder l (getD (o .literals) q blank .at)) r (sym (at-slot q lt) ∙ h)
 
-    from-slot : (r : Order) (q : ℕ) → q < m → keyOrder l (getD (o .literals) q blank .at) ≡ r → At r key j order q
+    from-slot : (r : Order) (q : ℕ) → q < m → keyOrder l (getD (o .literals) q blank .at) ≡ r → At r key k order q
     from-slot r q lt h = at-slot q lt ∙ ap told h
 
     -- neither equal nor less
-    pub at-more : (q : ℕ) → q < m → (At same key j order q → ⊥) → (At less key j order q → ⊥) → At more key j order q
+    pub at-more : (q : ℕ) → q < m → (At same key k order q → ⊥) → (At less key k order q → ⊥) → At more key k order q
     at-more q lt not-same not-less = go (keyOrder l (getD (o .literals) q blank .at)) refl
       where
-        go : (r : Order) → keyOrder l (getD (o .literals) q blank .at) ≡ r → At more key j order q
+        go : (r : Order) → keyOrder l (getD (o .literals) q blank .at) ≡ r → At more key k order q
         go less h = absurd (not-less (from-slot less q lt h))
         go same h = absurd (not-same (from-slot same q lt h))
         go more h = from-slot more q lt h
 
     -- what a comparison at place q says of the places before and behind
     module _ (laws : TotalOrder keyOrder) (q : ℕ) (lt : q < m) where
-      pub order-before : At more key j order q → (i : ℕ) → i ≤ q → At more key j order i
+      pub order-before : At more key k order q → (i : ℕ) → i ≤ q → At more key k order i
       order-before h i le =
           let c = a .counted in
           from-slot more i (omega arith) (more-before laws blank l (o .literals) (a .sorted) q (omega arith) (to-slot more q lt h) i le)
 
-      pub order-behind : At less key j order q → (i : ℕ) → q ≤ i → i < m → At less key j order i
+      pub order-behind : At less key k order q → (i : ℕ) → q ≤ i → i < m → At less key k order i
       order-behind h i le lt′ =
           let c = a .counted in
           from-slot less i lt′ (less-behind laws blank l (o .literals) (a .sorted) q (omega arith) (to-slot less q lt h) i le (omega arith))
@@ -336,7 +336,7 @@ module _ {key : ℕ → Option Literal} {o : FieldOrder ℕ} {order : List ℕ} 
 module _ (laws : TotalOrder keyOrder) {key : ℕ → Option Literal} {o : FieldOrder ℕ} {before : List ℕ} {m total : ℕ} (a : Ordered key o before m total) (j : ℕ) (later : List ℕ) where
   module _ (l : Literal) (own : key j ≡ Option.some l) (p : ℕ) where
     -- a new key goes in at p, and what stood there moves up
-    pub ordered-insert : p ≤ m → ((q : ℕ) → q < p → At more key j before q) → (p < m → At less key j before p)
+    pub ordered-insert : p ≤ m → ((q : ℕ) → q < p → At more key (key j) before q) → (p < m → At less key (key j) before p)
         → take (total + 1) later ≡ take p before ++ (j ∷ take (total - p) (drop p before))
         → Ordered key (addField (key j) j o) later (m + 1) (total + 1)
     ordered-insert le front here moved =
@@ -384,7 +384,7 @@ module _ (laws : TotalOrder keyOrder) {key : ℕ → Option Literal} {o : FieldO
             rw (← a .listed, take-take p total before (omega arith), drop-take p total before (omega arith))
 
     -- an equal key at p is replaced
-    pub ordered-replace : p < m → At same key j before p → later ≡ set before p j → Ordered key (addField (key j) j o) later m total
+    pub ordered-replace : p < m → At same key (key j) before p → later ≡ set before p j → Ordered key (addField (key j) j o) later m total
     ordered-replace lt here changed =
         subst (λ (k : Option Literal). Ordered key (addField k j o) later m total) (sym own) (record {
           counted = sym (ap length put ∙ (length-set ss p s ∙ sym c));
@@ -432,13 +432,13 @@ module _ (laws : TotalOrder keyOrder) {key : ℕ → Option Literal} {o : FieldO
 
 -- search
 
-pub between-start : (key : ℕ → Option Literal) (j : ℕ) (order : List ℕ) (m : ℕ) → Between key j order m 0 m
-between-start key j order m = record { spans = omega arith; inside = omega arith; before = λ q lt. absurd (omega arith); behind = λ q le lt. absurd (omega arith) }
+pub between-start : (key : ℕ → Option Literal) (own : Option Literal) (order : List ℕ) (m : ℕ) → Between key own order m 0 m
+between-start key own order m = record { spans = omega arith; inside = omega arith; before = λ q lt. absurd (omega arith); behind = λ q le lt. absurd (omega arith) }
 
 module _ (laws : TotalOrder keyOrder) {key : ℕ → Option Literal} {o : FieldOrder ℕ} {order : List ℕ} {m total : ℕ} (a : Ordered key o order m total)
-    {j : ℕ} {l : Literal} (own : key j ≡ Option.some l) {low high : ℕ} (b : Between key j order m low high) where
+    {k : Option Literal} {l : Literal} (own : k ≡ Option.some l) {low high : ℕ} (b : Between key k order m low high) where
   module _ (q : ℕ) (from : low ≤ q) (to : q < high) where
-    pub between-up : At more key j order q → Between key j order m (q + 1) high
+    pub between-up : At more key k order q → Between key k order m (q + 1) high
     between-up h = record {
       spans = omega arith;
       inside = b .inside;
@@ -446,7 +446,7 @@ module _ (laws : TotalOrder keyOrder) {key : ℕ → Option Literal} {o : FieldO
       behind = b .behind;
     }
 
-    pub between-down : At less key j order q → Between key j order m low q
+    pub between-down : At less key k order q → Between key k order m low q
     between-down h = record {
       spans = from;
       inside = let n = b .inside in omega arith;
@@ -454,13 +454,15 @@ module _ (laws : TotalOrder keyOrder) {key : ℕ → Option Literal} {o : FieldO
       behind = λ i le lt. let n = b .inside in order-behind a own laws q (omega arith) h i le lt;
     }
 
-  -- nothing between: the key is new, and goes in at low
-  pub between-insert : high ≤ low → (later : List ℕ) → take (total + 1) later ≡ take low order ++ (j ∷ take (total - low) (drop low order))
-      → Ordered key (addField (key j) j o) later (m + 1) (total + 1)
-  between-insert closed later moved =
-      let i = b .inside in
-      let n = b .spans in
-      ordered-insert laws a j later l own low (omega arith) (b .before) (λ lt. b .behind low closed lt) moved
+-- nothing between: the key is new, and goes in at low
+pub between-insert : (laws : TotalOrder keyOrder) {key : ℕ → Option Literal} {o : FieldOrder ℕ} {order : List ℕ} {m total : ℕ} → Ordered key o order m total
+    → {j : ℕ} {l : Literal} → key j ≡ Option.some l → {low high : ℕ} → Between key (key j) order m low high
+    → high ≤ low → (later : List ℕ) → take (total + 1) later ≡ take low order ++ (j ∷ take (total - low) (drop low order))
+    → Ordered key (addField (key j) j o) later (m + 1) (total + 1)
+between-insert laws a {j} {l} own {low} b closed later moved =
+    let i = b .inside in
+    let n = b .spans in
+    ordered-insert laws a j later l own low (omega arith) (b .before) (λ lt. b .behind low closed lt) moved
 
 -- the first k fields
 

@@ -85,7 +85,7 @@ unfoldable pub AllBelow : ℕ → List ℕ → Type 0
 AllBelow k [] = Unit {0}
 AllBelow k (x ∷ xs) = (x < k) × AllBelow k xs
 
-below-at : (k : ℕ) (l : List ℕ) (q : ℕ) → q < length l → AllBelow k l → getD l q 0 < k
+pub below-at : (k : ℕ) (l : List ℕ) (q : ℕ) → q < length l → AllBelow k l → getD l q 0 < k
 unfolding AllBelow
 below-at k [] q lt a = absurd (omega arith)
 below-at k (x ∷ xs) zero lt a = a .0

@@ -59,7 +59,7 @@ sound-is BreaksRules e = absurd (false≢true e)
 sound-is TooDeep e = absurd (false≢true e)
 sound-is EqualNames e = absurd (false≢true e)
 
-table-passes : {c : TableAnswer} {ok : Bool} → ok ≡ isSound c → not ok ≡ false → c ≡ Sound
+pub table-passes : {c : TableAnswer} {ok : Bool} → ok ≡ isSound c → not ok ≡ false → c ≡ Sound
 table-passes {c} {ok} of passes = sound-is c (sym of ∙ not-false ok passes)
 
 pub sound-well : (T : Tables) (s : Scope) {c : TableAnswer} → c ≡ checked T s → {ok : Bool} → ok ≡ isSound c → not ok ≡ false → WellFormed T

@@ -75,7 +75,7 @@ module _ (u v : ℕ → Bool) where
         ap (λ (p : DestructuringPlan). fieldPlan k p (fieldPlans u fs (after u e seen))) a ∙ ap (fieldPlan k (plan v e seen)) b
 
 -- a class and the bytes of `_`
-class-wild : (bs : List ℕ) (u : Bool) → eqb (stateBy (classOf bs) u) 2 ≡ sameBytes bs underscoreBytes
+pub class-wild : (bs : List ℕ) (u : Bool) → eqb (stateBy (classOf bs) u) 2 ≡ sameBytes bs underscoreBytes
 unfolding classOf
 class-wild bs u = go (sameBytes bs underscoreBytes) refl (sameBytes bs inputBytes || sameBytes bs dataBytes) refl u
   where

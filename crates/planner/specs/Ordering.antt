@@ -1,5 +1,5 @@
 -- What the functions that put an object's fields in order ask and say.
-use Prim.Native.Nat.{ℕ, _+_, _-_, _*_, _^_, _≤_, _<_}
+use Prim.Native.Nat.{ℕ, _+_, _-_, _≤_, _<_}
 use mathlib.Core.Path.{_≡_}
 use mathlib.Core.Bool.{Bool, true, false}
 use mathlib.Core.List.{List, _∷_, _++_}
@@ -8,24 +8,21 @@ use lib.ListN.{length, getD, take, drop}
 use Rattle.literal.specs.Literal.{Literal}
 use Rattle.literal.specs.Order.{Order, less, same, more, compared, told}
 use Rattle.table.specs.Tables.{Tables}
+use Rattle.table.specs.Decode.{literalAt}
 use Rattle.planner.specs.Layout.{inOrder}
-use Rattle.planner.specs.Passes.{fieldKey, orderOf}
+use Rattle.planner.specs.Passes.{orderOf}
 use Rattle.planner.specs.Post.{OrderAsks}
 
-pub record ComparesAsks (first i j : ℕ) : Type 0 where
-  pub left : first + i * 2 < 2 ^ 64
-  pub right : first + j * 2 < 2 ^ 64
+-- how a key `own` compares with the key of the field number at place q
+abbrev pub At : Order → (ℕ → Option Literal) → Option Literal → List ℕ → ℕ → Type 0
+At r key own order q = compared own (key (getD order q 0)) ≡ told r
 
--- how the key of field j compares with the key of the field number at place q
-abbrev pub At : Order → (ℕ → Option Literal) → ℕ → List ℕ → ℕ → Type 0
-At r key j order q = compared (key j) (key (getD order q 0)) ≡ told r
-
--- the place of field j's key, among m literal keys, is from low to high
-pub record Between (key : ℕ → Option Literal) (j : ℕ) (order : List ℕ) (m low high : ℕ) : Type 0 where
+-- the place of `own`, among m literal keys, is from low to high
+pub record Between (key : ℕ → Option Literal) (own : Option Literal) (order : List ℕ) (m low high : ℕ) : Type 0 where
   pub spans : low ≤ high
   pub inside : high ≤ m
-  pub before : (q : ℕ) → q < low → At more key j order q
-  pub behind : (q : ℕ) → high ≤ q → q < m → At less key j order q
+  pub before : (q : ℕ) → q < low → At more key own order q
+  pub behind : (q : ℕ) → high ≤ q → q < m → At less key own order q
 
 -- the first i fields of an object in order: m numbers of fields with literal keys, `total` numbers in all
 pub record FieldsIn (T : Tables) (first i : ℕ) (order : List ℕ) (m total : ℕ) : Type 0 where
@@ -38,17 +35,20 @@ pub record AddAsks (T : Tables) (first i : ℕ) (order : List ℕ) (m total : �
   pub asks : OrderAsks T first (i + 1)
   pub so-far : FieldsIn T first i order m total
 
--- and has a literal key
-pub record FindAsks (T : Tables) (first i : ℕ) (order : List ℕ) (m : ℕ) : Type 0 where
+-- a literal's node, whose key is looked for among the first fields in order
+pub record FindAsks (T : Tables) (first : ℕ) (order : List ℕ) (m node : ℕ) : Type 0 where
+  pub fields : ℕ
   pub total : ℕ
-  pub adds : AddAsks T first i order m total
+  pub so-far : FieldsIn T first fields order m total
+  pub few : m ≤ 256
+  pub small : first ≤ 512
   pub own : Literal
-  pub literal : fieldKey T first i ≡ some own
+  pub literal : literalAt T node ≡ some own
 
 -- either a literal field has an equal key, or the key goes in before `place`
-pub record FoundBy (key : ℕ → Option Literal) (j : ℕ) (order : List ℕ) (m place : ℕ) (equal : Bool) : Type 0 where
-  pub old : equal ≡ true → (place < m) × At same key j order place
-  pub new : equal ≡ false → Between key j order m place place
+pub record FoundBy (key : ℕ → Option Literal) (own : Option Literal) (order : List ℕ) (m place : ℕ) (equal : Bool) : Type 0 where
+  pub old : equal ≡ true → (place < m) × At same key own order place
+  pub new : equal ≡ false → Between key own order m place place
 
 pub record RoomAsks (order : List ℕ) (place total : ℕ) : Type 0 where
   pub inside : place ≤ total

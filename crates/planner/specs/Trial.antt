@@ -1,13 +1,12 @@
 -- Rules on trial, starred: what the definitions make of a rule, and document 01's listing of it.
 use Prim.Native.Nat.{ℕ, zero, suc, _-_}
-use mathlib.Core.Bool.{false}
+use mathlib.Core.Bool.{false, cond}
+use lib.Dec.{eqb}
 use mathlib.Core.List.{List, [], _∷_, _++_}
 use lib.ListN.{length, getD, drop, replicate}
 use Rattle.scope.specs.declared.Scope.{Scope}
 use Rattle.scope.specs.declared.ScopingMode.the-variants.{RespectParent}
 use Rattle.table.specs.Tables.{Tables, tables}
-use Rattle.planner.specs.declared.PlanAnswer.{PlanAnswer}
-use Rattle.planner.specs.declared.PlanAnswer.the-variants.{Planned, TableRefused, RootOutside, PlanTooLarge, VariableAlreadyDefined}
 use Rattle.planner.specs.Answer.{Line, line, lineOf}
 use Rattle.planner.specs.Operations.{Outcome, answered, written, patternOutcome}
 
@@ -20,16 +19,12 @@ unfoldable pub rows : ℕ → List ℕ → List Line
 rows zero words = []
 rows (suc k) words = line (getD words 0 0) (getD words 1 0) (getD words 2 0) (getD words 3 0) ∷ rows k (drop 4 words)
 
-abbrev pub entriesIn : PlanAnswer → ℕ
-entriesIn (Planned form side entries) = entries
-entriesIn (TableRefused a) = 0
-entriesIn RootOutside = 0
-entriesIn (PlanTooLarge needed) = 0
-entriesIn (VariableAlreadyDefined name) = 0
+-- an answer's line, then its entries; a refusal has none
+abbrev pub entriesIn : Line → ℕ
+entriesIn l = cond (eqb (l .number) 0) (l .fourth) 0
 
--- the answer's line, then the entries
 abbrev pub listing : Outcome → List Line
-listing o = lineOf (answered o blank) ∷ rows (entriesIn (answered o blank)) (written o blank)
+listing o = lineOf (answered o blank) ∷ rows (entriesIn (lineOf (answered o blank))) (written o blank)
 
 pub record Trial : Type 0 where
   pub outcome : Outcome

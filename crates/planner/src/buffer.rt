@@ -27,7 +27,7 @@ fn fill(plan: &mut [u32], scratch: &[u32; 2048], words: usize)
     }
 }
 
-pub(crate) fn clear(plan: &mut [u32])
+pub fn clear(plan: &mut [u32])
     ensures { λ _. ⌜ now (plan .exit) ≡ replicate (length (now (plan .entry))) 0 ⌝ }
 {
     let mut i: usize = 0;
@@ -38,7 +38,7 @@ pub(crate) fn clear(plan: &mut [u32])
 }
 
 // `count` entries of the scratch, if the buffer has space for them.
-pub(crate) fn deliver(
+pub fn deliver(
     plan: &mut [u32],
     scratch: &[u32; 2048],
     form: u32,

@@ -61,7 +61,7 @@ pub(crate) fn name_states(
     states
 }
 
-pub(crate) fn is_sound(answer: TableAnswer) -> bool
+pub fn is_sound(answer: TableAnswer) -> bool
     ensures { λ r. ⌜ r ≡ isSound answer ⌝ }
 {
     match answer {

@@ -171,7 +171,7 @@ pub(crate) fn create_destructuring_plan_with_tracking(
 }
 
 // The plan of a pattern under a scope.
-pub(crate) fn plan_pattern(
+pub fn plan_pattern(
     nodes: &[u32],
     children: &[u32],
     numbers: &[u64],

@@ -4,9 +4,10 @@ ghost use Prim.Native.Nat.{_+_, _*_, _<_, _^_};
 ghost use lib.ListN.{getD};
 ghost use Rattle.literal.specs.Order.{compared};
 ghost use Rattle.table.specs.Tables.{tables};
+ghost use Rattle.table.specs.Decode.{literalAt};
 ghost use Rattle.planner.specs.Passes.{fieldKey};
 ghost use Rattle.planner.specs.Post.{OrderAsks, OrderedBy};
-ghost use Rattle.planner.specs.Ordering.{ComparesAsks, FieldsIn, FindAsks, FoundBy, RoomAsks, moved, AddAsks};
+ghost use Rattle.planner.specs.Ordering.{FieldsIn, FindAsks, FoundBy, RoomAsks, moved, AddAsks};
 use literal::Comparison;
 use table::Key;
 use table::reading::child_at;
@@ -32,14 +33,14 @@ fn wide(x: u32) -> usize
 }
 
 // A field number of an order.
-pub(crate) fn field_at(order: &[u32; 256], q: usize) -> usize
+pub fn field_at(order: &[u32; 256], q: usize) -> usize
     requires { ⌜ q < 256 ⌝ }
     ensures { λ r. ⌜ r ≡ getD (now (order .entry)) q 0 ⌝ }
 {
     wide(order[q])
 }
 
-// The keys of two fields.
+// A key node with the key of a field.
 fn compare_keys(
     nodes: &[u32],
     children: &[u32],
@@ -48,19 +49,18 @@ fn compare_keys(
     strings: &[u8],
     text: &[u8],
     first: usize,
-    i: usize,
+    key: u32,
     j: usize,
 ) -> Comparison
-    requires { ⌜ ComparesAsks first i j ⌝ }
-    ensures { λ r. ⌜ r ≡ compared (fieldKey (tables (now (nodes .entry)) (now (children .entry)) (now (numbers .entry)) (now (names .entry)) (now (strings .entry)) (now (text .entry))) first i) (fieldKey (tables (now (nodes .entry)) (now (children .entry)) (now (numbers .entry)) (now (names .entry)) (now (strings .entry)) (now (text .entry))) first j) ⌝ }
+    requires { ⌜ first + j * 2 < 2 ^ 64 ⌝ }
+    ensures { λ r. ⌜ r ≡ compared (literalAt (tables (now (nodes .entry)) (now (children .entry)) (now (numbers .entry)) (now (names .entry)) (now (strings .entry)) (now (text .entry))) key) (fieldKey (tables (now (nodes .entry)) (now (children .entry)) (now (numbers .entry)) (now (names .entry)) (now (strings .entry)) (now (text .entry))) first j) ⌝ }
 {
-    let a = child_at(children, first + i * 2);
-    let b = child_at(children, first + j * 2);
-    compare_literals(nodes, numbers, strings, text, a, b)
+    let other = child_at(children, first + j * 2);
+    compare_literals(nodes, numbers, strings, text, key, other)
 }
 
-// The place of a field's key among those with literal keys, by binary search.
-fn find_field(
+// The place of a literal's node among the fields with literal keys, by binary search.
+pub fn find_field(
     nodes: &[u32],
     children: &[u32],
     numbers: &[u64],
@@ -70,10 +70,10 @@ fn find_field(
     first: usize,
     order: &[u32; 256],
     literals: usize,
-    field: usize,
+    key: u32,
 ) -> Found
-    requires { ⌜ FindAsks (tables (now nodes) (now children) (now numbers) (now names) (now strings) (now text)) first field (now order) literals ⌝ }
-    ensures { λ r. ⌜ FoundBy (fieldKey (tables (now (nodes .entry)) (now (children .entry)) (now (numbers .entry)) (now (names .entry)) (now (strings .entry)) (now (text .entry))) first) field (now (order .entry)) literals (r .place) (r .equal) ⌝ }
+    requires { ⌜ FindAsks (tables (now nodes) (now children) (now numbers) (now names) (now strings) (now text)) first (now order) literals key ⌝ }
+    ensures { λ r. ⌜ FoundBy (fieldKey (tables (now (nodes .entry)) (now (children .entry)) (now (numbers .entry)) (now (names .entry)) (now (strings .entry)) (now (text .entry))) first) (literalAt (tables (now (nodes .entry)) (now (children .entry)) (now (numbers .entry)) (now (names .entry)) (now (strings .entry)) (now (text .entry))) key) (now (order .entry)) literals (r .place) (r .equal) ⌝ }
 {
     let mut low: usize = 0;
     let mut high = literals;
@@ -88,7 +88,7 @@ fn find_field(
             strings,
             text,
             first,
-            field,
+            key,
             other,
         );
         match way {
@@ -109,7 +109,7 @@ fn find_field(
 }
 
 // Moves the numbers from `place` to `total` up by one, and puts `field` there.
-fn insert_at(order: &mut [u32], place: usize, total: usize, field: u32)
+pub fn insert_at(order: &mut [u32], place: usize, total: usize, field: u32)
     requires { ⌜ RoomAsks (now order) place total ⌝ }
     ensures { λ _. ⌜ now (order .exit) ≡ moved (now (order .entry)) place total field ⌝ }
 {
@@ -159,7 +159,7 @@ fn add_field(
         first,
         order,
         literals,
-        at,
+        key,
     );
     let place = found.place;
     if found.equal {
@@ -174,7 +174,7 @@ fn add_field(
 }
 
 // The fields of an object whose child entries start at `first`; how many are in order.
-pub(crate) fn order_fields(
+pub fn order_fields(
     nodes: &[u32],
     children: &[u32],
     numbers: &[u64],

@@ -1,8 +1,8 @@
 // Plans that take values apart (compiler/destructuring_planner).
-mod buffer;
-mod context;
+pub mod buffer;
+pub mod context;
 pub mod destructuring;
-mod fields;
+pub mod fields;
 pub mod parameters;
 mod plans;
 
@@ -19,7 +19,35 @@ pub enum PlanAnswer {
     PlanTooLarge {
         needed: usize,
     },
+    ColonEqualsRequiresBindableLeft {
+        left: u32,
+    },
+    ArraySizeMismatch {
+        left: u32,
+        size: u32,
+        other: u32,
+    },
+    ArrayLengthMismatch {
+        value: u32,
+        expected: u32,
+        actual: u32,
+    },
+    ObjectLiteralKeysMismatch {
+        value: u32,
+        pattern: u32,
+    },
+    ObjectFieldCountMismatch {
+        left: u32,
+        keys: u32,
+        fields: u32,
+    },
+    ObjectKeyNotFound {
+        key: u32,
+    },
     VariableAlreadyDefined {
         name: u32,
+    },
+    IncompatibleDestructuringPatterns {
+        side: u32,
     },
 }

@@ -235,6 +235,8 @@ fn print_answer(answer: PlanAnswer) -> usize {
         PlanAnswer::RootOutside => print_row(5, 0, 0, 0),
         PlanAnswer::PlanTooLarge { needed } => print_row(6, 0, needed as u64, 0),
         PlanAnswer::VariableAlreadyDefined { name } => print_row(17, name as u64, 0, 0),
+        // of assignments alone
+        _ => print_row(0, 0, 0, 0),
     }
     0
 }

@@ -7,47 +7,27 @@ use Rattle.planner.proofs.fields.compare_keys.Lts as lts
 use Rattle.table.proofs.reading.child_at.Reads as child-at-reads
 use Rattle.table.proofs.reading.compare_literals.Reads as compare-literals-reads
 
--- src/fields.rt:57:40
+-- src/fields.rt:58:44
 mul-child-at : tie.Need-mul-child-at
 mul-child-at c = search needs
 
--- src/fields.rt:57:32
+-- src/fields.rt:58:36
 add-child-at : tie.Need-add-child-at
 add-child-at c = search needs
 
--- src/fields.rt:57:9
+-- src/fields.rt:58:9
 child-at-requires : tie.Need-child-at-requires
 child-at-requires c κs = search needs
-
--- src/fields.rt:58:40
-mul-child-at-2 : tie.Need-mul-child-at-2
-mul-child-at-2 c = search needs
-
--- src/fields.rt:58:32
-add-child-at-2 : tie.Need-add-child-at-2
-add-child-at-2 c = search needs
-
--- src/fields.rt:58:9
-child-at-requires-2 : tie.Need-child-at-requires-2
-child-at-requires-2 c κs = search needs
 
 -- src/fields.rt:59:5
 compare-literals-requires : tie.Need-compare-literals-requires
 compare-literals-requires c κs = search needs
 
--- src/fields.rt:43:1
+-- src/fields.rt:44:1
 returns : tie.Need-returns
 returns c = search (compared-keys, needs)
 
 pub compare-keys-spec : {M : Type 1} → statement M
 compare-keys-spec =
     tie.close
-    (tie.spec
-    mul-child-at
-    add-child-at
-    child-at-requires
-    mul-child-at-2
-    add-child-at-2
-    child-at-requires-2
-    compare-literals-requires
-    returns)
+    (tie.spec mul-child-at add-child-at child-at-requires compare-literals-requires returns)

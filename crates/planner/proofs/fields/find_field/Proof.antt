@@ -10,10 +10,10 @@ use Rattle.planner.proofs.fields.compare_keys.Reads as compare-keys-rea
 use Rattle.planner.proofs.fields.wide.Reads as wide-reads
 
 abbrev Inv-loop : tie.InvT-loop
-Inv-loop nodes children numbers names strings text first order literals field low₀ high₀ low high = Finding (tables nodes children numbers names strings text) first field order literals low high
+Inv-loop nodes children numbers names strings text first order literals key low₀ high₀ low high = Finding (tables nodes children numbers names strings text) first order literals key low high
 
 abbrev μ-loop : tie.MeasureT-loop
-μ-loop nodes children numbers names strings text first order literals field low₀ high₀ low high = high - low
+μ-loop nodes children numbers names strings text first order literals key low₀ high₀ low high = high - low
 
 -- src/fields.rt:80:5
 loop-holds : tie.Need-loop-holds Inv-loop μ-loop

@@ -1,0 +1,10 @@
+pub mod Reading
+pub mod Shapes
+pub mod Binding
+pub mod TextOrder
+pub mod KeyTexts
+pub mod TextLoops
+pub mod PatternObjects
+pub mod Checks
+pub mod PlanStructure
+pub mod Sides

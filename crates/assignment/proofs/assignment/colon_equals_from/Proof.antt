@@ -1,0 +1,70 @@
+use Rattle.assignment.proofs.Sides.{colon-unbound, colon-defined, colon-binds}
+use borrow.Author.Needs.{needs}
+use Rattle.assignment.proofs.assignment.colon_equals_from.Statement.{statement}
+use Rattle.assignment.proofs.assignment.colon_equals_from.Tie as tie
+use Rattle.assignment.proofs.assignment.colon_equals_from.Reads as reads
+use Rattle.assignment.proofs.assignment.colon_equals_from.Lts as lts
+use Rattle.assignment.proofs.assignment.bind_side.Reads as bind-side-reads
+use Rattle.assignment.proofs.entries.first_same_scope.Reads as first-same-scope-reads
+use Rattle.assignment.proofs.entries.introduces_binding.Reads as introduces-binding-reads
+use Rattle.planner.proofs.buffer.clear.Reads as clear-reads
+
+-- src/assignment.rt:127:9
+introduces-binding-requires : tie.Need-introduces-binding-requires
+introduces-binding-requires c κs = search needs
+
+-- src/assignment.rt:128:9
+clear-requires : tie.Need-clear-requires
+clear-requires c κs = search needs
+
+-- src/assignment.rt:129:9
+same-length : tie.Need-same-length
+same-length c = search needs
+
+-- src/assignment.rt:129:9
+returns : tie.Need-returns
+returns c = search (colon-unbound, needs)
+
+-- src/assignment.rt:131:9
+first-same-scope-requires : tie.Need-first-same-scope-requires
+first-same-scope-requires c κs = search needs
+
+-- src/assignment.rt:133:9
+clear-requires-2 : tie.Need-clear-requires-2
+clear-requires-2 c κs = search needs
+
+-- src/assignment.rt:134:9
+same-length-2 : tie.Need-same-length-2
+same-length-2 c = search needs
+
+-- src/assignment.rt:134:9
+returns-2 : tie.Need-returns-2
+returns-2 c = search (colon-defined, needs)
+
+-- src/assignment.rt:136:5
+bind-side-requires : tie.Need-bind-side-requires
+bind-side-requires c κs = search needs
+
+-- src/assignment.rt:110:1
+same-length-3 : tie.Need-same-length-3
+same-length-3 c = search needs
+
+-- src/assignment.rt:110:1
+returns-3 : tie.Need-returns-3
+returns-3 c = search (colon-binds, needs)
+
+pub colon-equals-from-spec : {M : Type 1} → statement M
+colon-equals-from-spec =
+    tie.close
+    (tie.spec
+    introduces-binding-requires
+    clear-requires
+    same-length
+    returns
+    first-same-scope-requires
+    clear-requires-2
+    same-length-2
+    returns-2
+    bind-side-requires
+    same-length-3
+    returns-3)

@@ -1,0 +1,59 @@
+-- `:=` (assignment.rs, create_assignment_binding_plan).
+use Prim.Native.Nat.{ℕ}
+use mathlib.Core.Bool.{Bool, true, false, cond, _&&_}
+use mathlib.Core.List.{List, [], _∷_, _++_}
+use lib.Dec.{eqb}
+use Rattle.scope.specs.declared.Scope.{Scope}
+use Rattle.scope.specs.declared.ScopingMode.the-variants.{RespectParent, AllowShadowing}
+use Rattle.scope.specs.Scope.{isName, isUnbound, sameScope}
+use Rattle.table.specs.Tables.{Tables, firstOf, isNode}
+use Rattle.table.specs.Expr.{Expr, literal, name, wildcard, array, set, object, other}
+use Rattle.table.specs.Decode.{expr}
+use Rattle.table.specs.Check.{checked}
+use Rattle.planner.specs.declared.PlanAnswer.the-variants.{RootOutside, ColonEqualsRequiresBindableLeft, VariableAlreadyDefined, IncompatibleDestructuringPatterns}
+use Rattle.planner.specs.Layout.{Entry, entries, bindsAny, introducesBinding}
+use Rattle.planner.specs.Operations.{Outcome, refused, planned, tableFirst, planOf}
+use Rattle.assignment.specs.declared.LiteralStructureCheck.{LiteralStructureCheck}
+use Rattle.assignment.specs.Structure.{structure}
+use Rattle.assignment.specs.SomeIn.{unlessMismatch, unlessDefined}
+use Rattle.assignment.specs.Pairs.{Shape, items, fields, single, shapeOf, Flat, failed, paired, flatten, pairsEntries}
+
+-- an array against an object
+abbrev pub opposed : Shape → Shape → Bool
+opposed (items n es) (items m fs) = false
+opposed (items n es) (fields m fs) = true
+opposed (items n es) single = false
+opposed (fields n es) (items m fs) = true
+opposed (fields n es) (fields m fs) = false
+opposed (fields n es) single = false
+opposed single s = false
+
+-- the binding side held against the value side: shapes, then structure, then the plan
+abbrev pub bindSide : Tables → ℕ → ℕ → ℕ → LiteralStructureCheck → List Entry → Outcome
+bindSide T form binding value structured es =
+    cond (opposed (shapeOf (expr T binding)) (shapeOf (expr T value))) (refused (IncompatibleDestructuringPatterns binding))
+    (unlessMismatch structured (planned form 0 es))
+
+-- the first bind entry whose name is bound in this very scope, or 0
+abbrev pub boundHere : List ℕ → Scope → ℕ → ℕ → Bool
+boundHere nodes s kind node = eqb kind 1 && (isName (firstOf nodes node) && sameScope s (firstOf nodes node))
+
+unfoldable pub firstSameScope : List ℕ → Scope → List Entry → ℕ
+firstSameScope nodes s [] = 0
+firstSameScope nodes s (e ∷ es) = cond (boundHere nodes s (e .kind) (e .node)) (e .node) (firstSameScope nodes s es)
+
+abbrev pub bothInside : Tables → ℕ → ℕ → Bool
+bothInside T left right = isNode T left && isNode T right
+
+-- `:=`, from the left side's structure against the right and its plan's entries
+abbrev pub colonEqualsFrom : Tables → Scope → ℕ → ℕ → LiteralStructureCheck → List Entry → Outcome
+colonEqualsFrom T s left right structured es =
+    cond (bindsAny es)
+    (unlessDefined (firstSameScope (T .nodes) s es) (bindSide T 1 left right structured es))
+    (refused (ColonEqualsRequiresBindableLeft left))
+
+abbrev pub colonEqualsPlanned : Tables → Scope → ℕ → ℕ → Outcome
+colonEqualsPlanned T s left right = colonEqualsFrom T s left right (structure (expr T right) (planOf T s AllowShadowing left)) (entries (planOf T s AllowShadowing left) 0)
+
+abbrev pub colonEqualsOutcome : Tables → Scope → ℕ → ℕ → Outcome
+colonEqualsOutcome T s left right = tableFirst (checked T s) (cond (bothInside T left right) (colonEqualsPlanned T s left right) (refused RootOutside))

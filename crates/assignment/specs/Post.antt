@@ -1,0 +1,15 @@
+-- What the crate's own functions ask of their callers.
+use Prim.Native.Nat.{ℕ, _≤_, _<_}
+use Rattle.table.specs.Tables.{Tables}
+use Rattle.table.specs.Sound.{Node, WellFormed}
+
+-- two roots in a good table
+pub record GoodPair (T : Tables) (a b : ℕ) : Type 0 where
+  pub table : WellFormed T
+  pub first : Node T a
+  pub second : Node T b
+
+-- a binding side with its plan in a scratch, and a value side
+pub record BindAsks (T : Tables) (binding value count : ℕ) : Type 0 where
+  pub pair : GoodPair T binding value
+  pub few : count ≤ 512

@@ -1,0 +1,64 @@
+// What a plan's entries say, read back from the scratch.
+ghost use mathlib.Core.Path.{_≡_};
+ghost use Prim.Native.Nat.{_≤_};
+ghost use Rattle.planner.specs.Layout.{bindsAny};
+ghost use Rattle.assignment.specs.Entries.{readEntries};
+ghost use Rattle.assignment.specs.Assignment.{boundHere, firstSameScope};
+use scope::Binding;
+use scope::Scope;
+use table::reading::first_of;
+
+// Does an entry bind or ignore?
+pub(crate) fn introduces_binding(scratch: &[u32; 2048], count: usize) -> bool
+    requires { ⌜ count ≤ 512 ⌝ }
+    ensures { λ r. ⌜ r ≡ bindsAny (readEntries (now (scratch .entry)) 0 count) ⌝ }
+{
+    let mut i: usize = 0;
+    while i < count {
+        let kind = scratch[i * 4];
+        if kind == 1 {
+            return true;
+        }
+        if kind == 2 {
+            return true;
+        }
+        i += 1;
+    }
+    false
+}
+
+// Does an entry bind a name that this very scope has bound?
+fn bound_here(nodes: &[u32], scope: Scope, kind: u32, node: u32) -> bool
+    ensures { λ r. ⌜ r ≡ boundHere (now (nodes .entry)) scope kind node ⌝ }
+{
+    if kind == 1 {
+        let binding = scope.has_same_scope_binding(first_of(nodes, node));
+        return match binding {
+            Binding::Yes => true,
+            Binding::No => false,
+            Binding::NameOutside => false,
+        };
+    }
+    false
+}
+
+// The node of the first such entry, or 0.
+pub(crate) fn first_same_scope(
+    nodes: &[u32],
+    scope: Scope,
+    scratch: &[u32; 2048],
+    count: usize,
+) -> u32
+    requires { ⌜ count ≤ 512 ⌝ }
+    ensures { λ r. ⌜ r ≡ firstSameScope (now (nodes .entry)) scope (readEntries (now (scratch .entry)) 0 count) ⌝ }
+{
+    let mut i: usize = 0;
+    while i < count {
+        let node = scratch[i * 4 + 1];
+        if bound_here(nodes, scope, scratch[i * 4], node) {
+            return node;
+        }
+        i += 1;
+    }
+    0
+}
