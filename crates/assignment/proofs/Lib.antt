@@ -8,3 +8,14 @@ pub mod PatternObjects
 pub mod Checks
 pub mod PlanStructure
 pub mod Sides
+pub mod Either
+pub mod Seen
+pub mod PairEntries
+pub mod Partners
+pub mod KeySearch
+pub mod Leaves
+pub mod PairShapes
+pub mod PairSides
+pub mod FlatTrees
+pub mod FlatNodes
+pub mod FlatLoops

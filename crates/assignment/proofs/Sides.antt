@@ -1,4 +1,4 @@
--- `:=`, answer by answer.
+-- `:=` and `=`, answer by answer.
 use Prim.Native.Nat.{ℕ, _+_, _*_, _/_, _≤_, _<_}
 use mathlib.Core.Path.{_≡_, refl, sym, ap, subst, _∙_}
 use mathlib.Core.List.{List, [], _∷_, _++_}
@@ -32,15 +32,27 @@ use Rattle.planner.specs.Post.{GoodRoot, PatternAsks, PatternPlanned}
 use Rattle.planner.proofs.NodeKinds.{Plain, plain-literal, plain-set, plain-other, plain-kind}
 use Rattle.planner.proofs.SamePlan.{class-wild}
 use Rattle.planner.proofs.Operations.{sound-well, root-node, table-passes}
+use Rattle.assignment.specs.declared.AssignOp.{AssignOp}
+use Rattle.assignment.specs.declared.AssignOp.the-variants.{ColEq, Eq}
 use Rattle.assignment.specs.declared.LiteralStructureCheck.{LiteralStructureCheck}
 use Rattle.assignment.specs.Structure.{structure}
 use Rattle.assignment.specs.PatternStructure.{structureBy}
 use Rattle.assignment.specs.Entries.{readEntries}
 use Rattle.assignment.specs.SomeIn.{unlessDefined}
-use Rattle.assignment.specs.Assignment.{bindSide, firstSameScope, bothInside, colonEqualsFrom, colonEqualsPlanned, colonEqualsOutcome}
-use Rattle.assignment.specs.Post.{GoodPair, BindAsks}
+use Rattle.assignment.specs.Assignment.{bindSide, firstSameScope, bothInside, colonEqualsFrom, colonEqualsPlanned, isUnderscore, wildcardSide, sideOf, pairsOutcome, equalsFrom, equalsSides, equalsPlanned, byOperator, assignmentOutcome}
+use Rattle.assignment.specs.Post.{GoodPair, BindAsks, EqualsAsks}
 use Rattle.assignment.proofs.Binding.{refuses, read-laid}
 use Rattle.assignment.proofs.PlanStructure.{structure-plan}
+
+-- no entries
+pub none-delivered : (form side : ℕ) {before later : List ℕ} → later ≡ replicate (length before) 0 → Answered (planned form side []) before later (Planned form side 0)
+unfolding answered written words
+none-delivered form side {before} e =
+    let z = leb-zero (length before / 4) in
+    record { answer = simp z; buffer = simp z e }
+  where
+    leb-zero : (n : ℕ) → leb 0 n ≡ true
+    leb-zero n = le-leb 0 n (omega arith)
 
 -- `:=` from the left side's entries
 module _ (T : Tables) (s : Scope) (left right : ℕ) (c : LiteralStructureCheck) (es : List Entry) {before later : List ℕ} {b : Bool} (of : b ≡ bindsAny es) where
@@ -65,8 +77,23 @@ module _ (T : Tables) (a b : ℕ) (g : GoodPair T a b) where
   pub ask-first : PatternAsks T a (replicate 128 0)
   ask-first = record { table = g .table; node = g .first; none-bound = refl }
 
+  pub ask-second : PatternAsks T b (replicate 128 0)
+  ask-second = record { table = g .table; node = g .second; none-bound = refl }
+
+  pub ask-left : GoodRoot T a
+  ask-left = record { table = g .table; node = g .first }
+
+  pub ask-right : GoodRoot T b
+  ask-right = record { table = g .table; node = g .second }
+
+  pub turned : GoodPair T b a
+  turned = record { table = g .table; first = g .second; second = g .first }
+
   pub ask-bind : (s : Scope) (mode : ScopingMode) {binders scratch : List ℕ} {count : ℕ} → PatternPlanned T s mode a (replicate 2048 0) binders scratch count → BindAsks T a b count
   ask-bind s mode p = record { pair = g; few = p .few }
+
+  pub ask-equals : (s : Scope) (mode : ScopingMode) {lb ls rb rs : List ℕ} {m n : ℕ} → PatternPlanned T s mode a (replicate 2048 0) lb ls m → PatternPlanned T s mode b (replicate 2048 0) rb rs n → EqualsAsks T a b m n
+  ask-equals s mode p q = record { pair = g; few-left = p .few; few-right = q .few }
 
 -- what was read is the plan
 read-plan : (T : Tables) (s : Scope) (mode : ScopingMode) (root : ℕ) {binders scratch : List ℕ} {count : ℕ} → PatternPlanned T s mode root (replicate 2048 0) binders scratch count → readEntries scratch 0 count ≡ entries (planOf T s mode root) 0
@@ -80,17 +107,96 @@ colon-planned T s left right {binders} {scratch} {before} {later} {count} {r} p 
     subst (λ (k : LiteralStructureCheck). Answered (colonEqualsFrom T s left right k (entries (planOf T s AllowShadowing left) 0)) before later r) (sym c)
     (subst (λ (es : List Entry). Answered (colonEqualsFrom T s left right (structureBy (expr T right) (expr T left)) es) before later r) e a)
 
+-- underscores
+module _ (T : Tables) (n : ℕ) (g : GoodRoot T n) {kind : ℕ} (is-kind : kind ≡ kindOf (T .nodes) n) where
+  module _ (k : kind ≡ 6) {first : ℕ} (is-first : first ≡ firstOf (T .nodes) n) {class : NameClass} (of : class ≡ classOf (nameBytes (T .names) (T .text) first)) where
+    wild : {w : Bool} → eqb (stateBy class false) 2 ≡ w → isWildcard T (firstOf (T .nodes) n) ≡ w
+    wild {w} e = rw (sym is-first) (sym (class-wild (nameBytes (T .names) (T .text) first) false) ∙ (ap (λ (d : NameClass). eqb (stateBy d false) 2) (sym of) ∙ e))
+
+    tree : expr T n ≡ cond (isWildcard T (firstOf (T .nodes) n)) (wildcard n) (name n (firstOf (T .nodes) n))
+    tree = expr-name T (g .table) n (g .node) (sym is-kind ∙ k)
+
+    pub underscore-yes : class ≡ Underscore → true ≡ isUnderscore (expr T n)
+    underscore-yes e = let w = wild {w = true} (simp e) in sym (ap isUnderscore tree ∙ simp w)
+
+    pub underscore-reserved : class ≡ InputOrData → false ≡ isUnderscore (expr T n)
+    underscore-reserved e = let w = wild {w = false} (simp e) in sym (ap isUnderscore tree ∙ simp w)
+
+    pub underscore-ordinary : class ≡ Ordinary → false ≡ isUnderscore (expr T n)
+    underscore-ordinary e = let w = wild {w = false} (simp e) in sym (ap isUnderscore tree ∙ simp w)
+
+  pub underscore-none : (kind ≡ 6 → ⊥) → false ≡ isUnderscore (expr T n)
+  underscore-none not-6 = go (eqb (kindOf (T .nodes) n) 7) refl (eqb (kindOf (T .nodes) n) 9) refl
+    where
+      by : (e : Expr) → expr T n ≡ e → Plain (kindOf (T .nodes) n) n e → false ≡ isUnderscore (expr T n)
+      by e q (plain-literal l h) = sym (ap isUnderscore q)
+      by e q (plain-set es h) = sym (ap isUnderscore q)
+      by e q (plain-other h) = sym (ap isUnderscore q)
+
+      go : (a : Bool) → eqb (kindOf (T .nodes) n) 7 ≡ a → (b : Bool) → eqb (kindOf (T .nodes) n) 9 ≡ b → false ≡ isUnderscore (expr T n)
+      go true p b q = sym (ap isUnderscore (expr-array T (g .table) n (g .node) (eqb-true (kindOf (T .nodes) n) 7 p)))
+      go false p true q = sym (ap isUnderscore (expr-object T (g .table) n (g .node) (eqb-true (kindOf (T .nodes) n) 9 q)))
+      go false p false q =
+          let r = plain-kind T (g .table) n (g .node) (λ k. not-6 (is-kind ∙ k)) (eqb-false (kindOf (T .nodes) n) 7 p) (eqb-false (kindOf (T .nodes) n) 9 q) in
+          by (r .0) (r .1) (r .2)
+
+module _ (T : Tables) (left right : ℕ) {l r : Bool} (is-left : l ≡ isUnderscore (expr T left)) (is-right : r ≡ isUnderscore (expr T right)) where
+  pub side-both : l ≡ true → r ≡ true → 3 ≡ sideOf T left right
+  side-both p q = simp (sym is-left ∙ p, sym is-right ∙ q)
+
+  pub side-left : l ≡ true → r ≡ false → 1 ≡ sideOf T left right
+  side-left p q = simp (sym is-left ∙ p, sym is-right ∙ q)
+
+  pub side-right : l ≡ false → r ≡ true → 2 ≡ sideOf T left right
+  side-right p q = simp (sym is-left ∙ p, sym is-right ∙ q)
+
+  pub side-none : l ≡ false → r ≡ false → 0 ≡ sideOf T left right
+  side-none p q = simp (sym is-left ∙ p, sym is-right ∙ q)
+
+-- `=` by the sides that bind
+module _ (T : Tables) (s : Scope) (left right : ℕ) (c d : LiteralStructureCheck) (ls rs : List Entry) {l r : Bool} (is-left : l ≡ bindsAny ls) (is-right : r ≡ bindsAny rs) {before later : List ℕ} {answer : PlanAnswer} where
+  pub equals-both : l ≡ true → r ≡ true → Answered (pairsOutcome T s left right) before later answer → Answered (equalsFrom T s left right c ls d rs) before later answer
+  equals-both p q a = simp (sym is-left ∙ p, sym is-right ∙ q) a
+
+  pub equals-left : l ≡ true → r ≡ false → Answered (bindSide T 2 left right c ls) before later answer → Answered (equalsFrom T s left right c ls d rs) before later answer
+  equals-left p q a = simp (sym is-left ∙ p, sym is-right ∙ q) a
+
+  pub equals-right : l ≡ false → r ≡ true → Answered (bindSide T 3 right left d rs) before later answer → Answered (equalsFrom T s left right c ls d rs) before later answer
+  equals-right p q a = simp (sym is-left ∙ p, sym is-right ∙ q) a
+
+  pub equals-none : l ≡ false → r ≡ false → Answered (planned 5 0 []) before later answer → Answered (equalsFrom T s left right c ls d rs) before later answer
+  equals-none p q a = simp (sym is-left ∙ p, sym is-right ∙ q) a
+
+pub sides-planned : (T : Tables) (s : Scope) (left right : ℕ) {lb ls rb rs before later : List ℕ} {m n : ℕ} {r : PlanAnswer}
+    → PatternPlanned T s RespectParent left (replicate 2048 0) lb ls m → PatternPlanned T s RespectParent right (replicate 2048 0) rb rs n
+    → Answered (equalsFrom T s left right (structureBy (expr T right) (expr T left)) (readEntries ls 0 m) (structureBy (expr T left) (expr T right)) (readEntries rs 0 n)) before later r
+    → Answered (equalsSides T s left right) before later r
+sides-planned T s left right {lb} {ls} {rb} {rs} {before} {later} {m} {n} {r} p q a =
+    let e = read-plan T s RespectParent left p in
+    let f = read-plan T s RespectParent right q in
+    let c = structure-plan (isUnbound s RespectParent) (expr T right) (expr T left) [] in
+    let d = structure-plan (isUnbound s RespectParent) (expr T left) (expr T right) [] in
+    rw (c, d) (rw (e, f) at a)
+
+-- the wildcard form, or the sides
+module _ (T : Tables) (s : Scope) (left right : ℕ) {side : ℕ} (is : side ≡ sideOf T left right) {before later : List ℕ} {r : PlanAnswer} where
+  pub equals-wild : (side ≡ 0 → ⊥) → Answered (planned 6 side []) before later r → Answered (equalsPlanned T s left right) before later r
+  equals-wild d a = let q = ne-eqb side 0 d in simp (sym is, q) a
+
+  pub equals-sides : side ≡ 0 → Answered (equalsSides T s left right) before later r → Answered (equalsPlanned T s left right) before later r
+  equals-sides e a = let q : sideOf T left right ≡ 0 = sym is ∙ e in simp q a
+
 -- the table check and both roots
-module _ (T : Tables) (s : Scope) (left right : ℕ) {c : TableAnswer} (is : c ≡ checked T s) {ok : Bool} (of : ok ≡ isSound c) (passes : not ok ≡ false) {before later : List ℕ} where
+module _ (T : Tables) (s : Scope) (op : AssignOp) (left right : ℕ) {c : TableAnswer} (is : c ≡ checked T s) {ok : Bool} (of : ok ≡ isSound c) (passes : not ok ≡ false) {before later : List ℕ} where
   module _ {l : Bool} (in-left : l ≡ isNode T left) where
-    pub left-outside : not l ≡ true → later ≡ replicate (length before) 0 → Answered (colonEqualsOutcome T s left right) before later RootOutside
+    pub left-outside : not l ≡ true → later ≡ replicate (length before) 0 → Answered (assignmentOutcome T s op left right) before later RootOutside
     left-outside n z =
         let q : checked T s ≡ Sound = sym is ∙ table-passes of passes in
         let p : isNode T left ≡ false = sym in-left ∙ not-true l n in
         simp (q, p) (refuses RootOutside z)
 
     module _ (at-left : not l ≡ false) {r : Bool} (in-right : r ≡ isNode T right) where
-      pub right-outside : not r ≡ true → later ≡ replicate (length before) 0 → Answered (colonEqualsOutcome T s left right) before later RootOutside
+      pub right-outside : not r ≡ true → later ≡ replicate (length before) 0 → Answered (assignmentOutcome T s op left right) before later RootOutside
       right-outside n z =
           let q : checked T s ≡ Sound = sym is ∙ table-passes of passes in
           let p : isNode T left ≡ true = sym in-left ∙ not-false l at-left in
@@ -98,9 +204,20 @@ module _ (T : Tables) (s : Scope) (left right : ℕ) {c : TableAnswer} (is : c �
           simp (q, p, o) (refuses RootOutside z)
 
       module _ (at-right : not r ≡ false) {answer : PlanAnswer} where
-        pub both-inside : Answered (colonEqualsPlanned T s left right) before later answer → Answered (colonEqualsOutcome T s left right) before later answer
+        both-inside : Answered (byOperator op T s left right) before later answer → Answered (assignmentOutcome T s op left right) before later answer
         both-inside a =
             let q : checked T s ≡ Sound = sym is ∙ table-passes of passes in
             let p : isNode T left ≡ true = sym in-left ∙ not-false l at-left in
             let o : isNode T right ≡ true = sym in-right ∙ not-false r at-right in
             simp (q, p, o) a
+
+        pub assigns-colon : op ≡ ColEq → Answered (colonEqualsPlanned T s left right) before later answer → Answered (assignmentOutcome T s op left right) before later answer
+        assigns-colon e a = both-inside (simp e a)
+
+        pub assigns-equals : op ≡ Eq → Answered (equalsPlanned T s left right) before later answer → Answered (assignmentOutcome T s op left right) before later answer
+        assigns-equals e a = both-inside (simp e a)
+
+pub good-pair : (T : Tables) (s : Scope) {c : TableAnswer} → c ≡ checked T s → {ok : Bool} → ok ≡ isSound c → not ok ≡ false
+    → (left : ℕ) {l : Bool} → l ≡ isNode T left → not l ≡ false → (right : ℕ) {r : Bool} → r ≡ isNode T right → not r ≡ false → GoodPair T left right
+good-pair T s is of passes left in-left at-left right in-right at-right =
+    record { table = sound-well T s is of passes; first = root-node T left in-left at-left; second = root-node T right in-right at-right }

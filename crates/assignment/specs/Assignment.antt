@@ -1,4 +1,4 @@
--- `:=` (assignment.rs, create_assignment_binding_plan).
+-- `:=` and `=` (assignment.rs, create_assignment_binding_plan).
 use Prim.Native.Nat.{ℕ}
 use mathlib.Core.Bool.{Bool, true, false, cond, _&&_}
 use mathlib.Core.List.{List, [], _∷_, _++_}
@@ -11,6 +11,8 @@ use Rattle.table.specs.Expr.{Expr, literal, name, wildcard, array, set, object,
 use Rattle.table.specs.Decode.{expr}
 use Rattle.table.specs.Check.{checked}
 use Rattle.planner.specs.declared.PlanAnswer.the-variants.{RootOutside, ColonEqualsRequiresBindableLeft, VariableAlreadyDefined, IncompatibleDestructuringPatterns}
+use Rattle.assignment.specs.declared.AssignOp.{AssignOp}
+use Rattle.assignment.specs.declared.AssignOp.the-variants.{ColEq, Eq}
 use Rattle.planner.specs.Layout.{Entry, entries, bindsAny, introducesBinding}
 use Rattle.planner.specs.Operations.{Outcome, refused, planned, tableFirst, planOf}
 use Rattle.assignment.specs.declared.LiteralStructureCheck.{LiteralStructureCheck}
@@ -55,5 +57,56 @@ colonEqualsFrom T s left right structured es =
 abbrev pub colonEqualsPlanned : Tables → Scope → ℕ → ℕ → Outcome
 colonEqualsPlanned T s left right = colonEqualsFrom T s left right (structure (expr T right) (planOf T s AllowShadowing left)) (entries (planOf T s AllowShadowing left) 0)
 
-abbrev pub colonEqualsOutcome : Tables → Scope → ℕ → ℕ → Outcome
-colonEqualsOutcome T s left right = tableFirst (checked T s) (cond (bothInside T left right) (colonEqualsPlanned T s left right) (refused RootOutside))
+-- `=`
+abbrev pub isUnderscore : Expr → Bool
+isUnderscore (literal n l) = false
+isUnderscore (name n x) = false
+isUnderscore (wildcard n) = true
+isUnderscore (array n es) = false
+isUnderscore (set n es) = false
+isUnderscore (object n fs) = false
+isUnderscore (other n) = false
+
+-- 1 left, 2 right, 3 both, 0 neither
+abbrev pub wildcardSide : Bool → Bool → ℕ
+wildcardSide false false = 0
+wildcardSide true false = 1
+wildcardSide false true = 2
+wildcardSide true true = 3
+
+abbrev pub flatOutcome : Flat → Outcome
+flatOutcome (failed r) = refused r
+flatOutcome (paired ps newlyBound) = planned 4 0 (pairsEntries ps)
+
+abbrev pub pairsOutcome : Tables → Scope → ℕ → ℕ → Outcome
+pairsOutcome T s left right = flatOutcome (flatten (isUnbound s RespectParent) (expr T right) (expr T left) [])
+
+-- by the sides that bind: each side's structure against the other, and its plan's entries
+abbrev pub bySides : Bool → Bool → Tables → Scope → ℕ → ℕ → LiteralStructureCheck → List Entry → LiteralStructureCheck → List Entry → Outcome
+bySides true true T s left right leftStructured ls rightStructured rs = pairsOutcome T s left right
+bySides false false T s left right leftStructured ls rightStructured rs = planned 5 0 []
+bySides true false T s left right leftStructured ls rightStructured rs = bindSide T 2 left right leftStructured ls
+bySides false true T s left right leftStructured ls rightStructured rs = bindSide T 3 right left rightStructured rs
+
+abbrev pub equalsFrom : Tables → Scope → ℕ → ℕ → LiteralStructureCheck → List Entry → LiteralStructureCheck → List Entry → Outcome
+equalsFrom T s left right leftStructured ls rightStructured rs = bySides (bindsAny ls) (bindsAny rs) T s left right leftStructured ls rightStructured rs
+
+-- one side's plan never sees the other's names
+abbrev pub equalsSides : Tables → Scope → ℕ → ℕ → Outcome
+equalsSides T s left right =
+    equalsFrom T s left right
+    (structure (expr T right) (planOf T s RespectParent left)) (entries (planOf T s RespectParent left) 0)
+    (structure (expr T left) (planOf T s RespectParent right)) (entries (planOf T s RespectParent right) 0)
+
+abbrev pub sideOf : Tables → ℕ → ℕ → ℕ
+sideOf T left right = wildcardSide (isUnderscore (expr T left)) (isUnderscore (expr T right))
+
+abbrev pub equalsPlanned : Tables → Scope → ℕ → ℕ → Outcome
+equalsPlanned T s left right = cond (eqb (sideOf T left right) 0) (equalsSides T s left right) (planned 6 (sideOf T left right) [])
+
+abbrev pub byOperator : AssignOp → Tables → Scope → ℕ → ℕ → Outcome
+byOperator ColEq T s left right = colonEqualsPlanned T s left right
+byOperator Eq T s left right = equalsPlanned T s left right
+
+abbrev pub assignmentOutcome : Tables → Scope → AssignOp → ℕ → ℕ → Outcome
+assignmentOutcome T s op left right = tableFirst (checked T s) (cond (bothInside T left right) (byOperator op T s left right) (refused RootOutside))

@@ -6,3 +6,4 @@ pub mod SomeIn
 pub mod Pairs
 pub mod Assignment
 pub mod Entries
+pub mod PairsPost

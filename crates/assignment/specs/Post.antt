@@ -13,3 +13,9 @@ pub record GoodPair (T : Tables) (a b : ℕ) : Type 0 where
 pub record BindAsks (T : Tables) (binding value count : ℕ) : Type 0 where
   pub pair : GoodPair T binding value
   pub few : count ≤ 512
+
+-- two sides with their plans in scratches
+pub record EqualsAsks (T : Tables) (left right leftCount rightCount : ℕ) : Type 0 where
+  pub pair : GoodPair T left right
+  pub few-left : leftCount ≤ 512
+  pub few-right : rightCount ≤ 512

@@ -1,16 +1,22 @@
-// `:=` (assignment.rs).
+// `:=` and `=` (assignment.rs).
 ghost use mathlib.Core.Path.{_≡_};
+ghost use mathlib.Core.List.{[]};
+ghost use Rattle.planner.specs.Operations.{planned};
+ghost use Prim.Native.Nat.{_≤_};
 ghost use Rattle.table.specs.Tables.{tables};
 ghost use Rattle.table.specs.Decode.{expr};
 ghost use Rattle.planner.specs.Operations.{Answered};
+ghost use Rattle.planner.specs.Post.{GoodRoot};
 ghost use Rattle.assignment.specs.Entries.{readEntries};
 ghost use Rattle.assignment.specs.Pairs.{shapeOf};
 ghost use Rattle.assignment.specs.PatternStructure.{structureBy};
-ghost use Rattle.assignment.specs.Assignment.{opposed, bindSide, colonEqualsFrom, colonEqualsPlanned, colonEqualsOutcome};
-ghost use Rattle.assignment.specs.Post.{GoodPair, BindAsks};
+ghost use Rattle.assignment.specs.Assignment.{opposed, bindSide, isUnderscore, wildcardSide, sideOf, colonEqualsFrom, colonEqualsPlanned, equalsFrom, equalsSides, equalsPlanned, byOperator, assignmentOutcome};
+ghost use Rattle.assignment.specs.Post.{GoodPair, BindAsks, EqualsAsks};
+use crate::AssignOp;
 use crate::LiteralStructureCheck;
 use crate::entries::first_same_scope;
 use crate::entries::introduces_binding;
+use crate::pairs::flatten_assignment_pairs;
 use crate::utils::check_literal_structure;
 use planner::PlanAnswer;
 use planner::buffer::clear;
@@ -19,9 +25,12 @@ use planner::context::is_sound;
 use planner::destructuring::plan_pattern;
 use scope::Scope;
 use scope::ScopingMode;
+use table::NameClass;
 use table::check;
+use table::reading::first_of;
 use table::reading::is_node;
 use table::reading::kind_of;
+use table::reading::name_class;
 
 // An array against an object (ensure_structural_compatibility).
 fn incompatible(
@@ -108,6 +117,18 @@ fn bind_side(
             clear(plan);
             PlanAnswer::ObjectLiteralKeysMismatch { value, pattern }
         }
+    }
+}
+
+// No entries: an equality check or a wildcard.
+fn deliver_none(plan: &mut [u32], form: u32, side: u32) -> PlanAnswer
+    ensures { λ r. ⌜ Answered (planned form side []) (now (plan .entry)) (now (plan .exit)) r ⌝ }
+{
+    clear(plan);
+    PlanAnswer::Planned {
+        form,
+        side,
+        entries: 0,
     }
 }
 
@@ -200,8 +221,130 @@ fn plan_colon_equals(
     )
 }
 
-// The plan of `left := right` in the lent buffer.
-pub fn create_colon_equals_binding_plan(
+fn is_underscore(
+    nodes: &[u32],
+    children: &[u32],
+    numbers: &[u64],
+    names: &[u32],
+    strings: &[u8],
+    text: &[u8],
+    node: u32,
+) -> bool
+    requires { ⌜ GoodRoot (tables (now nodes) (now children) (now numbers) (now names) (now strings) (now text)) node ⌝ }
+    ensures { λ r. ⌜ r ≡ isUnderscore (expr (tables (now (nodes .entry)) (now (children .entry)) (now (numbers .entry)) (now (names .entry)) (now (strings .entry)) (now (text .entry))) node) ⌝ }
+{
+    let kind = kind_of(nodes, node);
+    if kind == 6 {
+        let class = name_class(names, text, first_of(nodes, node));
+        return match class {
+            NameClass::Underscore => true,
+            NameClass::InputOrData => false,
+            NameClass::Ordinary => false,
+        };
+    }
+    false
+}
+
+// 1 where the left is `_`, 2 the right, 3 both, 0 neither.
+fn wildcard_side(
+    nodes: &[u32],
+    children: &[u32],
+    numbers: &[u64],
+    names: &[u32],
+    strings: &[u8],
+    text: &[u8],
+    left: u32,
+    right: u32,
+) -> u32
+    requires { ⌜ GoodPair (tables (now nodes) (now children) (now numbers) (now names) (now strings) (now text)) left right ⌝ }
+    ensures { λ r. ⌜ r ≡ sideOf (tables (now (nodes .entry)) (now (children .entry)) (now (numbers .entry)) (now (names .entry)) (now (strings .entry)) (now (text .entry))) left right ⌝ }
+{
+    let at_left = is_underscore(nodes, children, numbers, names, strings, text, left);
+    let at_right = is_underscore(nodes, children, numbers, names, strings, text, right);
+    if at_left {
+        if at_right {
+            return 3;
+        }
+        return 1;
+    }
+    if at_right {
+        return 2;
+    }
+    0
+}
+
+// `=`, both sides' plans standing in scratches.
+fn equals_from(
+    nodes: &[u32],
+    children: &[u32],
+    numbers: &[u64],
+    names: &[u32],
+    strings: &[u8],
+    text: &[u8],
+    scope: Scope,
+    left: u32,
+    right: u32,
+    left_scratch: &[u32; 2048],
+    left_count: usize,
+    right_scratch: &[u32; 2048],
+    right_count: usize,
+    plan: &mut [u32],
+) -> PlanAnswer
+    requires { ⌜ EqualsAsks (tables (now nodes) (now children) (now numbers) (now names) (now strings) (now text)) left right «left_count» «right_count» ⌝ }
+    ensures { λ r. ⌜ Answered (equalsFrom (tables (now (nodes .entry)) (now (children .entry)) (now (numbers .entry)) (now (names .entry)) (now (strings .entry)) (now (text .entry))) scope left right (structureBy (expr (tables (now (nodes .entry)) (now (children .entry)) (now (numbers .entry)) (now (names .entry)) (now (strings .entry)) (now (text .entry))) right) (expr (tables (now (nodes .entry)) (now (children .entry)) (now (numbers .entry)) (now (names .entry)) (now (strings .entry)) (now (text .entry))) left)) (readEntries (now («left_scratch» .entry)) 0 «left_count») (structureBy (expr (tables (now (nodes .entry)) (now (children .entry)) (now (numbers .entry)) (now (names .entry)) (now (strings .entry)) (now (text .entry))) left) (expr (tables (now (nodes .entry)) (now (children .entry)) (now (numbers .entry)) (now (names .entry)) (now (strings .entry)) (now (text .entry))) right)) (readEntries (now («right_scratch» .entry)) 0 «right_count»)) (now (plan .entry)) (now (plan .exit)) r ⌝ }
+{
+    let left_binds = introduces_binding(left_scratch, left_count);
+    let right_binds = introduces_binding(right_scratch, right_count);
+    if left_binds {
+        if right_binds {
+            return flatten_assignment_pairs(
+                nodes,
+                children,
+                numbers,
+                names,
+                strings,
+                text,
+                scope,
+                left,
+                right,
+                plan,
+            );
+        }
+        return bind_side(
+            nodes,
+            children,
+            numbers,
+            names,
+            strings,
+            text,
+            2,
+            left,
+            right,
+            left_scratch,
+            left_count,
+            plan,
+        );
+    }
+    if right_binds {
+        return bind_side(
+            nodes,
+            children,
+            numbers,
+            names,
+            strings,
+            text,
+            3,
+            right,
+            left,
+            right_scratch,
+            right_count,
+            plan,
+        );
+    }
+    deliver_none(plan, 5, 0)
+}
+
+fn plan_sides(
     nodes: &[u32],
     children: &[u32],
     numbers: &[u64],
@@ -213,7 +356,104 @@ pub fn create_colon_equals_binding_plan(
     right: u32,
     plan: &mut [u32],
 ) -> PlanAnswer
-    ensures { λ r. ⌜ Answered (colonEqualsOutcome (tables (now (nodes .entry)) (now (children .entry)) (now (numbers .entry)) (now (names .entry)) (now (strings .entry)) (now (text .entry))) scope left right) (now (plan .entry)) (now (plan .exit)) r ⌝ }
+    requires { ⌜ GoodPair (tables (now nodes) (now children) (now numbers) (now names) (now strings) (now text)) left right ⌝ }
+    ensures { λ r. ⌜ Answered (equalsSides (tables (now (nodes .entry)) (now (children .entry)) (now (numbers .entry)) (now (names .entry)) (now (strings .entry)) (now (text .entry))) scope left right) (now (plan .entry)) (now (plan .exit)) r ⌝ }
+{
+    let mut left_binders = [0u32; 128];
+    let mut left_scratch = [0u32; 2048];
+    let left_count = plan_pattern(
+        nodes,
+        children,
+        numbers,
+        names,
+        strings,
+        text,
+        scope,
+        ScopingMode::RespectParent,
+        left,
+        &mut left_binders,
+        &mut left_scratch,
+    );
+    let mut right_binders = [0u32; 128];
+    let mut right_scratch = [0u32; 2048];
+    let right_count = plan_pattern(
+        nodes,
+        children,
+        numbers,
+        names,
+        strings,
+        text,
+        scope,
+        ScopingMode::RespectParent,
+        right,
+        &mut right_binders,
+        &mut right_scratch,
+    );
+    equals_from(
+        nodes,
+        children,
+        numbers,
+        names,
+        strings,
+        text,
+        scope,
+        left,
+        right,
+        &left_scratch,
+        left_count,
+        &right_scratch,
+        right_count,
+        plan,
+    )
+}
+
+fn plan_equals(
+    nodes: &[u32],
+    children: &[u32],
+    numbers: &[u64],
+    names: &[u32],
+    strings: &[u8],
+    text: &[u8],
+    scope: Scope,
+    left: u32,
+    right: u32,
+    plan: &mut [u32],
+) -> PlanAnswer
+    requires { ⌜ GoodPair (tables (now nodes) (now children) (now numbers) (now names) (now strings) (now text)) left right ⌝ }
+    ensures { λ r. ⌜ Answered (equalsPlanned (tables (now (nodes .entry)) (now (children .entry)) (now (numbers .entry)) (now (names .entry)) (now (strings .entry)) (now (text .entry))) scope left right) (now (plan .entry)) (now (plan .exit)) r ⌝ }
+{
+    let side = wildcard_side(nodes, children, numbers, names, strings, text, left, right);
+    if side != 0 {
+        return deliver_none(plan, 6, side);
+    }
+    plan_sides(
+        nodes,
+        children,
+        numbers,
+        names,
+        strings,
+        text,
+        scope,
+        left,
+        right,
+        plan,
+    )
+}
+
+pub fn create_assignment_binding_plan(
+    nodes: &[u32],
+    children: &[u32],
+    numbers: &[u64],
+    names: &[u32],
+    strings: &[u8],
+    text: &[u8],
+    scope: Scope,
+    op: AssignOp,
+    left: u32,
+    right: u32,
+    plan: &mut [u32],
+) -> PlanAnswer
+    ensures { λ r. ⌜ Answered (assignmentOutcome (tables (now (nodes .entry)) (now (children .entry)) (now (numbers .entry)) (now (names .entry)) (now (strings .entry)) (now (text .entry))) scope op left right) (now (plan .entry)) (now (plan .exit)) r ⌝ }
 {
     let checked = check(nodes, children, numbers, names, strings, text, scope);
     if !is_sound(checked) {
@@ -228,16 +468,30 @@ pub fn create_colon_equals_binding_plan(
         clear(plan);
         return PlanAnswer::RootOutside;
     }
-    plan_colon_equals(
-        nodes,
-        children,
-        numbers,
-        names,
-        strings,
-        text,
-        scope,
-        left,
-        right,
-        plan,
-    )
+    match op {
+        AssignOp::ColEq => plan_colon_equals(
+            nodes,
+            children,
+            numbers,
+            names,
+            strings,
+            text,
+            scope,
+            left,
+            right,
+            plan,
+        ),
+        AssignOp::Eq => plan_equals(
+            nodes,
+            children,
+            numbers,
+            names,
+            strings,
+            text,
+            scope,
+            left,
+            right,
+            plan,
+        ),
+    }
 }

@@ -1,6 +1,7 @@
 // Assignments over planned patterns (utils.rs, assignment.rs).
 pub mod assignment;
 mod entries;
+mod pairs;
 mod texts;
 mod utils;
 
@@ -18,4 +19,9 @@ pub enum LiteralStructureCheck {
         value: u32,
         pattern: u32,
     },
+}
+
+pub enum AssignOp {
+    ColEq,
+    Eq,
 }

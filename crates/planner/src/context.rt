@@ -42,12 +42,7 @@ fn name_state(names: &[u32], text: &[u8], scope: Scope, scoping: ScopingMode, na
 }
 
 // The states of all names, by their numbers.
-pub(crate) fn name_states(
-    names: &[u32],
-    text: &[u8],
-    scope: Scope,
-    scoping: ScopingMode,
-) -> [u8; 128]
+pub fn name_states(names: &[u32], text: &[u8], scope: Scope, scoping: ScopingMode) -> [u8; 128]
     requires { ⌜ length (now names) / 2 ≤ 128 ⌝ }
     ensures { λ r. ⌜ StatesOf (now (names .entry)) (now (text .entry)) scope scoping r ⌝ }
 {

@@ -128,7 +128,7 @@ fn decide_children(
 }
 
 // A pattern's plan from no names: its entries stand first in the scratch. How many there are.
-pub(crate) fn create_destructuring_plan_with_tracking(
+pub fn create_destructuring_plan_with_tracking(
     nodes: &[u32],
     children: &[u32],
     numbers: &[u64],

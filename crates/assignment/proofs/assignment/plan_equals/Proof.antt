@@ -1,0 +1,49 @@
+use Rattle.assignment.proofs.Sides.{equals-wild, equals-sides}
+use borrow.Author.Needs.{needs}
+use Rattle.assignment.proofs.assignment.plan_equals.Statement.{statement}
+use Rattle.assignment.proofs.assignment.plan_equals.Tie as tie
+use Rattle.assignment.proofs.assignment.plan_equals.Reads as reads
+use Rattle.assignment.proofs.assignment.plan_equals.Lts as lts
+use Rattle.assignment.proofs.assignment.deliver_none.Reads as deliver-none-reads
+use Rattle.assignment.proofs.assignment.plan_sides.Reads as plan-sides-reads
+use Rattle.assignment.proofs.assignment.wildcard_side.Reads as wildcard-side-reads
+
+-- src/assignment.rt:285:9
+wildcard-side-requires : tie.Need-wildcard-side-requires
+wildcard-side-requires c κs = search needs
+
+-- src/assignment.rt:287:9
+deliver-none-requires : tie.Need-deliver-none-requires
+deliver-none-requires c κs = search needs
+
+-- src/assignment.rt:287:9
+same-length : tie.Need-same-length
+same-length c = search needs
+
+-- src/assignment.rt:287:9
+returns : tie.Need-returns
+returns c = search (equals-wild, needs)
+
+-- src/assignment.rt:289:5
+plan-sides-requires : tie.Need-plan-sides-requires
+plan-sides-requires c κs = search needs
+
+-- src/assignment.rt:270:1
+same-length-2 : tie.Need-same-length-2
+same-length-2 c = search needs
+
+-- src/assignment.rt:270:1
+returns-2 : tie.Need-returns-2
+returns-2 c = search (equals-sides, needs)
+
+pub plan-equals-spec : {M : Type 1} → statement M
+plan-equals-spec =
+    tie.close
+    (tie.spec
+    wildcard-side-requires
+    deliver-none-requires
+    same-length
+    returns
+    plan-sides-requires
+    same-length-2
+    returns-2)

@@ -1,0 +1,35 @@
+use Rattle.assignment.proofs.PairSides.{ask-preview, previewed}
+use borrow.Author.Needs.{needs}
+use Rattle.assignment.proofs.pairs.preview_binding_plan.Statement.{statement}
+use Rattle.assignment.proofs.pairs.preview_binding_plan.Tie as tie
+use Rattle.assignment.proofs.pairs.preview_binding_plan.Reads as reads
+use Rattle.assignment.proofs.pairs.preview_binding_plan.Lts as lts
+use Rattle.assignment.proofs.pairs.binds_any.Reads as binds-any-reads
+use Rattle.planner.proofs.buffer.clear.Reads as clear-reads
+use Rattle.planner.proofs.destructuring.create_destructuring_plan_with_tracking.Reads as create-destructuring-plan-with-tracking-reads
+
+-- src/pairs.rt:151:5
+clear-requires : tie.Need-clear-requires
+clear-requires c κs = search needs
+
+-- src/pairs.rt:152:9
+create-destructuring-plan-with-tracking-requires :
+    tie.Need-create-destructuring-plan-with-tracking-requires
+create-destructuring-plan-with-tracking-requires c κs = search (ask-preview, needs)
+
+-- src/pairs.rt:153:9
+binds-any-requires : tie.Need-binds-any-requires
+binds-any-requires c κs = search needs
+
+-- src/pairs.rt:136:1
+returns : tie.Need-returns
+returns c = search (previewed, needs)
+
+pub preview-binding-plan-spec : {M : Type 1} → statement M
+preview-binding-plan-spec =
+    tie.close
+    (tie.spec
+    clear-requires
+    create-destructuring-plan-with-tracking-requires
+    binds-any-requires
+    returns)
