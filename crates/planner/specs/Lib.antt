@@ -1,6 +1,7 @@
 pub mod Plan
 pub mod Layout
 pub mod Answer
+pub mod Simple
 pub mod Parameters
 pub mod Operations
 pub mod Laws
