@@ -14,13 +14,14 @@ use Rattle.table.specs.Sound.{Node, WellFormed}
 use Rattle.table.proofs.Trees.{expr-object, items-step, items-end, fields-step, fields-end}
 use Rattle.planner.specs.declared.PlanAnswer.{PlanAnswer}
 use Rattle.planner.specs.Passes.{unboundIn}
+use Rattle.planner.specs.Entries.{Wrote}
 use Rattle.planner.specs.Post.{States}
 use Rattle.assignment.specs.declared.pairs.Flattened.{Flattened}
 use Rattle.assignment.specs.declared.pairs.Flattened.the-variants.{Next, Refused}
 use Rattle.assignment.specs.Pairs.{Pair, pairsEntries, Flat, paired, before, further, flatten}
-use Rattle.assignment.specs.PairsPost.{Scoped, Wrote, InOrder, FieldAsks, FieldSides, FieldOk, Came, Flattens, nodesFlat, itemsFlat, objectsFlat, fieldsFlat, mostOf, mostItems, mostFields, FlattenAsks, ItemsAsks, ObjectFieldsAsks}
+use Rattle.assignment.specs.PairsPost.{Scoped, InOrder, FieldAsks, FieldSides, FieldOk, Came, Flattens, nodesFlat, itemsFlat, objectsFlat, fieldsFlat, mostOf, mostItems, mostFields, FlattenAsks, ItemsAsks, ObjectFieldsAsks}
 use Rattle.assignment.proofs.Seen.{scoped-self}
-use Rattle.assignment.proofs.PairEntries.{wrote-none, wrote-append}
+use Rattle.planner.proofs.Copies.{wrote-none, wrote-append, wrote-long}
 use Rattle.assignment.proofs.Partners.{partner-node, partner-some}
 use Rattle.assignment.proofs.FlatTrees.{before-nil, before-append, entries-append}
 
@@ -53,7 +54,7 @@ module _ {T : Tables} {states : List ℕ} (ok : States T states) {g : (ℕ → B
   next-states = came-as a (Next there) e (unboundIn states) [] (scoped-self T states ok) .scoped .wild
 
   next-long : length next ≡ length mid
-  next-long = came-as a (Next there) e (unboundIn states) [] (scoped-self T states ok) .wrote .long
+  next-long = wrote-long (came-as a (Next there) e (unboundIn states) [] (scoped-self T states ok) .wrote)
 
   next-low : there ≤ here + most
   next-low =

@@ -23,6 +23,7 @@ use Rattle.planner.specs.declared.PlanAnswer.the-variants.{ArraySizeMismatch, O
 use Rattle.planner.specs.Plan.{equalityExpr}
 use Rattle.planner.specs.Layout.{Entry, entry, entries}
 use Rattle.planner.specs.Operations.{answered, written, Answered}
+use Rattle.planner.specs.Entries.{Wrote}
 use Rattle.planner.specs.Post.{OrderAsks, OrderedBy, StatesOf, Delivered}
 use Rattle.planner.proofs.Objects.{node-of}
 use Rattle.assignment.specs.declared.pairs.Flattened.{Flattened}
@@ -37,10 +38,10 @@ use Rattle.assignment.specs.declared.pairs.Judgement.the-variants as Jud
 use Rattle.assignment.specs.declared.pairs.Judgement.the-variants.{Compare, BindLeft, BindRight, Refuse}
 use Rattle.assignment.specs.Pairs.{pair, pairsEntries, Flat, failed, single, shapeOf, allLiteral, distinctKeys, binds, side, flatten, flattenAll}
 use Rattle.assignment.specs.Assignment.{flatOutcome}
-use Rattle.assignment.specs.PairsPost.{Scoped, Wrote, pairingOf, fieldsOf, missingFrom, InOrder, LiteralNode, MissingAsks, Flattens, Came, sideFlat, nodesFlat, arraysFlat, objectsFlat, itemsFlat, fieldsFlat, mostOf, mostItems, BindAsks, SidesAsks, Judges, Compared, KeysAsks, KeysMatched, MatchedBy, ObjectFieldsAsks, FlattenAsks, ByKeyAsks, ArraysAsks, ItemsAsks}
-use Rattle.assignment.specs.Post.{GoodPair}
+use Rattle.assignment.specs.PairsPost.{Scoped, pairingOf, fieldsOf, missingFrom, InOrder, LiteralNode, MissingAsks, Flattens, Came, sideFlat, nodesFlat, arraysFlat, objectsFlat, itemsFlat, fieldsFlat, mostOf, mostItems, BindAsks, SidesAsks, Judges, Compared, KeysAsks, KeysMatched, MatchedBy, ObjectFieldsAsks, FlattenAsks, ByKeyAsks, ArraysAsks, ItemsAsks}
+use Rattle.checks.specs.Post.{GoodPair}
 use Rattle.assignment.proofs.Seen.{scoped-start}
-use Rattle.assignment.proofs.PairEntries.{pairs-delivered}
+use Rattle.planner.proofs.Copies.{wrote-delivered}
 use Rattle.assignment.proofs.Partners.{object-child, object-listed, object-order, literal-each, check-missing, missing-none}
 use Rattle.assignment.proofs.KeySearch.{total-distinct}
 use Rattle.assignment.proofs.PairShapes.{shape-items, shape-fields, shape-single}
@@ -378,4 +379,4 @@ module _ (T : Tables) {left right : ℕ} (g : GoodPair T left right) (s : Scope)
         → Answered (flatOutcome (flatten (isUnbound s RespectParent) (expr T right) (expr T left) [])) before later r
     pairs-planned {at} e d =
         let c = came (Next at) e in
-        rw (c .is) (pairs-delivered (pairsEntries (c .pairs)) (c .wrote) d)
+        rw (c .is) (wrote-delivered 4 (pairsEntries (c .pairs)) (c .wrote) d)

@@ -24,7 +24,7 @@ use Rattle.planner.specs.Layout.{Slot, heldIn, FieldOrder, inOrder}
 use Rattle.planner.specs.Passes.{fieldKey, orderOf}
 use Rattle.planner.proofs.FieldOrder.{all-at, Sorted, Keyed, Ordered, ordered-first, more-before, less-behind, same-before}
 use Rattle.planner.proofs.Objects.{AllBelow, order-below}
-use Rattle.assignment.specs.Structure.{heldUnder}
+use Rattle.checks.specs.Structure.{heldUnder}
 use Rattle.assignment.specs.Pairs.{distinctKeys}
 use Rattle.assignment.specs.PairsPost.{fieldsOf, heldNode, partnerOf, InOrder, FindAsks}
 use Rattle.assignment.proofs.Partners.{empty-nil, computed-empty, distinct-count, object-listed, partner-held}

@@ -1,4 +1,4 @@
--- The small loops: names that become known, zeros behind a plan, literal keys, a missing key.
+-- The small loops: names that become known, literal keys, a missing key.
 use Prim.Native.Nat.{ℕ, zero, suc, _+_, _-_, _*_, _≤_, _<_}
 use mathlib.Core.Path.{_≡_, refl, sym, ap, _∙_}
 use mathlib.Core.Bool.{Bool, true, false, cond}
@@ -13,8 +13,6 @@ use lib.Seq.{getD-set-other}
 use Rattle.table.specs.Tables.{Tables, kindOf, firstOf, countOf, childAt}
 use Rattle.table.specs.Rules.{allFrom}
 use Rattle.table.proofs.Scan.{Scan, scan-start, scan-on, scan-fails, scan-ends}
-use Rattle.planner.specs.Post.{wordAt}
-use Rattle.planner.proofs.Filling.{Filling, word-in}
 use Rattle.assignment.specs.Pairs.{allLiteral}
 use Rattle.assignment.specs.PairsPost.{learntState, LearntAt, Learnt, fieldsOf, partnerOf, missingFrom, literalKind, ObjectAsks, FindAsks, MissingAsks, FieldAsks, FieldSides}
 use Rattle.assignment.proofs.Partners.{object-listed, literal-keys}
@@ -68,10 +66,6 @@ module _ {before binders : List ℕ} {i : ℕ} {mid : List ℕ} (go : Learning b
 
   pub learning-ends : 128 ≤ i → Learnt before binders mid
   learning-ends le = record { each = λ k lt. go .done k (omega arith) }
-
--- zeros behind a plan
-pub clearing-start : (plan : List ℕ) (from : ℕ) → Filling (wordAt plan from) (length plan) from plan
-clearing-start plan from = record { long = refl; each = λ k lt. word-in plan from k lt }
 
 -- the keys in turn
 pub record Testing (T : Tables) (n first count i : ℕ) : Type 0 where

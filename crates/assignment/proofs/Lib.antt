@@ -1,16 +1,9 @@
 pub mod Reading
 pub mod Shapes
 pub mod Binding
-pub mod TextOrder
-pub mod KeyTexts
-pub mod TextLoops
-pub mod PatternObjects
-pub mod Checks
-pub mod PlanStructure
 pub mod Sides
 pub mod Either
 pub mod Seen
-pub mod PairEntries
 pub mod Partners
 pub mod KeySearch
 pub mod Leaves

@@ -13,7 +13,7 @@ use Rattle.planner.proofs.NodeKinds.{Plain, plain-literal, plain-set, plain-oth
 use Rattle.assignment.specs.declared.pairs.Pairing.the-variants.{Whole, Items, ByKey, Opposed}
 use Rattle.assignment.specs.Pairs.{items as itemsShape, fields as fieldsShape, single, shapeOf, allLiteral}
 use Rattle.assignment.specs.PairsPost.{pairingOf, fieldsOf, ObjectsAsks}
-use Rattle.assignment.specs.Post.{GoodPair}
+use Rattle.checks.specs.Post.{GoodPair}
 
 module _ (T : Tables) (w : WellFormed T) (n : ℕ) (v : Node T n) where
   pub shape-items : kindOf (T .nodes) n ≡ 7 → shapeOf (expr T n) ≡ itemsShape n (items (expr T) (T .children) (firstOf (T .nodes) n) (countOf (T .nodes) n))

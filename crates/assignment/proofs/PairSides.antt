@@ -24,10 +24,11 @@ use Rattle.assignment.specs.declared.pairs.Judgement.{Judgement}
 use Rattle.assignment.specs.declared.pairs.Judgement.the-variants as Judged
 use Rattle.assignment.specs.declared.pairs.Judgement.the-variants.{Compare, BindLeft, BindRight, Refuse}
 use Rattle.assignment.specs.Pairs.{pair, pairsEntries, Flat, binds}
-use Rattle.assignment.specs.PairsPost.{Scoped, Wrote, Previewed, Learnt, Came, Flattens, sideFlat, BindAsks, Compared, judgementOf}
-use Rattle.assignment.specs.Entries.{readEntries}
+use Rattle.assignment.specs.PairsPost.{Scoped, Previewed, Learnt, Came, Flattens, sideFlat, BindAsks, Compared, judgementOf}
+use Rattle.planner.specs.Entries.{readEntries, Wrote}
 use Rattle.assignment.proofs.Seen.{plan-scoped, scoped-learnt}
-use Rattle.assignment.proofs.PairEntries.{read-laid, length-read, wrote-append}
+use Rattle.planner.proofs.ReadBack.{read-laid, length-read}
+use Rattle.planner.proofs.Copies.{wrote-append}
 
 -- a preview
 pub ask-preview : {T : Tables} {states : List ℕ} {n : ℕ} → Walks T states n → (start : List ℕ) {binders : List ℕ} → binders ≡ replicate (length start) 0 → length start ≡ 128 → PlanAsks T states n binders
@@ -36,7 +37,8 @@ ask-preview a start e long = record { walks = a; none-bound = rw long at e }
 pub previewed : {T : Tables} {states : List ℕ} {n : ℕ} {before binders scratch : List ℕ} {count : ℕ} {told : Bool} → PlannedBy T states n before binders scratch count → length scratch ≡ 2048
     → told ≡ bindsAny (readEntries scratch 0 count) → Previewed T states n binders scratch count told
 previewed p long is =
-    let read = read-laid (p .laid) long (p .few) in
+    let few = p .few in
+    let read = read-laid (p .laid) (omega arith) in
     record { bound = p .bound; read = read; told = is ∙ ap bindsAny read; few = p .few }
 
 -- the same of another definition

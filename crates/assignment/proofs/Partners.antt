@@ -27,9 +27,9 @@ use Rattle.planner.specs.Post.{OrderAsks}
 use Rattle.planner.proofs.FieldOrder.{mapSlot, mapOrder, add-map}
 use Rattle.planner.specs.declared.PlanAnswer.the-variants.{ObjectKeyNotFound}
 use Rattle.planner.proofs.Objects.{key-literal, node-of, AllBelow, order-below}
-use Rattle.assignment.specs.Structure.{firstOr, heldUnder, isEmpty}
+use Rattle.checks.specs.Structure.{firstOr, heldUnder, isEmpty}
 use Rattle.assignment.specs.Pairs.{Flat, failed, allLiteral, distinctKeys, lastUnder, hasPartner, checkKeys}
-use Rattle.assignment.specs.Structure.{valueOrder}
+use Rattle.checks.specs.Structure.{valueOrder}
 use Rattle.assignment.specs.PairsPost.{fieldsOf, heldNode, partnerOf, missingFrom, literalKind, ObjectAsks, LiteralNode}
 
 -- the child entries of an object

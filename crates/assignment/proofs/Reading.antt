@@ -13,7 +13,7 @@ use Rattle.scope.specs.declared.Binding.the-variants as Binding
 use Rattle.scope.specs.Scope.{isName, bindingOf, sameScope}
 use Rattle.table.specs.Tables.{firstOf}
 use Rattle.planner.specs.Layout.{Entry, entry, words, bindsAny}
-use Rattle.assignment.specs.Entries.{entryAt, readEntries}
+use Rattle.planner.specs.Entries.{entryAt, readEntries}
 use Rattle.assignment.specs.Assignment.{boundHere, firstSameScope}
 
 read-step : (scratch : List ℕ) (i k : ℕ) → i < k → readEntries scratch i (k - i) ≡ entryAt scratch i ∷ readEntries scratch (i + 1) (k - (i + 1))

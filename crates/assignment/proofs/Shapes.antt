@@ -13,7 +13,7 @@ use Rattle.table.proofs.Trees.{expr-name, expr-array, expr-object}
 use Rattle.planner.proofs.NodeKinds.{Plain, plain-literal, plain-set, plain-other, plain-kind}
 use Rattle.assignment.specs.Pairs.{Shape, items, fields, single, shapeOf}
 use Rattle.assignment.specs.Assignment.{opposed}
-use Rattle.assignment.specs.Post.{GoodPair}
+use Rattle.checks.specs.Post.{GoodPair}
 
 module _ (T : Tables) (w : WellFormed T) (n : ℕ) (v : Node T n) where
   pub array-shape : kindOf (T .nodes) n ≡ 7 → (es : Exprs) × (shapeOf (expr T n) ≡ items n es)

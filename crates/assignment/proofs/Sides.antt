@@ -31,18 +31,19 @@ use Rattle.planner.specs.Operations.{Outcome, refused, planned, answered, writt
 use Rattle.planner.specs.Post.{GoodRoot, PatternAsks, PatternPlanned}
 use Rattle.planner.proofs.NodeKinds.{Plain, plain-literal, plain-set, plain-other, plain-kind}
 use Rattle.planner.proofs.SamePlan.{class-wild}
-use Rattle.planner.proofs.Operations.{sound-well, root-node, table-passes}
+use Rattle.planner.proofs.Operations.{refuses, sound-well, root-node, table-passes, read-plan}
 use Rattle.assignment.specs.declared.AssignOp.{AssignOp}
 use Rattle.assignment.specs.declared.AssignOp.the-variants.{ColEq, Eq}
-use Rattle.assignment.specs.declared.LiteralStructureCheck.{LiteralStructureCheck}
-use Rattle.assignment.specs.Structure.{structure}
-use Rattle.assignment.specs.PatternStructure.{structureBy}
-use Rattle.assignment.specs.Entries.{readEntries}
-use Rattle.assignment.specs.SomeIn.{unlessDefined}
+use Rattle.checks.specs.declared.LiteralStructureCheck.{LiteralStructureCheck}
+use Rattle.checks.specs.Structure.{structure}
+use Rattle.checks.specs.PatternStructure.{structureBy}
+use Rattle.planner.specs.Entries.{readEntries}
+use Rattle.checks.specs.Refusals.{unlessDefined}
 use Rattle.assignment.specs.Assignment.{bindSide, firstSameScope, bothInside, colonEqualsFrom, colonEqualsPlanned, isUnderscore, wildcardSide, sideOf, pairsOutcome, equalsFrom, equalsSides, equalsPlanned, byOperator, assignmentOutcome}
-use Rattle.assignment.specs.Post.{GoodPair, BindAsks, EqualsAsks}
-use Rattle.assignment.proofs.Binding.{refuses, read-laid}
-use Rattle.assignment.proofs.PlanStructure.{structure-plan}
+use Rattle.checks.specs.Post.{GoodPair}
+use Rattle.assignment.specs.Post.{BindAsks, EqualsAsks}
+use Rattle.checks.proofs.Refused.{passes-undefined, refuses-defined}
+use Rattle.checks.proofs.PlanStructure.{structure-plan}
 
 -- no entries
 pub none-delivered : (form side : ℕ) {before later : List ℕ} → later ≡ replicate (length before) 0 → Answered (planned form side []) before later (Planned form side 0)
@@ -63,14 +64,12 @@ module _ (T : Tables) (s : Scope) (left right : ℕ) (c : LiteralStructureCheck)
     pub colon-defined : (name ≡ 0 → ⊥) → later ≡ replicate (length before) 0 → Answered (colonEqualsFrom T s left right c es) before later (VariableAlreadyDefined name)
     colon-defined d z =
         let p : bindsAny es ≡ true = sym of ∙ not-false b binds in
-        let q = ne-eqb name 0 d in
-        simp (p, sym is, q) (refuses (VariableAlreadyDefined name) z)
+        simp (p, sym is) (refuses-defined (bindSide T 1 left right c es) d z)
 
     pub colon-binds : {r : PlanAnswer} → name ≡ 0 → Answered (bindSide T 1 left right c es) before later r → Answered (colonEqualsFrom T s left right c es) before later r
     colon-binds e a =
         let p : bindsAny es ≡ true = sym of ∙ not-false b binds in
-        let q : firstSameScope (T .nodes) s es ≡ 0 = sym is ∙ e in
-        simp (p, q) a
+        simp (p, sym is) (passes-undefined (bindSide T 1 left right c es) e a)
 
 -- a side's plan in a scratch
 module _ (T : Tables) (a b : ℕ) (g : GoodPair T a b) where
@@ -94,10 +93,6 @@ module _ (T : Tables) (a b : ℕ) (g : GoodPair T a b) where
 
   pub ask-equals : (s : Scope) (mode : ScopingMode) {lb ls rb rs : List ℕ} {m n : ℕ} → PatternPlanned T s mode a (replicate 2048 0) lb ls m → PatternPlanned T s mode b (replicate 2048 0) rb rs n → EqualsAsks T a b m n
   ask-equals s mode p q = record { pair = g; few-left = p .few; few-right = q .few }
-
--- what was read is the plan
-read-plan : (T : Tables) (s : Scope) (mode : ScopingMode) (root : ℕ) {binders scratch : List ℕ} {count : ℕ} → PatternPlanned T s mode root (replicate 2048 0) binders scratch count → readEntries scratch 0 count ≡ entries (planOf T s mode root) 0
-read-plan T s mode root p = read-laid (entries (planOf T s mode root) 0) (p .few) (p .laid)
 
 pub colon-planned : (T : Tables) (s : Scope) (left right : ℕ) {binders scratch before later : List ℕ} {count : ℕ} {r : PlanAnswer} → PatternPlanned T s AllowShadowing left (replicate 2048 0) binders scratch count
     → Answered (colonEqualsFrom T s left right (structureBy (expr T right) (expr T left)) (readEntries scratch 0 count)) before later r → Answered (colonEqualsPlanned T s left right) before later r

@@ -15,9 +15,9 @@ use Rattle.assignment.specs.declared.AssignOp.{AssignOp}
 use Rattle.assignment.specs.declared.AssignOp.the-variants.{ColEq, Eq}
 use Rattle.planner.specs.Layout.{Entry, entries, bindsAny, introducesBinding}
 use Rattle.planner.specs.Operations.{Outcome, refused, planned, tableFirst, planOf}
-use Rattle.assignment.specs.declared.LiteralStructureCheck.{LiteralStructureCheck}
-use Rattle.assignment.specs.Structure.{structure}
-use Rattle.assignment.specs.SomeIn.{unlessMismatch, unlessDefined}
+use Rattle.checks.specs.declared.LiteralStructureCheck.{LiteralStructureCheck}
+use Rattle.checks.specs.Structure.{structure}
+use Rattle.checks.specs.Refusals.{unlessMismatch, unlessDefined}
 use Rattle.assignment.specs.Pairs.{Shape, items, fields, single, shapeOf, Flat, failed, paired, flatten, pairsEntries}
 
 -- an array against an object

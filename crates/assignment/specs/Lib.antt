@@ -1,9 +1,5 @@
-pub mod Structure
 pub mod Post
-pub mod Texts
-pub mod PatternStructure
 pub mod SomeIn
 pub mod Pairs
 pub mod Assignment
-pub mod Entries
 pub mod PairsPost

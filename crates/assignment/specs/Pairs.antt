@@ -12,7 +12,7 @@ use Rattle.planner.specs.declared.PlanAnswer.{PlanAnswer}
 use Rattle.planner.specs.declared.PlanAnswer.the-variants.{ArraySizeMismatch, ObjectFieldCountMismatch, ObjectKeyNotFound, IncompatibleDestructuringPatterns}
 use Rattle.planner.specs.Plan.{DestructuringPlan, equalityExpr, plan, after}
 use Rattle.planner.specs.Layout.{Entry, entry, entries, introducesBinding, literalKey, Slot, FieldOrder, noFields, addField}
-use Rattle.assignment.specs.Structure.{isEmpty, heldUnder, valueOrder}
+use Rattle.checks.specs.Structure.{isEmpty, heldUnder, valueOrder}
 
 -- a value side, and the plan of the other side
 pub record Pair : Type 0 where

@@ -28,29 +28,15 @@ use Rattle.assignment.specs.declared.pairs.Keys.the-variants.{Matched}
 use Rattle.assignment.specs.declared.pairs.Judgement.{Judgement}
 use Rattle.assignment.specs.declared.pairs.Judgement.the-variants as Judged
 use Rattle.assignment.specs.declared.pairs.Judgement.the-variants.{Compare, BindLeft, BindRight, Refuse}
-use Rattle.assignment.specs.Structure.{heldUnder}
-use Rattle.assignment.specs.Post.{GoodPair}
-use Rattle.assignment.specs.Entries.{entryAt, readEntries}
+use Rattle.checks.specs.Structure.{heldUnder}
+use Rattle.checks.specs.Post.{GoodPair}
+use Rattle.planner.specs.Entries.{readEntries, Wrote}
 use Rattle.assignment.specs.Pairs.{Pair, pair, pairsEntries, Flat, failed, paired, Shape, shapeOf, items as itemsShape, fields as fieldsShape, single, allLiteral, distinctKeys, checkKeys, flatten, flattenAll, flattenFields}
 
 -- `states` calls the names unbound that the scope does and that are not planned so far, and tells `_`
 pub record Scoped (T : Tables) (unbound : ℕ → Bool) (seen states : List ℕ) : Type 0 where
   pub wild : States T states
   pub each : (n : ℕ) → Node T n → kindOf (T .nodes) n ≡ 6 → isWildcard T (firstOf (T .nodes) n) ≡ false → unboundIn states (firstOf (T .nodes) n) ≡ fresh unbound seen (firstOf (T .nodes) n)
-
--- entries go into the buffer from entry `at` on as far as they fit; r is the place after them
-pub record Wrote (before : List ℕ) (at : ℕ) (es : List Entry) (after : List ℕ) (r : ℕ) : Type 0 where
-  pub end : r ≡ at + length es
-  pub long : length after ≡ length before
-  pub stored : r ≤ length before / 4 → after ≡ sets before (at * 4) (words es)
-
-pub record CopyAsks (at count : ℕ) : Type 0 where
-  pub few : count ≤ 512
-  pub low : at ≤ 2 ^ 40
-
-pub record ReadAsks (scratch : List ℕ) (count : ℕ) : Type 0 where
-  pub few : count ≤ 512
-  pub long : length scratch ≡ 2048
 
 -- the plan of a side by the states, its names, and whether it binds
 pub record Previewed (T : Tables) (states : List ℕ) (n : ℕ) (binders scratch : List ℕ) (count : ℕ) (binds : Bool) : Type 0 where

@@ -9,20 +9,14 @@ use Rattle.table.specs.Tables.{Tables, isNode}
 use Rattle.table.specs.Expr.{Expr, literal, name, wildcard, array, set, object, other, Exprs, none, item}
 use Rattle.table.specs.Decode.{expr}
 use Rattle.table.specs.Check.{checked}
-use Rattle.planner.specs.declared.PlanAnswer.the-variants.{RootOutside, ArrayLengthMismatch, ObjectLiteralKeysMismatch, VariableAlreadyDefined}
+use Rattle.planner.specs.declared.PlanAnswer.the-variants.{RootOutside}
 use Rattle.planner.specs.Plan.{DestructuringPlan}
 use Rattle.planner.specs.Layout.{Entry, entries}
 use Rattle.planner.specs.Operations.{Outcome, refused, planned, tableFirst, planOf, validated}
-use Rattle.assignment.specs.declared.LiteralStructureCheck.{LiteralStructureCheck}
-use Rattle.assignment.specs.declared.LiteralStructureCheck.the-variants.{Match, Unknown, ArrayMismatch, ObjectMismatch}
-use Rattle.assignment.specs.Structure.{structure}
-
--- a mismatch refuses, anything else goes on
-abbrev pub unlessMismatch : LiteralStructureCheck → Outcome → Outcome
-unlessMismatch Match o = o
-unlessMismatch Unknown o = o
-unlessMismatch (ArrayMismatch value expected actual) o = refused (ArrayLengthMismatch value expected actual)
-unlessMismatch (ObjectMismatch value pattern) o = refused (ObjectLiteralKeysMismatch value pattern)
+use Rattle.checks.specs.declared.LiteralStructureCheck.{LiteralStructureCheck}
+use Rattle.checks.specs.declared.LiteralStructureCheck.the-variants.{Match, Unknown, ArrayMismatch, ObjectMismatch}
+use Rattle.checks.specs.Structure.{structure}
+use Rattle.checks.specs.Refusals.{unlessMismatch, unlessDefined}
 
 -- an item that matches or is unknown excuses every mismatch; else the first mismatch counts
 abbrev pub joinItem : LiteralStructureCheck → LiteralStructureCheck → LiteralStructureCheck
@@ -50,10 +44,6 @@ collectionStructure (wildcard n) p = Unknown
 collectionStructure (set n es) p = Unknown
 collectionStructure (object n fs) p = Unknown
 collectionStructure (other n) p = Unknown
-
--- a name that is defined already refuses
-abbrev pub unlessDefined : ℕ → Outcome → Outcome
-unlessDefined node o = cond (eqb node 0) o (refused (VariableAlreadyDefined node))
 
 -- key root 0 says that there is no key
 abbrev pub keyCheck : Tables → Scope → ℕ → ℕ

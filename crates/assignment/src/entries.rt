@@ -2,15 +2,16 @@
 ghost use mathlib.Core.Path.{_≡_};
 ghost use Prim.Native.Nat.{_≤_};
 ghost use Rattle.planner.specs.Layout.{bindsAny};
-ghost use Rattle.assignment.specs.Entries.{readEntries};
+ghost use Rattle.planner.specs.Entries.{readEntries};
+ghost use Rattle.assignment.specs.Post.{ReadAsks};
 ghost use Rattle.assignment.specs.Assignment.{boundHere, firstSameScope};
 use scope::Binding;
 use scope::Scope;
 use table::reading::first_of;
 
-// Does an entry bind or ignore?
-pub(crate) fn introduces_binding(scratch: &[u32; 2048], count: usize) -> bool
-    requires { ⌜ count ≤ 512 ⌝ }
+// Does one of the first entries bind or ignore?
+pub(crate) fn introduces_binding(scratch: &[u32], count: usize) -> bool
+    requires { ⌜ ReadAsks (now scratch) count ⌝ }
     ensures { λ r. ⌜ r ≡ bindsAny (readEntries (now (scratch .entry)) 0 count) ⌝ }
 {
     let mut i: usize = 0;

@@ -8,18 +8,21 @@ ghost use Rattle.scope.specs.declared.ScopingMode.the-variants.{RespectParent};
 ghost use Rattle.scope.specs.Scope.{isUnbound};
 ghost use Rattle.table.specs.Tables.{tables};
 ghost use Rattle.table.specs.Decode.{expr};
-ghost use Rattle.planner.specs.Layout.{entry, bindsAny};
+ghost use Rattle.planner.specs.Layout.{entry};
 ghost use Rattle.planner.specs.Operations.{Answered};
-ghost use Rattle.planner.specs.Post.{Walks, Delivered, wordAt, tabulate};
+ghost use Rattle.planner.specs.Post.{Walks};
 ghost use Rattle.assignment.specs.declared.pairs.Pairing.the-variants.{Whole};
 ghost use Rattle.assignment.specs.Pairs.{flatten, allLiteral, shapeOf};
 ghost use Rattle.assignment.specs.Assignment.{flatOutcome};
-ghost use Rattle.assignment.specs.PairsPost.{Wrote, CopyAsks, ReadAsks, Previewed, LearntAt, Learnt, pairingOf, judgementOf, fieldsOf, ObjectAsks, ObjectsAsks, FindAsks, partnerOf, MissingAsks, missingFrom, KeysAsks, KeysMatched, FieldAsks, FieldSides, SidesAsks, SidesTold, Judges, Compared, BindAsks, FlattenAsks, ArraysAsks, ByKeyAsks, ItemsAsks, ObjectFieldsAsks, Flattens, sideFlat, nodesFlat, arraysFlat, objectsFlat, itemsFlat, mostOf, mostItems};
-ghost use Rattle.assignment.specs.Entries.{readEntries};
-ghost use Rattle.assignment.specs.Post.{GoodPair};
+ghost use Rattle.assignment.specs.PairsPost.{Previewed, LearntAt, Learnt, pairingOf, judgementOf, fieldsOf, ObjectAsks, ObjectsAsks, FindAsks, partnerOf, MissingAsks, missingFrom, KeysAsks, KeysMatched, FieldAsks, FieldSides, SidesAsks, SidesTold, Judges, Compared, BindAsks, FlattenAsks, ArraysAsks, ByKeyAsks, ItemsAsks, ObjectFieldsAsks, Flattens, sideFlat, nodesFlat, arraysFlat, objectsFlat, itemsFlat, mostOf, mostItems};
+ghost use Rattle.checks.specs.Post.{GoodPair};
+use crate::entries::introduces_binding;
 use literal::Comparison;
 use planner::PlanAnswer;
 use planner::buffer::clear;
+use planner::buffer::close;
+use planner::buffer::copy_entries;
+use planner::buffer::put_entry;
 use planner::context::name_states;
 use planner::destructuring::create_destructuring_plan_with_tracking;
 use planner::fields::field_at;
@@ -80,40 +83,6 @@ pub struct Sides {
     pub right: bool,
 }
 
-// One entry, if the buffer has space for it.
-fn put_entry(plan: &mut [u32], at: usize, kind: u32, node: u32, count: u32, key: u32)
-    ensures { λ _. ⌜ Wrote (now (plan .entry)) at (entry kind node count key ∷ []) (now (plan .exit)) (at + 1) ⌝ }
-{
-    if at < plan.len() / 4 {
-        let base = at * 4;
-        plan[base] = kind;
-        plan[base + 1] = node;
-        plan[base + 2] = count;
-        plan[base + 3] = key;
-    }
-}
-
-// The first entries of a scratch; the next entry's place.
-fn copy_entries(plan: &mut [u32], at: usize, scratch: &[u32; 2048], count: usize) -> usize
-    requires { ⌜ CopyAsks at count ⌝ }
-    ensures { λ r. ⌜ Wrote (now (plan .entry)) at (readEntries (now (scratch .entry)) 0 count) (now (plan .exit)) r ⌝ }
-{
-    let mut i: usize = 0;
-    while i < count {
-        let from = i * 4;
-        put_entry(
-            plan,
-            at + i,
-            scratch[from],
-            scratch[from + 1],
-            scratch[from + 2],
-            scratch[from + 3],
-        );
-        i += 1;
-    }
-    at + count
-}
-
 // The two sides compared, as a pair.
 fn compare_sides(plan: &mut [u32], at: usize, left: u32, right: u32) -> Flattened
     requires { ⌜ at ≤ 2 ^ 32 ⌝ }
@@ -122,52 +91,6 @@ fn compare_sides(plan: &mut [u32], at: usize, left: u32, right: u32) -> Flattene
     put_entry(plan, at, 7, right, 1, 0);
     put_entry(plan, at + 1, 3, left, 0, 0);
     Flattened::Next { at: at + 2 }
-}
-
-// Zeros from word `from` on.
-fn clear_after(plan: &mut [u32], from: usize)
-    ensures { λ _. ⌜ now (plan .exit) ≡ tabulate (wordAt (now (plan .entry)) from) 0 (length (now (plan .entry))) ⌝ }
-{
-    let mut i = from;
-    while i < plan.len() {
-        plan[i] = 0;
-        i += 1;
-    }
-}
-
-// `at` entries are in the buffer, if it has space for them.
-fn close(plan: &mut [u32], at: usize) -> PlanAnswer
-    ensures { λ r. ⌜ Delivered (now (plan .entry)) 4 0 at (now (plan .entry)) (now (plan .exit)) r ⌝ }
-{
-    if plan.len() / 4 < at {
-        clear(plan);
-        return PlanAnswer::PlanTooLarge { needed: at };
-    }
-    clear_after(plan, at * 4);
-    PlanAnswer::Planned {
-        form: 4,
-        side: 0,
-        entries: at,
-    }
-}
-
-// Does one of the first entries bind or ignore?
-fn binds_any(scratch: &[u32], count: usize) -> bool
-    requires { ⌜ ReadAsks (now scratch) count ⌝ }
-    ensures { λ r. ⌜ r ≡ bindsAny (readEntries (now (scratch .entry)) 0 count) ⌝ }
-{
-    let mut i: usize = 0;
-    while i < count {
-        let kind = scratch[i * 4];
-        if kind == 1 {
-            return true;
-        }
-        if kind == 2 {
-            return true;
-        }
-        i += 1;
-    }
-    false
 }
 
 // The plan of a side by the states alone, in the scratch.
@@ -199,7 +122,7 @@ fn preview_binding_plan(
         binders,
         scratch,
     );
-    let binds = binds_any(scratch, count);
+    let binds = introduces_binding(scratch, count);
     Preview { count, binds }
 }
 
@@ -1000,7 +923,7 @@ fn deliver_pairs(
         plan,
         0,
     ) {
-        Flattened::Next { at } => return close(plan, at),
+        Flattened::Next { at } => return close(plan, 4, at),
         Flattened::Refused(answer) => {
             clear(plan);
             return answer;

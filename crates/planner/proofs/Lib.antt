@@ -13,6 +13,8 @@ pub mod Filling
 pub mod States
 pub mod SamePlan
 pub mod Tracked
+pub mod ReadBack
+pub mod Copies
 pub mod Operations
 pub mod Validating
 pub mod Examples

@@ -4,10 +4,10 @@ use mathlib.Core.Path.{_≡_, refl, sym, ap, subst, _∙_}
 use mathlib.Core.List.{List, [], _∷_, _++_}
 use mathlib.Core.Bool.{Bool, true, false, cond, not, _&&_, false≢true}
 use native.Mathlib.Omega.{arith}
-use borrow.Author.Tests.{le-leb, lt-leb, leb-true, leb-false, not-true, not-false, lt-ltb, le-ltb, ltb-true, ltb-false}
-use lib.Dec.{eqb, leb, ltb}
-use lib.ListN.{length, getD, take, drop, replicate, length-replicate, getD-replicate, length-append, length-drop, List·getD-append}
-use lib.Seq.{sets, sets-eq, ext-getD, getD-append-add, getD-drop}
+use borrow.Author.Tests.{leb-true, not-true, not-false}
+use lib.Dec.{eqb, leb}
+use lib.ListN.{length, getD, replicate, length-replicate}
+use lib.Seq.{length-sets}
 use Rattle.scope.specs.declared.Scope.{Scope}
 use Rattle.scope.specs.declared.ScopingMode.{ScopingMode}
 use Rattle.scope.specs.Scope.{isUnbound}
@@ -25,12 +25,12 @@ use Rattle.planner.specs.declared.PlanAnswer.the-variants.{Planned, Tabl
 use Rattle.planner.specs.Plan.{DestructuringPlan, plan, after}
 use Rattle.planner.specs.Layout.{Entry, entries, words}
 use Rattle.planner.specs.Passes.{unboundIn, bindersOf}
+use Rattle.planner.specs.Entries.{readEntries}
 use Rattle.planner.specs.Operations.{Outcome, refused, planned, space, fits, zeros, answered, written, Answered, tableFirst, isSound, rootInside, planOf, patternPlanned, patternOutcome}
-use Rattle.planner.specs.Post.{NameNumber, States, StatesOf, Walks, Laid, PlanAsks, PlannedBy, PatternAsks, PatternPlanned, GoodRoot, Delivered, wordAt, tabulate}
+use Rattle.planner.specs.Post.{NameNumber, States, StatesOf, Walks, Laid, PlanAsks, PlannedBy, PatternAsks, PatternPlanned, GoodRoot, Delivered}
 use Rattle.planner.proofs.Binders.{bound-agree-of}
 use Rattle.planner.proofs.SamePlan.{states-wild, same-plan, same-after}
-use Rattle.planner.proofs.Filling.{length-tabulate, getD-tabulate}
-use Rattle.planner.proofs.Written.{length-words}
+use Rattle.planner.proofs.ReadBack.{read-laid, delivered-read}
 
 -- a pattern under a scope
 module _ (T : Tables) (s : Scope) (mode : ScopingMode) (root : ℕ) {start : List ℕ} (a : PatternAsks T root start) where
@@ -50,6 +50,10 @@ module _ (T : Tables) (s : Scope) (mode : ScopingMode) (root : ℕ) {start : Lis
       laid = subst (λ (q : DestructuringPlan). Laid before 0 (entries q 0) later r) (same-plan T s mode states of (a .table) root (a .node) []) (p .laid);
       few = p .few;
     }
+
+pub refuses : (a : PlanAnswer) {before later : List ℕ} → later ≡ replicate (length before) 0 → Answered (refused a) before later a
+unfolding answered written
+refuses a e = record { answer = refl; buffer = e }
 
 -- the table check, the root, and a plan that is delivered
 sound-is : (c : TableAnswer) → isSound c ≡ true → c ≡ Sound
@@ -103,60 +107,18 @@ module _ (T : Tables) (s : Scope) {c : TableAnswer} (is : c ≡ checked T s) {ok
             let e : tableFirst (checked T s) (rootInside T root o) ≡ o = simp (q, n) in
             rw e p
 
--- the scratch, then the buffer
-scratch-word : (es : List Entry) (scratch : List ℕ) (i : ℕ) → length es ≤ 512 → scratch ≡ sets (replicate 2048 0) 0 (words es) → i < length es * 4 → getD scratch i 0 ≡ getD (words es) i 0
-scratch-word es scratch i few e lt =
-    let w = length-words es in
-    let blank : List ℕ = replicate 2048 0 in
-    let z : 0 + length (words es) ≤ length blank = omega (arith, length-replicate {A = ℕ} 2048 0) in
-    ap (λ (l : List ℕ). getD l i 0) (e ∙ sets-eq (words es) blank 0 z) ∙ List·getD-append (words es) _ 0 i (omega arith)
-
-buffer-words : (es : List Entry) (scratch before : List ℕ) → length es ≤ 512 → scratch ≡ sets (replicate 2048 0) 0 (words es) → length es ≤ length before / 4
-    → tabulate (wordAt scratch (length es * 4)) 0 (length before) ≡ words es ++ drop (4 * length es) (replicate (length before) 0)
-buffer-words es scratch before few e le =
-    let w = length-words es in
-    let longer = length-append (words es) (drop (4 * length es) (replicate (length before) 0)) in
-    let dropped = length-drop {A = ℕ} (4 * length es) (replicate (length before) 0) in
-    let size = length-replicate {A = ℕ} (length before) 0 in
-    ext-getD 0 (tabulate (wordAt scratch (length es * 4)) 0 (length before)) (words es ++ drop (4 * length es) (replicate (length before) 0))
-    (length-tabulate (wordAt scratch (length es * 4)) 0 (length before) ∙ omega arith)
-    (λ i lt. at i (rw (length-tabulate (wordAt scratch (length es * 4)) 0 (length before)) at lt))
-  where
-    at : (i : ℕ) → i < length before → getD (tabulate (wordAt scratch (length es * 4)) 0 (length before)) i 0 ≡ getD (words es ++ drop (4 * length es) (replicate (length before) 0)) i 0
-    at i lt =
-        let z : 0 + i ≡ i = omega arith in
-        getD-tabulate (wordAt scratch (length es * 4)) 0 (length before) i lt ∙ (ap (wordAt scratch (length es * 4)) z ∙ by (ltb i (length es * 4)) refl)
-      where
-        by : (b : Bool) → ltb i (length es * 4) ≡ b → wordAt scratch (length es * 4) i ≡ getD (words es ++ drop (4 * length es) (replicate (length before) 0)) i 0
-        by true p =
-            let w = length-words es in
-            let below = ltb-true i (length es * 4) p in
-            simp p (scratch-word es scratch i few e below ∙ sym (List·getD-append (words es) (drop (4 * length es) (replicate (length before) 0)) 0 i (omega arith)))
-        by false p =
-            let w = length-words es in
-            let above = ltb-false i (length es * 4) p in
-            let split : i ≡ length (words es) + (i - length (words es)) = omega arith in
-            simp p (sym (
-            ap (λ (k : ℕ). getD (words es ++ drop (4 * length es) (replicate (length before) 0)) k 0) split
-            ∙ (getD-append-add (words es) (drop (4 * length es) (replicate (length before) 0)) (i - length (words es)) 0
-            ∙ (getD-drop (4 * length es) (replicate (length before) 0) (i - length (words es)) 0
-            ∙ getD-replicate (length before) (4 * length es + (i - length (words es))) 0 0 (omega arith)))))
+-- entries in the scratch, read back and delivered
+scratch-read : (es : List Entry) {scratch : List ℕ} {count : ℕ} → count ≤ 512 → Laid (replicate 2048 0) 0 es scratch count → readEntries scratch 0 count ≡ es
+scratch-read es few l =
+    let long = ap length (l .stored) ∙ (length-sets (replicate 2048 0) 0 (words es) ∙ length-replicate {A = ℕ} 2048 0) in
+    read-laid l (omega arith)
 
 pub delivered : (form side : ℕ) (es : List Entry) {scratch before later : List ℕ} {count : ℕ} {r : PlanAnswer} → count ≤ 512 → Laid (replicate 2048 0) 0 es scratch count → Delivered scratch form side count before later r → Answered (planned form side es) before later r
-unfolding answered written
 delivered form side es {scratch} {before} {later} {count} {r} few l d =
-    let size : count ≡ length es = let e = l .end in omega arith in
-    go size (leb (length es) (length before / 4)) refl
-  where
-    go : count ≡ length es → (b : Bool) → leb (length es) (length before / 4) ≡ b → Answered (planned form side es) before later r
-    go size true p = record {
-      answer = rw size at (d .answer);
-      buffer = simp p ((simp p at (rw size at (d .buffer))) ∙ buffer-words es scratch before (rw size at few) (l .stored) (leb-true (length es) (length before / 4) p));
-    }
-    go size false p = record {
-      answer = rw size at (d .answer);
-      buffer = simp p (simp p at (rw size at (d .buffer)));
-    }
+    subst (λ (fs : List Entry). Answered (planned form side fs) before later r) (scratch-read es few l) (delivered-read form side d)
+
+pub read-plan : (T : Tables) (s : Scope) (mode : ScopingMode) (root : ℕ) {binders scratch : List ℕ} {count : ℕ} → PatternPlanned T s mode root (replicate 2048 0) binders scratch count → readEntries scratch 0 count ≡ entries (planOf T s mode root) 0
+read-plan T s mode root p = scratch-read (entries (planOf T s mode root) 0) (p .few) (p .laid)
 
 -- a pattern's plan, delivered
 pub ask-pattern : (T : Tables) (root : ℕ) → GoodRoot T root → PatternAsks T root (replicate 128 0)

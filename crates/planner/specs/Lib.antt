@@ -7,6 +7,7 @@ pub mod Operations
 pub mod Laws
 pub mod Passes
 pub mod Post
+pub mod Entries
 pub mod Ordering
 pub mod Validation
 pub mod Trial

@@ -192,7 +192,7 @@ fn first_defined_children(
 }
 
 // The first name of a pattern that is defined already, or 0. `binders` are those of its plan.
-pub(crate) fn validate_pattern_bindings(
+pub fn validate_pattern_bindings(
     nodes: &[u32],
     children: &[u32],
     numbers: &[u64],

@@ -1,11 +1,12 @@
-use Rattle.assignment.proofs.Binding.{delivered-read, side-opposed, side-match, side-unknown, side-array, side-object}
+use Rattle.planner.proofs.ReadBack.{delivered-read}
+use Rattle.assignment.proofs.Binding.{side-opposed, side-match, side-unknown, side-array, side-object}
 use borrow.Author.Needs.{needs}
 use Rattle.assignment.proofs.assignment.bind_side.Statement.{statement}
 use Rattle.assignment.proofs.assignment.bind_side.Tie as tie
 use Rattle.assignment.proofs.assignment.bind_side.Reads as reads
 use Rattle.assignment.proofs.assignment.bind_side.Lts as lts
 use Rattle.assignment.proofs.assignment.incompatible.Reads as incompatible-reads
-use Rattle.assignment.proofs.utils.check_literal_structure.Reads as check-literal-structure-reads
+use Rattle.checks.proofs.utils.check_literal_structure.Reads as check-literal-structure-reads
 use Rattle.planner.proofs.buffer.clear.Reads as clear-reads
 use Rattle.planner.proofs.buffer.deliver.Reads as deliver-reads
 

@@ -1,6 +1,7 @@
 use Prim.Native.Nat.{_-_, _≤_}
 use native.Mathlib.Omega.{arith}
 use Rattle.planner.specs.Layout.{bindsAny}
+use Rattle.assignment.specs.Post.{ReadAsks}
 use Rattle.assignment.proofs.Reading.{Scanning, scanning-start, any-binds, any-ignores, any-on, any-ends}
 use borrow.Author.Needs.{needs}
 use Rattle.assignment.proofs.entries.introduces_binding.Statement.{statement}
@@ -9,7 +10,7 @@ use Rattle.assignment.proofs.entries.introduces_binding.Reads as reads
 use Rattle.assignment.proofs.entries.introduces_binding.Lts as lts
 
 abbrev Inv-loop : tie.InvT-loop
-Inv-loop scratch count i₀ i = Scanning bindsAny scratch count i × (count ≤ 512)
+Inv-loop scratch count i₀ i = Scanning bindsAny scratch count i × ReadAsks scratch count
 
 abbrev μ-loop : tie.MeasureT-loop
 μ-loop scratch count i₀ i = count - i
@@ -27,8 +28,8 @@ mul-kind-2 : tie.Need-mul-kind-2 Inv-loop μ-loop
 mul-kind-2 c = search needs
 
 -- src/entries.rt:22:20
-element-copy-out-kind : tie.Need-element-copy-out-kind Inv-loop μ-loop
-element-copy-out-kind c = search needs
+shared-slice-read-kind : tie.Need-shared-slice-read-kind Inv-loop μ-loop
+shared-slice-read-kind c = search needs
 
 -- src/entries.rt:24:13
 returns : tie.Need-returns Inv-loop μ-loop
@@ -63,7 +64,7 @@ introduces-binding-spec =
     loop-holds
     mul-kind
     mul-kind-2
-    element-copy-out-kind
+    shared-slice-read-kind
     returns
     returns-2
     add-i

@@ -4,10 +4,10 @@ use Rattle.assignment.proofs.pairs.bind_side.Statement.{statement}
 use Rattle.assignment.proofs.pairs.bind_side.Tie as tie
 use Rattle.assignment.proofs.pairs.bind_side.Reads as reads
 use Rattle.assignment.proofs.pairs.bind_side.Lts as lts
-use Rattle.assignment.proofs.pairs.copy_entries.Reads as copy-entries-reads
+use Rattle.planner.proofs.buffer.copy_entries.Reads as copy-entries-reads
 use Rattle.assignment.proofs.pairs.learn_names.Reads as learn-names-reads
 use Rattle.assignment.proofs.pairs.preview_binding_plan.Reads as preview-binding-plan-reads
-use Rattle.assignment.proofs.pairs.put_entry.Reads as put-entry-reads
+use Rattle.planner.proofs.buffer.put_entry.Reads as put-entry-reads
 
 -- src/pairs.rt:198:9
 preview-binding-plan-requires : tie.Need-preview-binding-plan-requires

@@ -4,7 +4,7 @@ use Rattle.assignment.proofs.pairs.compare_sides.Statement.{statement}
 use Rattle.assignment.proofs.pairs.compare_sides.Tie as tie
 use Rattle.assignment.proofs.pairs.compare_sides.Reads as reads
 use Rattle.assignment.proofs.pairs.compare_sides.Lts as lts
-use Rattle.assignment.proofs.pairs.put_entry.Reads as put-entry-reads
+use Rattle.planner.proofs.buffer.put_entry.Reads as put-entry-reads
 
 -- src/pairs.rt:101:5
 put-entry-requires : tie.Need-put-entry-requires

@@ -4,7 +4,7 @@ use Rattle.assignment.proofs.pairs.deliver_pairs.Statement.{statement}
 use Rattle.assignment.proofs.pairs.deliver_pairs.Tie as tie
 use Rattle.assignment.proofs.pairs.deliver_pairs.Reads as reads
 use Rattle.assignment.proofs.pairs.deliver_pairs.Lts as lts
-use Rattle.assignment.proofs.pairs.close.Reads as close-reads
+use Rattle.planner.proofs.buffer.close.Reads as close-reads
 use Rattle.assignment.proofs.pairs.flatten.Reads as flatten-reads
 use Rattle.planner.proofs.buffer.clear.Reads as clear-reads
 use Rattle.planner.proofs.context.name_states.Reads as name-states-reads

@@ -4,7 +4,7 @@ use Rattle.assignment.proofs.pairs.preview_binding_plan.Statement.{stat
 use Rattle.assignment.proofs.pairs.preview_binding_plan.Tie as tie
 use Rattle.assignment.proofs.pairs.preview_binding_plan.Reads as reads
 use Rattle.assignment.proofs.pairs.preview_binding_plan.Lts as lts
-use Rattle.assignment.proofs.pairs.binds_any.Reads as binds-any-reads
+use Rattle.assignment.proofs.entries.introduces_binding.Reads as introduces-binding-reads
 use Rattle.planner.proofs.buffer.clear.Reads as clear-reads
 use Rattle.planner.proofs.destructuring.create_destructuring_plan_with_tracking.Reads as create-destructuring-plan-with-tracking-reads
 
@@ -18,8 +18,8 @@ create-destructuring-plan-with-tracking-requires :
 create-destructuring-plan-with-tracking-requires c κs = search (ask-preview, needs)
 
 -- src/pairs.rt:153:9
-binds-any-requires : tie.Need-binds-any-requires
-binds-any-requires c κs = search needs
+introduces-binding-requires : tie.Need-introduces-binding-requires
+introduces-binding-requires c κs = search needs
 
 -- src/pairs.rt:136:1
 returns : tie.Need-returns
@@ -31,5 +31,5 @@ preview-binding-plan-spec =
     (tie.spec
     clear-requires
     create-destructuring-plan-with-tracking-requires
-    binds-any-requires
+    introduces-binding-requires
     returns)

@@ -1,0 +1,468 @@
+-- The structure check by nodes: arrays item by item, objects field by field.
+use Prim.Native.Nat.{ℕ, zero, suc, _+_, _-_, _*_, _≤_, _<_}
+use mathlib.Core.Path.{_≡_, refl, sym, ap, _∙_}
+use mathlib.Core.Bool.{Bool, true, false, cond}
+use mathlib.Core.List.{List, [], _∷_, map}
+use mathlib.Core.Logic.{inl, inr}
+use mathlib.Core.Option.{Option}
+use mathlib.Core.Option as Option
+use native.Mathlib.Omega.{arith}
+use borrow.Author.Tests.{eq-eqb, ne-eqb, eqb-true, eqb-false}
+use lib.Dec.{eqb}
+use lib.ListN.{length, length-map, length-append}
+use mir.Syntax.{w64}
+use mir.Val.{Fits}
+use types.Run.{OneOf}
+use denote.Enum.Declared.{tagOf}
+use Rattle.table.specs.Tables.{Tables, kindOf, firstOf, countOf, width, childAt}
+use Rattle.table.specs.Expr.{Expr, literal, name, wildcard, array, set, object, other, count}
+use Rattle.table.specs.Decode.{expr, items, fields, literalAt, isWildcard}
+use Rattle.table.specs.Sound.{Node, WellFormed}
+use Rattle.table.proofs.Trees.{expr-name, expr-array, expr-object, width-array, items-step, items-end, fields-step, fields-end, child-node}
+use Rattle.planner.specs.Layout.{Slot, FieldOrder, heldIn}
+use Rattle.planner.specs.Passes.{keyNode, valueNode}
+use Rattle.planner.specs.Ordering.{FieldsIn}
+use Rattle.planner.proofs.NodeKinds.{Plain, plain-literal, plain-set, plain-other, plain-kind}
+use Rattle.planner.proofs.FieldOrder.{mapSlot}
+use Rattle.planner.proofs.Objects.{key-literal}
+use Rattle.checks.specs.declared.LiteralStructureCheck.{LiteralStructureCheck}
+use Rattle.checks.specs.declared.LiteralStructureCheck.the-variants.{Match, Unknown, ArrayMismatch, ObjectMismatch}
+use Rattle.checks.proofs.LiteralStructureCheck.{the-type}
+use Rattle.checks.specs.Structure.{andThen, held, partner, objectStructure, slotText, keyTexts, sortTexts, sameTexts, isEmpty}
+use Rattle.checks.specs.Post.{GoodPair}
+use Rattle.checks.specs.PatternStructure.{structureBy, structureByAll, structureByFields, sameSize, ItemsAsk, ObjectsAsk, fieldsOf, orderOfNode, patternsOf, KeysCompared, FieldsAsk, fieldsStructure, FieldAsks, fieldStructure, PartnerAsks, PartnerIs}
+use Rattle.checks.proofs.PatternObjects.{object-key, object-value, object-few, patterns-are}
+
+-- a part that does not match ends the check
+abbrev pub Ends : LiteralStructureCheck → Type 0
+Ends check = OneOf (1 ∷ 2 ∷ 3 ∷ []) (tagOf the-type check)
+
+not-match : OneOf (1 ∷ 2 ∷ 3 ∷ []) 0 → ⊥
+not-match (inl e) = omega arith
+not-match (inr (inl e)) = omega arith
+not-match (inr (inr e)) = omega arith
+
+ended : (check rest : LiteralStructureCheck) → Ends check → check ≡ andThen check rest
+ended Match rest e = absurd (not-match e)
+ended Unknown rest e = refl
+ended (ArrayMismatch n a b) rest e = refl
+ended (ObjectMismatch n m) rest e = refl
+
+-- arrays and objects by their kinds
+unfoldable shape : Expr → ℕ
+shape (literal n l) = 0
+shape (name n x) = 0
+shape (wildcard n) = 0
+shape (array n es) = 7
+shape (set n es) = 0
+shape (object n fs) = 9
+shape (other n) = 0
+
+unlike : (v p : Expr) → (shape v ≡ shape p → ⊥) → Unknown ≡ structureBy v p
+unfolding shape structureBy
+unlike (literal n l) p d = refl
+unlike (name n x) p d = refl
+unlike (wildcard n) p d = refl
+unlike (array n es) (literal m l) d = refl
+unlike (array n es) (name m x) d = refl
+unlike (array n es) (wildcard m) d = refl
+unlike (array n es) (array m ps) d = absurd (d refl)
+unlike (array n es) (set m ps) d = refl
+unlike (array n es) (object m gs) d = refl
+unlike (array n es) (other m) d = refl
+unlike (set n es) p d = refl
+unlike (object n fs) (literal m l) d = refl
+unlike (object n fs) (name m x) d = refl
+unlike (object n fs) (wildcard m) d = refl
+unlike (object n fs) (array m ps) d = refl
+unlike (object n fs) (set m ps) d = refl
+unlike (object n fs) (object m gs) d = absurd (d refl)
+unlike (object n fs) (other m) d = refl
+unlike (other n) p d = refl
+
+leaf-unknown : (v p : Expr) → shape v ≡ 0 → Unknown ≡ structureBy v p
+unfolding shape structureBy
+leaf-unknown (literal n l) p e = refl
+leaf-unknown (name n x) p e = refl
+leaf-unknown (wildcard n) p e = refl
+leaf-unknown (array n es) p e = absurd (omega arith)
+leaf-unknown (set n es) p e = refl
+leaf-unknown (object n fs) p e = absurd (omega arith)
+leaf-unknown (other n) p e = refl
+
+module _ (T : Tables) (w : WellFormed T) (n : ℕ) (v : Node T n) where
+  shape-leaf : (kindOf (T .nodes) n ≡ 7 → ⊥) → (kindOf (T .nodes) n ≡ 9 → ⊥) → shape (expr T n) ≡ 0
+  unfolding shape
+  shape-leaf not-7 not-9 = go (eqb (kindOf (T .nodes) n) 6) refl (isWildcard T (firstOf (T .nodes) n)) refl
+    where
+      plain : (e : Expr) → expr T n ≡ e → Plain (kindOf (T .nodes) n) n e → shape (expr T n) ≡ 0
+      plain e q (plain-literal l h) = ap shape q
+      plain e q (plain-set es h) = ap shape q
+      plain e q (plain-other h) = ap shape q
+
+      go : (a : Bool) → eqb (kindOf (T .nodes) n) 6 ≡ a → (b : Bool) → isWildcard T (firstOf (T .nodes) n) ≡ b → shape (expr T n) ≡ 0
+      go true p true q = let tree : expr T n ≡ wildcard n = expr-name T w n v (eqb-true _ _ p) ∙ simp q in ap shape tree
+      go true p false q = let tree : expr T n ≡ name n (firstOf (T .nodes) n) = expr-name T w n v (eqb-true _ _ p) ∙ simp q in ap shape tree
+      go false p b q = let k = plain-kind T w n v (eqb-false _ _ p) not-7 not-9 in plain (k .0) (k .1) (k .2)
+
+  shape-array : kindOf (T .nodes) n ≡ 7 → shape (expr T n) ≡ 7
+  unfolding shape
+  shape-array k = ap shape (expr-array T w n v k)
+
+  shape-object : kindOf (T .nodes) n ≡ 9 → shape (expr T n) ≡ 9
+  unfolding shape
+  shape-object k = ap shape (expr-object T w n v k)
+
+  -- a node of a shape has the kind
+  kind-of-shape : (k : ℕ) → shape (expr T n) ≡ k → (k ≡ 0 → ⊥) → kindOf (T .nodes) n ≡ k
+  kind-of-shape k e some = go (eqb (kindOf (T .nodes) n) 7) refl (eqb (kindOf (T .nodes) n) 9) refl
+    where
+      go : (a : Bool) → eqb (kindOf (T .nodes) n) 7 ≡ a → (b : Bool) → eqb (kindOf (T .nodes) n) 9 ≡ b → kindOf (T .nodes) n ≡ k
+      go true p b q = let i = eqb-true _ _ p in i ∙ (sym (shape-array i) ∙ e)
+      go false p true q = let i = eqb-true _ _ q in i ∙ (sym (shape-object i) ∙ e)
+      go false p false q = absurd (some (sym e ∙ shape-leaf (eqb-false _ _ p) (eqb-false _ _ q)))
+
+count-items : (g : ℕ → Expr) (ch : List ℕ) (at k : ℕ) → count (items g ch at k) ≡ k
+unfolding items count
+count-items g ch at zero = refl
+count-items g ch at (suc k) = let h = count-items g ch (at + 1) k in omega arith
+
+module _ {T : Tables} {pattern value : ℕ} (a : GoodPair T pattern value) {kind other-kind : ℕ} (is-kind : kind ≡ kindOf (T .nodes) value) (is-other : other-kind ≡ kindOf (T .nodes) pattern) where
+  pub kinds-differ : (other-kind ≡ kind → ⊥) → Unknown ≡ structureBy (expr T value) (expr T pattern)
+  kinds-differ d = go (eqb (shape (expr T value)) 0) refl
+    where
+      go : (b : Bool) → eqb (shape (expr T value)) 0 ≡ b → Unknown ≡ structureBy (expr T value) (expr T pattern)
+      go true p = leaf-unknown (expr T value) (expr T pattern) (eqb-true _ _ p)
+      go false p =
+          let some = eqb-false _ _ p in
+          unlike (expr T value) (expr T pattern) (λ e. d (is-other
+          ∙ (kind-of-shape T (a .table) pattern (a .first) (shape (expr T value)) (sym e) some
+          ∙ (sym (kind-of-shape T (a .table) value (a .second) (shape (expr T value)) refl some) ∙ sym is-kind))))
+
+  pub kinds-plain : (kind ≡ 7 → ⊥) → (kind ≡ 9 → ⊥) → Unknown ≡ structureBy (expr T value) (expr T pattern)
+  kinds-plain not-7 not-9 = leaf-unknown (expr T value) (expr T pattern) (shape-leaf T (a .table) value (a .second) (λ e. not-7 (is-kind ∙ e)) (λ e. not-9 (is-kind ∙ e)))
+
+  module _ (alike : other-kind ≡ kind) where
+    pub ask-objects : kind ≡ 9 → ObjectsAsk T pattern value
+    ask-objects k = record { pair = a; pattern-object = sym is-other ∙ (alike ∙ k); value-object = sym is-kind ∙ k }
+
+    module _ (k : kind ≡ 7) {expected actual : ℕ} (is-expected : expected ≡ countOf (T .nodes) pattern) (is-actual : actual ≡ countOf (T .nodes) value) where
+      pattern-array : kindOf (T .nodes) pattern ≡ 7
+      pattern-array = sym is-other ∙ (alike ∙ k)
+
+      value-array : kindOf (T .nodes) value ≡ 7
+      value-array = sym is-kind ∙ k
+
+      arrays : structureBy (expr T value) (expr T pattern) ≡ sameSize value expected actual (structureByAll (items (expr T) (T .children) (firstOf (T .nodes) value) actual) (items (expr T) (T .children) (firstOf (T .nodes) pattern) expected))
+      unfolding structureBy
+      arrays =
+          let p = expr-array T (a .table) pattern (a .first) pattern-array in
+          let v = expr-array T (a .table) value (a .second) value-array in
+          let c = count-items (expr T) (T .children) (firstOf (T .nodes) pattern) expected in
+          let d = count-items (expr T) (T .children) (firstOf (T .nodes) value) actual in
+          rw (p, v, ← is-expected, ← is-actual, c, d)
+
+      pub arrays-mismatch : (actual ≡ expected → ⊥) → ArrayMismatch value expected actual ≡ structureBy (expr T value) (expr T pattern)
+      arrays-mismatch d = sym (arrays ∙ simp (ne-eqb actual expected d))
+
+      module _ (even : actual ≡ expected) {at place : ℕ} (is-at : at ≡ firstOf (T .nodes) pattern) (is-place : place ≡ firstOf (T .nodes) value) where
+        child : (n : ℕ) (v : Node T n) → kindOf (T .nodes) n ≡ 7 → (i : ℕ) → i < countOf (T .nodes) n → Node T (childAt (T .children) (firstOf (T .nodes) n + i)) × (childAt (T .children) (firstOf (T .nodes) n + i) < n)
+        child n v is-array i lt =
+            let e = width-array (kindOf (T .nodes) n) (countOf (T .nodes) n) is-array in
+            let in-width : i < width (T .nodes) n = omega arith in
+            (child-node T (a .table) n v i in-width, a .table .below n v i in-width .1)
+
+        few : (n : ℕ) → Node T n → kindOf (T .nodes) n ≡ 7 → firstOf (T .nodes) n + countOf (T .nodes) n ≤ 512
+        few n v is-array =
+            let e = width-array (kindOf (T .nodes) n) (countOf (T .nodes) n) is-array in
+            let h = a .table .listed n v (omega arith) (omega arith) in
+            let c = a .table .limits .children in
+            omega arith
+
+        pub ask-items : ItemsAsk T value at place actual
+        ask-items =
+            let x = few pattern (a .first) pattern-array in
+            let y = few value (a .second) value-array in
+            record {
+              table = a .table;
+              patterns = λ i lt. rw is-at (child pattern (a .first) pattern-array i (omega arith) .0);
+              values = λ i lt. rw is-place (child value (a .second) value-array i (omega arith));
+              small = (omega arith, omega arith);
+            }
+
+        pub arrays-done : {r : LiteralStructureCheck} → r ≡ structureByAll (items (expr T) (T .children) place actual) (items (expr T) (T .children) at actual) → r ≡ structureBy (expr T value) (expr T pattern)
+        arrays-done e =
+            let q = eq-eqb actual expected even in
+            (rw (is-at, is-place) at e) ∙ sym (arrays ∙ rw (q, even))
+
+-- the items in turn
+pub record CheckingItems (T : Tables) (value at place left i : ℕ) : Type 0 where
+  pub asks : ItemsAsk T value at place left
+  pub inside : i ≤ left
+  pub same : structureByAll (items (expr T) (T .children) (place + i) (left - i)) (items (expr T) (T .children) (at + i) (left - i))
+      ≡ structureByAll (items (expr T) (T .children) place left) (items (expr T) (T .children) at left)
+
+pub items-start : {T : Tables} {value at place left : ℕ} → ItemsAsk T value at place left → CheckingItems T value at place left 0
+items-start {T} {value} {at} {place} {left} a =
+    let x : place + 0 ≡ place = omega arith in
+    let y : at + 0 ≡ at = omega arith in
+    let z : left - 0 ≡ left = omega arith in
+    record { asks = a; inside = omega arith; same = rw (x, y, z) }
+
+module _ {T : Tables} {value at place left i : ℕ} (s : CheckingItems T value at place left i) where
+  pub items-pattern-fits : i < left → Fits w64 (at + i)
+  items-pattern-fits lt = let m = s .asks .small .0 in record { fits = omega arith }
+
+  pub items-value-fits : i < left → Fits w64 (place + i)
+  items-value-fits lt = let m = s .asks .small .1 in record { fits = omega arith }
+
+  pub items-next : i < left → Fits w64 (i + 1)
+  items-next lt = let m = s .asks .small .0 in record { fits = omega arith }
+
+  module _ (lt : i < left) {pattern item : ℕ} (is-pattern : pattern ≡ childAt (T .children) (at + i)) (is-item : item ≡ childAt (T .children) (place + i)) where
+    pub items-pair : GoodPair T pattern item
+    items-pair = record {
+      table = s .asks .table;
+      first = rw is-pattern (s .asks .patterns i lt);
+      second = rw is-item (s .asks .values i lt .0);
+    }
+
+    pub items-below : item < value
+    items-below = rw is-item (s .asks .values i lt .1)
+
+    module _ {check : LiteralStructureCheck} (is-check : check ≡ structureBy (expr T item) (expr T pattern)) where
+      step : andThen check (structureByAll (items (expr T) (T .children) (place + (i + 1)) (left - (i + 1))) (items (expr T) (T .children) (at + (i + 1)) (left - (i + 1))))
+          ≡ structureByAll (items (expr T) (T .children) place left) (items (expr T) (T .children) at left)
+      unfolding structureBy
+      step =
+          let x : place + (i + 1) ≡ place + i + 1 = omega arith in
+          let y : at + (i + 1) ≡ at + i + 1 = omega arith in
+          let z : left - (i + 1) ≡ left - i - 1 = omega arith in
+          let v = items-step (expr T) (T .children) (place + i) (left - i) (omega arith) in
+          let p = items-step (expr T) (T .children) (at + i) (left - i) (omega arith) in
+          rw (x, y, z, is-check, is-pattern, is-item) (sym (rw (v, p)) ∙ s .same)
+
+      pub items-on : check ≡ Match → CheckingItems T value at place left (i + 1)
+      items-on e = record { asks = s .asks; inside = omega arith; same = rw e at step }
+
+      pub items-stop : Ends check → check ≡ structureByAll (items (expr T) (T .children) place left) (items (expr T) (T .children) at left)
+      items-stop e = ended check _ e ∙ step
+
+  pub items-done : left ≤ i → Match ≡ structureByAll (items (expr T) (T .children) place left) (items (expr T) (T .children) at left)
+  unfolding structureBy
+  items-done le =
+      let v = items-end (expr T) (T .children) (place + i) (left - i) (omega arith) in
+      sym (rw v) ∙ s .same
+
+-- two objects
+
+empty-none : {A : Type 0} (l : List A) → length l ≡ 0 → isEmpty l ≡ true
+empty-none [] e = refl
+empty-none (a ∷ l) e = absurd (omega arith)
+
+empty-some : {A : Type 0} (l : List A) → (length l ≡ 0 → ⊥) → isEmpty l ≡ false
+empty-some [] d = absurd (d refl)
+empty-some (a ∷ l) d = refl
+
+texts-mapped : (f : ℕ → Expr) (ss : List (Slot ℕ)) → map slotText (map (mapSlot f) ss) ≡ map slotText ss
+texts-mapped f [] = refl
+texts-mapped f (s ∷ ss) = ap (λ (ts : List (List ℕ)). slotText s ∷ ts) (texts-mapped f ss)
+
+-- the sizes of a pattern's order
+module _ {T : Tables} {pattern value : ℕ} (a : ObjectsAsk T pattern value) {order : List ℕ} {m total : ℕ}
+    (o : FieldsIn T (firstOf (T .nodes) pattern) (countOf (T .nodes) pattern) order m total) where
+  literals-length : length (patternsOf T pattern .literals) ≡ m
+  literals-length =
+      ap (λ (x : FieldOrder Expr). length (x .literals)) (patterns-are T (a .pair .table) pattern (a .pair .first) (a .pattern-object))
+      ∙ (length-map (orderOfNode T pattern .literals) _ ∙ sym (o .counted))
+
+  computed-length : m + length (patternsOf T pattern .computed) ≡ total
+  computed-length =
+      let c = ap (λ (x : FieldOrder Expr). length (x .computed)) (patterns-are T (a .pair .table) pattern (a .pair .first) (a .pattern-object))
+      ∙ length-map (orderOfNode T pattern .computed) _ in
+      let k = o .counted in
+      let s = o .sized in
+      let h = length-map (orderOfNode T pattern .literals) heldIn in
+      let x = length-append (map heldIn (orderOfNode T pattern .literals)) (orderOfNode T pattern .computed) in
+      omega arith
+
+  last-unknown : m < total → isEmpty (patternsOf T pattern .computed) ≡ false
+  last-unknown lt = let c = computed-length in empty-some (patternsOf T pattern .computed) (λ e. omega arith)
+
+  last-match : total ≤ m → isEmpty (patternsOf T pattern .computed) ≡ true
+  last-match le = let c = computed-length in empty-none (patternsOf T pattern .computed) (omega arith)
+
+module _ {T : Tables} {pattern value : ℕ} (a : ObjectsAsk T pattern value) {order : List ℕ} {literals total : ℕ} {same : Bool} (k : KeysCompared T pattern value order literals total same) where
+  objects : structureBy (expr T value) (expr T pattern) ≡ objectStructure value pattern (patternsOf T pattern) (fieldsOf T value) (structureByFields (fieldsOf T value) (patternsOf T pattern .literals))
+  unfolding structureBy
+  objects =
+      let p = expr-object T (a .pair .table) pattern (a .pair .first) (a .pattern-object) in
+      let v = expr-object T (a .pair .table) value (a .pair .second) (a .value-object) in
+      rw (p, v)
+
+  pub objects-empty : total ≡ 0 → Match ≡ structureBy (expr T value) (expr T pattern)
+  objects-empty z =
+      let c = computed-length a (k .ordered) in
+      let l = literals-length a (k .ordered) in
+      let x = empty-none (patternsOf T pattern .literals) (omega arith) in
+      let y = empty-none (patternsOf T pattern .computed) (omega arith) in
+      sym (objects ∙ rw (x, y))
+
+  pub objects-unknown : (total ≡ 0 → ⊥) → literals ≡ 0 → Unknown ≡ structureBy (expr T value) (expr T pattern)
+  objects-unknown d z =
+      let c = computed-length a (k .ordered) in
+      let l = literals-length a (k .ordered) in
+      let x = empty-none (patternsOf T pattern .literals) (omega arith) in
+      let y = empty-some (patternsOf T pattern .computed) (λ e. d (omega arith)) in
+      sym (objects ∙ rw (x, y))
+
+  pub ask-fields : FieldsAsk T pattern value order literals total
+  ask-fields = record { objects = a; ordered = k .ordered; few = k .few }
+
+  module _ (some : literals ≡ 0 → ⊥) where
+    keys-held : structureBy (expr T value) (expr T pattern) ≡ cond same (fieldsStructure T pattern value) (ObjectMismatch value pattern)
+    keys-held =
+        let l = literals-length a (k .ordered) in
+        let x = empty-some (patternsOf T pattern .literals) (λ e. some (omega arith)) in
+        let slots = ap (λ (o : FieldOrder Expr). map slotText (o .literals)) (patterns-are T (a .pair .table) pattern (a .pair .first) (a .pattern-object)) ∙ texts-mapped _ (orderOfNode T pattern .literals) in
+        let e : sameTexts (sortTexts (map slotText (patternsOf T pattern .literals))) (sortTexts (keyTexts (fieldsOf T value))) ≡ same =
+        ap (λ (ts : List (List ℕ)). sameTexts (sortTexts ts) (sortTexts (keyTexts (fieldsOf T value)))) slots ∙ sym (k .same-texts) in
+        objects ∙ rw (x, e)
+
+    pub objects-fields : same ≡ true → {r : LiteralStructureCheck} → r ≡ fieldsStructure T pattern value → r ≡ structureBy (expr T value) (expr T pattern)
+    objects-fields t e = e ∙ sym (keys-held ∙ ap (λ (b : Bool). cond b (fieldsStructure T pattern value) (ObjectMismatch value pattern)) t)
+
+    pub objects-differ : same ≡ false → ObjectMismatch value pattern ≡ structureBy (expr T value) (expr T pattern)
+    objects-differ f = sym (keys-held ∙ ap (λ (b : Bool). cond b (fieldsStructure T pattern value) (ObjectMismatch value pattern)) f)
+
+-- the value's fields in turn
+pub record CheckingFields (T : Tables) (pattern value : ℕ) (order : List ℕ) (literals total count i : ℕ) : Type 0 where
+  pub asks : FieldsAsk T pattern value order literals total
+  pub sized : count ≡ countOf (T .nodes) value
+  pub inside : i ≤ count
+  pub few : count ≤ 256
+  pub same : structureByFields (fields (expr T) (T .children) (firstOf (T .nodes) value + i * 2) (count - i)) (patternsOf T pattern .literals) ≡ structureByFields (fieldsOf T value) (patternsOf T pattern .literals)
+
+pub fields-start : {T : Tables} {pattern value : ℕ} {order : List ℕ} {literals total count : ℕ} → FieldsAsk T pattern value order literals total → count ≡ countOf (T .nodes) value
+    → CheckingFields T pattern value order literals total count 0
+fields-start {T} {pattern} {value} {order} {literals} {total} {count} a e =
+    let x : firstOf (T .nodes) value + 0 * 2 ≡ firstOf (T .nodes) value = omega arith in
+    let z : count - 0 ≡ countOf (T .nodes) value = omega arith in
+    let f = object-few T (a .objects .pair .table) value (a .objects .pair .second) (a .objects .value-object) in
+    record { asks = a; sized = e; inside = omega arith; few = omega arith; same = rw (x, z) }
+
+module _ {T : Tables} {pattern value : ℕ} {order : List ℕ} {literals total count i : ℕ} (s : CheckingFields T pattern value order literals total count i) where
+  pub fields-field : i < count → FieldAsks T pattern value order literals i
+  fields-field lt = let e = s .sized in record { total = total; asks = s .asks; inside = omega arith }
+
+  module _ (lt : i < count) {check : LiteralStructureCheck} (is-check : check ≡ fieldStructure T pattern value i) where
+    field-step : andThen check (structureByFields (fields (expr T) (T .children) (firstOf (T .nodes) value + (i + 1) * 2) (count - (i + 1))) (patternsOf T pattern .literals))
+        ≡ structureByFields (fieldsOf T value) (patternsOf T pattern .literals)
+    unfolding structureBy
+    field-step =
+        let c = s .sized in
+        let x : firstOf (T .nodes) value + (i + 1) * 2 ≡ firstOf (T .nodes) value + i * 2 + 2 = omega arith in
+        let z : count - (i + 1) ≡ count - i - 1 = omega arith in
+        let v = fields-step (expr T) (T .children) (firstOf (T .nodes) value + i * 2) (count - i) (omega arith) in
+        let p = s .asks .objects .pair in
+        let l = key-literal T (p .table) (keyNode T (firstOf (T .nodes) value) i) (object-key T (p .table) value (p .second) (s .asks .objects .value-object) i (omega arith)) in
+        rw (x, z, is-check) (sym (rw (v, l)) ∙ s .same)
+
+    pub fields-on : check ≡ Match → CheckingFields T pattern value order literals total count (i + 1)
+    fields-on e = record { asks = s .asks; sized = s .sized; inside = omega arith; few = s .few; same = rw e at field-step }
+
+    pub fields-stop : Ends check → check ≡ fieldsStructure T pattern value
+    fields-stop e = stops check (structureByFields (fields (expr T) (T .children) (firstOf (T .nodes) value + (i + 1) * 2) (count - (i + 1))) (patternsOf T pattern .literals)) _ e ∙ ap (λ (c : LiteralStructureCheck). andThen c (cond (isEmpty (patternsOf T pattern .computed)) Match Unknown)) field-step
+      where
+        stops : (c rest last : LiteralStructureCheck) → Ends c → c ≡ andThen (andThen c rest) last
+        stops Match rest last e = absurd (not-match e)
+        stops Unknown rest last e = refl
+        stops (ArrayMismatch n a b) rest last e = refl
+        stops (ObjectMismatch n m) rest last e = refl
+
+  fields-all : count ≤ i → fieldsStructure T pattern value ≡ cond (isEmpty (patternsOf T pattern .computed)) Match Unknown
+  unfolding structureBy
+  fields-all le =
+      let v = fields-end (expr T) (T .children) (firstOf (T .nodes) value + i * 2) (count - i) (omega arith) in
+      let e : Match ≡ structureByFields (fieldsOf T value) (patternsOf T pattern .literals) = sym (rw v) ∙ s .same in
+      sym (ap (λ (c : LiteralStructureCheck). andThen c (cond (isEmpty (patternsOf T pattern .computed)) Match Unknown)) e)
+
+  pub fields-unknown : count ≤ i → literals < total → Unknown ≡ fieldsStructure T pattern value
+  fields-unknown le lt = let e = last-unknown (s .asks .objects) (s .asks .ordered) lt in sym (fields-all le ∙ rw e)
+
+  pub fields-match : count ≤ i → total ≤ literals → Match ≡ fieldsStructure T pattern value
+  fields-match le more = let e = last-match (s .asks .objects) (s .asks .ordered) more in sym (fields-all le ∙ rw e)
+
+-- one field
+module _ {T : Tables} {pattern value : ℕ} {order : List ℕ} {literals i : ℕ} (a : FieldAsks T pattern value order literals i) {first : ℕ} (is-first : first ≡ firstOf (T .nodes) value) where
+  place-few : first + i * 2 + 1 < 512
+  place-few =
+      let p = a .asks .objects .pair in
+      let f = object-few T (p .table) value (p .second) (a .asks .objects .value-object) in
+      let l = a .inside in
+      omega arith
+
+  pub field-double : Fits w64 (i * 2)
+  field-double = let p = place-few in record { fits = omega arith }
+
+  pub field-place : Fits w64 (first + i * 2)
+  field-place = let p = place-few in record { fits = omega arith }
+
+  pub field-next : Fits w64 (first + i * 2 + 1)
+  field-next = let p = place-few in record { fits = omega arith }
+
+  module _ {key : ℕ} (is-key : key ≡ childAt (T .children) (first + i * 2)) where
+    own-key : key ≡ keyNode T (firstOf (T .nodes) value) i
+    own-key = rw is-first at is-key
+
+    pub ask-partner : PartnerAsks T pattern order literals key
+    ask-partner =
+        let p = a .asks .objects .pair in
+        record { value = value; total = a .total; asks = a .asks; node = rw own-key (object-key T (p .table) value (p .second) (a .asks .objects .value-object) i (a .inside)) }
+
+    module _ {other-node : ℕ} (is-partner : PartnerIs T (held (literalAt T key) (patternsOf T pattern .literals)) other-node) where
+      held-there : {o : Option Expr} → held (literalAt T key) (patternsOf T pattern .literals) ≡ o
+          → partner o (structureBy (expr T (valueNode T (firstOf (T .nodes) value) i))) ≡ fieldStructure T pattern value i
+      held-there e = sym (ap (λ (o : Option Expr). partner o (structureBy (expr T (valueNode T (firstOf (T .nodes) value) i)))) (rw own-key at e))
+
+      pub field-alone : other-node ≡ 0 → Match ≡ fieldStructure T pattern value i
+      field-alone z = held-there (is-partner .absent z)
+
+      module _ (some : other-node ≡ 0 → ⊥) {child : ℕ} (is-child : child ≡ childAt (T .children) (first + i * 2 + 1)) where
+        own-child : child ≡ valueNode T (firstOf (T .nodes) value) i
+        own-child = rw is-first at is-child
+
+        here : Node T (valueNode T (firstOf (T .nodes) value) i) × (valueNode T (firstOf (T .nodes) value) i < value)
+        here = let p = a .asks .objects .pair in object-value T (p .table) value (p .second) (a .asks .objects .value-object) i (a .inside)
+
+        pub field-pair : GoodPair T other-node child
+        field-pair = record {
+          table = a .asks .objects .pair .table;
+          first = is-partner .there some .0;
+          second = rw own-child (here .0);
+        }
+
+        pub field-below : child < value
+        field-below = rw own-child (here .1)
+
+        pub field-done : {r : LiteralStructureCheck} → r ≡ structureBy (expr T child) (expr T other-node) → r ≡ fieldStructure T pattern value i
+        field-done e = e ∙ (ap (λ (n : ℕ). structureBy (expr T n) (expr T other-node)) own-child ∙ held-there (is-partner .there some .1))
+
+-- the measures, by the value's node: of a pair, of two objects, of items or fields, of one field
+pub object-falls : {T : Tables} {pattern value t : ℕ} → GoodPair T pattern value → 4 * value ≡ t → 4 * value - 1 < t
+object-falls a e = let l = a .second .low in omega arith
+
+pub items-fall : {T : Tables} {pattern value t : ℕ} → GoodPair T pattern value → 4 * value ≡ t → 4 * value - 2 < t
+items-fall a e = let l = a .second .low in omega arith
+
+pub fields-fall : {T : Tables} {pattern value t : ℕ} → ObjectsAsk T pattern value → 4 * value - 1 ≡ t → 4 * value - 2 < t
+fields-fall a e = let l = a .pair .second .low in omega arith
+
+pub field-falls : {T : Tables} {pattern value : ℕ} {order : List ℕ} {literals total t : ℕ} → FieldsAsk T pattern value order literals total → 4 * value - 2 ≡ t → 4 * value - 3 < t
+field-falls a e = let l = a .objects .pair .second .low in omega arith
+
+pub item-falls : {child value t : ℕ} → child < value → 4 * value - 2 ≡ t → 4 * child < t
+item-falls lt e = omega arith
+
+pub child-falls : {child value t : ℕ} → child < value → 4 * value - 3 ≡ t → 4 * child < t
+child-falls lt e = omega arith

@@ -1,0 +1,7 @@
+pub mod TextOrder
+pub mod KeyTexts
+pub mod TextLoops
+pub mod PatternObjects
+pub mod Checks
+pub mod PlanStructure
+pub mod Refused

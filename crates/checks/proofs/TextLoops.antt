@@ -1,0 +1,341 @@
+-- The loops that sort key nodes by their texts and hold two sorted arrays against each other.
+use Prim.Native.Nat.{ℕ, suc, _+_, _-_, _*_, _/_, _≤_, _<_}
+use mathlib.Core.Path.{_≡_, refl, sym, ap, subst, _∙_}
+use mathlib.Core.Bool.{Bool, true, false, _&&_}
+use mathlib.Core.List.{List, []}
+use mathlib.Core.Option.{Option}
+use mathlib.Core.Option as Option
+use native.Mathlib.Omega.{arith}
+use borrow.Author.Tests.{leb-true, leb-false, eq-eqb, ne-eqb}
+use lib.Dec.{leb}
+use lib.ListN.{length, getD, take}
+use mir.Syntax.{w64}
+use mir.Val.{Fits}
+use denote.Enum.Declared.{tagOf}
+use Rattle.literal.specs.Literal.{Literal}
+use Rattle.literal.specs.declared.Comparison.{Comparison}
+use Rattle.literal.specs.declared.Comparison.the-variants.{Less, Equal, Greater, NoLiteral}
+use Rattle.literal.specs.Text.{keyText, textsCompared}
+use Rattle.table.specs.declared.Key.{Key}
+use Rattle.table.specs.declared.Key.the-variants.{Computed}
+use Rattle.table.proofs.Key.{the-type as the-key}
+use Rattle.table.specs.Tables.{Tables, tables, kindOf, childAt}
+use Rattle.table.specs.Decode.{literalNode, refOf}
+use Rattle.table.specs.Sound.{Node, WellFormed}
+use Rattle.planner.specs.Passes.{keyNode, fieldKey}
+use Rattle.planner.specs.Ordering.{RoomAsks, moved}
+use Rattle.planner.specs.Post.{OrderAsks}
+use Rattle.planner.proofs.FieldLoops.{moved-take, ref-above}
+use Rattle.checks.specs.Structure.{sortTexts}
+use Rattle.checks.specs.Texts.{isGreater, isEqual, literalsOf, KeysOf, textAt, TextAsks, TextPlace, AddKeyAsks, insertOr, KeyAdded, textsFrom, SortedKeys, orderedKey, OrderedAsks, agreeFrom, textsAgree, BothAsk, TextsCompared}
+use Rattle.checks.proofs.TextOrder.{after, sort-ascending, after-before, after-behind, blankText, keys-length, compared-at, put-key, texts-agree}
+use Rattle.checks.proofs.KeyTexts.{field-below, sort-or, sort-length, texts-step, texts-none}
+
+-- one comparison
+module _ (x y : Option Literal) {way : Comparison} (is : way ≡ textsCompared x y) where
+  pub after-greater : way ≡ Greater → true ≡ isGreater (textsCompared x y)
+  after-greater e = sym (ap isGreater (sym is ∙ e))
+
+  pub after-less : way ≡ Less → false ≡ isGreater (textsCompared x y)
+  after-less e = sym (ap isGreater (sym is ∙ e))
+
+  pub after-equal : way ≡ Equal → false ≡ isGreater (textsCompared x y)
+  after-equal e = sym (ap isGreater (sym is ∙ e))
+
+  pub after-none : way ≡ NoLiteral → false ≡ isGreater (textsCompared x y)
+  after-none e = sym (ap isGreater (sym is ∙ e))
+
+-- the search for a text's place
+pub record Seeking (lit : ℕ → Option Literal) (keys : List ℕ) (size key low high : ℕ) : Type 0 where
+  pub asks : TextAsks lit keys size key
+  pub spans : low ≤ high
+  pub inside : high ≤ size
+  pub few : size ≤ 256
+  pub before : (q : ℕ) → q < low → isGreater (textAt lit key keys q) ≡ true
+  pub behind : (q : ℕ) → high ≤ q → q < size → isGreater (textAt lit key keys q) ≡ false
+
+pub seeking-start : {lit : ℕ → Option Literal} {keys : List ℕ} {size key : ℕ} → TextAsks lit keys size key → Seeking lit keys size key 0 size
+seeking-start a = record { asks = a; spans = omega arith; inside = omega arith; few = a .few; before = λ q lt. absurd (omega arith); behind = λ q le lt. absurd (omega arith) }
+
+module _ {lit : ℕ → Option Literal} {keys : List ℕ} {size key low high : ℕ} (s : Seeking lit keys size key low high) where
+  texts : List (List ℕ)
+  texts = sortTexts (s .asks .texts)
+
+  -- by the texts
+  at-text : (q : ℕ) → q < size → isGreater (textAt lit key keys q) ≡ after (keyText (s .asks .own)) (getD texts q blankText)
+  unfolding texts
+  at-text q lt = ap isGreater (compared-at (s .asks .sorted) (s .asks .literal) q lt)
+
+  module _ (lt : low < high) {q : ℕ} (is-q : q ≡ low + (high - low) / 2) {b : Bool} (is-b : b ≡ isGreater (textAt lit key keys q)) where
+    pub seeking-up : b ≡ true → Seeking lit keys size key (q + 1) high
+    unfolding texts
+    seeking-up e =
+        let n = s .inside in
+        let l = keys-length (s .asks .sorted) in
+        record {
+          asks = s .asks;
+          spans = omega arith;
+          inside = s .inside;
+          few = s .few;
+          before = λ i h. at-text i (omega arith)
+              ∙ after-before blankText (keyText (s .asks .own)) texts (sort-ascending (s .asks .texts)) q (omega arith) (sym (at-text q (omega arith)) ∙ (sym is-b ∙ e)) i (omega arith);
+          behind = s .behind;
+        }
+
+    pub seeking-down : b ≡ false → Seeking lit keys size key low q
+    unfolding texts
+    seeking-down e =
+        let n = s .inside in
+        let l = keys-length (s .asks .sorted) in
+        record {
+          asks = s .asks;
+          spans = omega arith;
+          inside = omega arith;
+          few = s .few;
+          before = s .before;
+          behind = λ i le h. at-text i h
+              ∙ after-behind blankText (keyText (s .asks .own)) texts (sort-ascending (s .asks .texts)) q (omega arith) (sym (at-text q (omega arith)) ∙ (sym is-b ∙ e)) i le (omega arith);
+        }
+
+  pub seeking-ends : high ≤ low → TextPlace lit keys size key low
+  seeking-ends le =
+      let n = s .spans in
+      let m = s .inside in
+      record { inside = omega arith; before = s .before; behind = λ q l h. s .behind q (omega arith) h }
+
+-- one key node more
+module _ {nodes : List ℕ} {lit : ℕ → Option Literal} {node : ℕ} {keys : List ℕ} {size : ℕ} (a : AddKeyAsks nodes lit node keys size) where
+  pub text-room : {place : ℕ} → TextPlace lit keys size node place → length keys ≡ 256 → RoomAsks keys place size
+  text-room p long = let f = a .few in record { inside = p .inside; room = omega arith }
+
+module _ (nodes numbers strings text : List ℕ) {node : ℕ} {keys : List ℕ} {size : ℕ} (a : AddKeyAsks nodes (literalNode nodes numbers strings text) node keys size) where
+  module _ {key : Key} (is-key : key ≡ refOf nodes node) where
+    pub added-none : key ≡ Computed → KeyAdded (literalNode nodes numbers strings text) node keys size keys size
+    unfolding literalNode
+    added-none e =
+        let n : literalNode nodes numbers strings text node ≡ Option.none = let r = sym is-key ∙ e in rw r in
+        record {
+          added = λ ts k. subst (λ (o : Option Literal). KeysOf (literalNode nodes numbers strings text) keys size (insertOr o ts)) (sym n) k;
+          few = omega arith;
+        }
+
+    found : tagOf the-key key ≡ 0 → (l : Literal) × (literalNode nodes numbers strings text node ≡ Option.some l)
+    found tag = go (leb (kindOf nodes node) 5) refl
+      where
+        go : (b : Bool) → leb (kindOf nodes node) 5 ≡ b → (l : Literal) × (literalNode nodes numbers strings text node ≡ Option.some l)
+        go true h = a .sound (leb-true _ _ h)
+        go false h = let z = ap (tagOf the-key) (is-key ∙ ref-above nodes node (leb-false _ _ h)) in absurd (omega arith)
+
+    pub ask-text : tagOf the-key key ≡ 0 → TextAsks (literalNode nodes numbers strings text) keys size node
+    ask-text tag =
+        let l = found tag in
+        let f = a .few in
+        record { texts = a .texts; sorted = a .sorted; few = omega arith; own = l .0; literal = l .1 }
+
+    module _ (tag : tagOf the-key key ≡ 0) {place : ℕ} (p : TextPlace (literalNode nodes numbers strings text) keys size node place) where
+      pub added-key : length keys ≡ 256 → {later : List ℕ} → later ≡ moved keys place size node → KeyAdded (literalNode nodes numbers strings text) node keys size later (size + 1)
+      added-key long {later} is =
+          let l = found tag in
+          let f = a .few in
+          record {
+            added = λ ts k. subst (λ (o : Option Literal). KeysOf (literalNode nodes numbers strings text) later (size + 1) (insertOr o ts)) (sym (l .1))
+                (put-key k (l .1) place (p .inside) (p .before) (λ lt. p .behind place (omega arith) lt) later
+                (ap (take (size + 1)) is ∙ moved-take keys place size node (p .inside) (omega arith)));
+            few = omega arith;
+          }
+
+-- sorting from the last key to the first
+
+none-sorted : (lit key : ℕ → Option Literal) (n : ℕ) (keys : List ℕ) → KeysOf lit keys 0 (sortTexts (textsFrom key n (n - n)))
+unfolding sortTexts
+none-sorted lit key n keys = let e = texts-none key n in record { own = []; sized = refl; listed = refl; texts = rw e }
+
+one-sorted : {lit : ℕ → Option Literal} (key : ℕ → Option Literal) {n i : ℕ} {keys : List ℕ} {size : ℕ} → KeysOf lit keys size (sortTexts (textsFrom key i (n - i))) → 0 < i → i ≤ n
+    → {node : ℕ} → lit node ≡ key (i - 1) → {later : List ℕ} {r : ℕ} → KeyAdded lit node keys size later r → KeysOf lit later r (sortTexts (textsFrom key (i - 1) (n - (i - 1))))
+one-sorted {lit} key {n} {i} {keys} {size} k low high {node} is {later} {r} added =
+    let e : insertOr (lit node) (sortTexts (textsFrom key i (n - i))) ≡ sortTexts (textsFrom key (i - 1) (n - (i - 1))) =
+    ap (λ (o : Option Literal). insertOr o (sortTexts (textsFrom key i (n - i)))) is
+    ∙ (sym (sort-or (key (i - 1)) (textsFrom key i (n - i))) ∙ ap sortTexts (sym (texts-step key n i low high))) in
+    subst (λ (ts : List (List ℕ)). KeysOf lit later r ts) e (added .added (sortTexts (textsFrom key i (n - i))) k)
+
+-- a node's literal is sound in a good table
+sound-key : (T : Tables) → WellFormed T → (node : ℕ) → Node T node → kindOf (T .nodes) node ≤ 5 → (l : Literal) × (literalsOf T node ≡ Option.some l)
+sound-key T w node v h = w .literals node v h
+
+pub record SortingWritten (T : Tables) (first count : ℕ) (keys : List ℕ) (size i : ℕ) : Type 0 where
+  pub asks : OrderAsks T first count
+  pub inside : i ≤ count
+  pub few : first + count * 2 ≤ 512
+  pub few-in : size + i ≤ count
+  pub sorted : KeysOf (literalsOf T) keys size (sortTexts (textsFrom (fieldKey T first) i (count - i)))
+
+pub written-start : {T : Tables} {first count : ℕ} → OrderAsks T first count → (keys : List ℕ) → SortingWritten T first count keys 0 count
+written-start {T} {first} {count} a keys =
+    let l = a .listed in
+    let c = a .table .limits .children in
+    record { asks = a; inside = omega arith; few = omega arith; few-in = omega arith; sorted = none-sorted (literalsOf T) (fieldKey T first) count keys }
+
+module _ {T : Tables} {first count : ℕ} {keys : List ℕ} {size i : ℕ} (s : SortingWritten T first count keys size i) where
+  module _ (more : 0 < i) {node : ℕ} (is-node : node ≡ childAt (T .children) (first + (i - 1) * 2)) where
+    written-node : AddKeyAsks (T .nodes) (literalsOf T) node keys size
+    written-node =
+        let n = s .inside in
+        let f = s .few in
+        let g = s .few-in in
+        record {
+          texts = textsFrom (fieldKey T first) i (count - i);
+          sorted = s .sorted;
+          few = omega arith;
+          sound = sound-key T (s .asks .table) node (subst (Node T) (sym is-node) (s .asks .keys (i - 1) (omega arith)));
+        }
+
+    pub written-on : {later : List ℕ} {r : ℕ} → KeyAdded (literalsOf T) node keys size later r → SortingWritten T first count later r (i - 1)
+    written-on k =
+        let n = s .inside in
+        let g = s .few-in in
+        let h = k .few in
+        record {
+          asks = s .asks;
+          inside = omega arith;
+          few = s .few;
+          few-in = omega arith;
+          sorted = one-sorted (fieldKey T first) (s .sorted) more (s .inside) (ap (literalsOf T) is-node) k;
+        }
+
+  pub written-ends : i ≤ 0 → SortedKeys T (fieldKey T first) count keys size
+  written-ends le =
+      let z : i ≡ 0 = omega arith in
+      let y : count - 0 ≡ count = omega arith in
+      let g = s .few-in in
+      record { sorted = rw y at (rw z at (s .sorted)); few = omega arith }
+
+pub written-key : (nodes children numbers names strings text : List ℕ) {first count : ℕ} {keys : List ℕ} {size i node : ℕ} → SortingWritten (tables nodes children numbers names strings text) first count keys size i
+    → 0 < i → node ≡ childAt children (first + (i - 1) * 2) → AddKeyAsks nodes (literalNode nodes numbers strings text) node keys size
+written-key nodes children numbers names strings text s more is-node = written-node s more is-node
+
+pub record SortingOrdered (T : Tables) (first : ℕ) (order : List ℕ) (total : ℕ) (keys : List ℕ) (size q : ℕ) : Type 0 where
+  pub asks : OrderedAsks T first order total
+  pub inside : q ≤ total
+  pub few : total ≤ 256
+  pub few-in : size + q ≤ total
+  pub sorted : KeysOf (literalsOf T) keys size (sortTexts (textsFrom (orderedKey T first order) q (total - q)))
+
+pub ordered-start : {T : Tables} {first : ℕ} {order : List ℕ} {total : ℕ} → OrderedAsks T first order total → (keys : List ℕ) → SortingOrdered T first order total keys 0 total
+ordered-start {T} {first} {order} {total} a keys =
+    record { asks = a; inside = omega arith; few = a .by .few; few-in = omega arith; sorted = none-sorted (literalsOf T) (orderedKey T first order) total keys }
+
+module _ {T : Tables} {first : ℕ} {order : List ℕ} {total : ℕ} {keys : List ℕ} {size q : ℕ} (s : SortingOrdered T first order total keys size q) (more : 0 < q) where
+  field : getD order (q - 1) 0 < s .asks .count
+  field = let n = s .inside in field-below (s .asks .by) (q - 1) (omega arith)
+
+  place : first + getD order (q - 1) 0 * 2 < 512
+  place =
+      let f = field in
+      let l = s .asks .asks .listed in
+      let c = s .asks .asks .table .limits .children in
+      omega arith
+
+  pub ordered-inside : q - 1 < 256
+  ordered-inside = let n = s .inside in let f = s .few in omega arith
+
+  module _ {j : ℕ} (is-field : j ≡ getD order (q - 1) 0) where
+    pub ordered-double : Fits w64 (j * 2)
+    ordered-double = let p = place in record { fits = omega arith }
+
+    pub ordered-place : Fits w64 (first + j * 2)
+    ordered-place = let p = place in record { fits = omega arith }
+
+    module _ {node : ℕ} (is-node : node ≡ childAt (T .children) (first + j * 2)) where
+      here : node ≡ keyNode T first (getD order (q - 1) 0)
+      here = is-node ∙ ap (keyNode T first) is-field
+
+      ordered-node : AddKeyAsks (T .nodes) (literalsOf T) node keys size
+      ordered-node =
+          let n = s .inside in
+          let f = s .few in
+          let g = s .few-in in
+          record {
+            texts = textsFrom (orderedKey T first order) q (total - q);
+            sorted = s .sorted;
+            few = omega arith;
+            sound = sound-key T (s .asks .asks .table) node (subst (Node T) (sym here) (s .asks .asks .keys (getD order (q - 1) 0) field));
+          }
+
+      pub ordered-on : {later : List ℕ} {r : ℕ} → KeyAdded (literalsOf T) node keys size later r → SortingOrdered T first order total later r (q - 1)
+      unfolding orderedKey
+      ordered-on k =
+          let n = s .inside in
+          let g = s .few-in in
+          let h = k .few in
+          record {
+            asks = s .asks;
+            inside = omega arith;
+            few = s .few;
+            few-in = omega arith;
+            sorted = one-sorted (orderedKey T first order) (s .sorted) more (s .inside) (ap (literalsOf T) here) k;
+          }
+
+pub ordered-key : (nodes children numbers names strings text : List ℕ) {first : ℕ} {order : List ℕ} {total : ℕ} {keys : List ℕ} {size q j node : ℕ} → SortingOrdered (tables nodes children numbers names strings text) first order total keys size q
+    → 0 < q → j ≡ getD order (q - 1) 0 → node ≡ childAt children (first + j * 2) → AddKeyAsks nodes (literalNode nodes numbers strings text) node keys size
+ordered-key nodes children numbers names strings text s more is-field is-node = ordered-node s more is-field is-node
+
+pub ordered-ends : {T : Tables} {first : ℕ} {order : List ℕ} {total : ℕ} {keys : List ℕ} {size q : ℕ} → SortingOrdered T first order total keys size q → q ≤ 0
+    → SortedKeys T (orderedKey T first order) total keys size
+ordered-ends {total = total} {q = q} s le =
+    let z : q ≡ 0 = omega arith in
+    let y : total - 0 ≡ total = omega arith in
+    let g = s .few-in in
+    record { sorted = rw y at (rw z at (s .sorted)); few = omega arith }
+
+-- two sorted arrays
+
+pub record Agreeing (lit : ℕ → Option Literal) (a : List ℕ) (m : ℕ) (b : List ℕ) (n q : ℕ) : Type 0 where
+  pub inside : q ≤ m
+  pub few : m ≤ 256
+  pub same : agreeFrom lit a b q (m - q) ≡ textsAgree lit a m b n
+
+pub sizes-differ : (lit : ℕ → Option Literal) (a : List ℕ) (m : ℕ) (b : List ℕ) (n : ℕ) → (m ≡ n → ⊥) → false ≡ textsAgree lit a m b n
+sizes-differ lit a m b n d = simp (ne-eqb m n d)
+
+pub agreeing-start : (lit : ℕ → Option Literal) (a : List ℕ) (m : ℕ) (b : List ℕ) (n : ℕ) → m ≡ n → m ≤ 256 → Agreeing lit a m b n 0
+agreeing-start lit a m b n e few =
+    let z : m - 0 ≡ m = omega arith in
+    record { inside = omega arith; few = few; same = simp (z, eq-eqb m n e) }
+
+module _ {lit : ℕ → Option Literal} {a : List ℕ} {m : ℕ} {b : List ℕ} {n q : ℕ} (s : Agreeing lit a m b n q) where
+  module _ (lt : q < m) {way : Comparison} (is-way : way ≡ textAt lit (getD a q 0) b q) where
+    step : isEqual way && agreeFrom lit a b (q + 1) (m - (q + 1)) ≡ textsAgree lit a m b n
+    unfolding agreeFrom
+    step =
+        let e : m - q ≡ suc (m - (q + 1)) = omega arith in
+        ap (λ (w : Comparison). isEqual w && agreeFrom lit a b (q + 1) (m - (q + 1))) is-way ∙ (sym (ap (λ (k : ℕ). agreeFrom lit a b q k) e) ∙ s .same)
+
+    pub agreeing-on : way ≡ Equal → Agreeing lit a m b n (q + 1)
+    agreeing-on e = record { inside = omega arith; few = s .few; same = rw e at step }
+
+    pub agreeing-less : way ≡ Less → false ≡ textsAgree lit a m b n
+    agreeing-less e = rw e at step
+
+    pub agreeing-greater : way ≡ Greater → false ≡ textsAgree lit a m b n
+    agreeing-greater e = rw e at step
+
+    pub agreeing-none : way ≡ NoLiteral → false ≡ textsAgree lit a m b n
+    agreeing-none e = rw e at step
+
+  pub agreeing-ends : m ≤ q → true ≡ textsAgree lit a m b n
+  unfolding agreeFrom
+  agreeing-ends le = let z : m - q ≡ 0 = omega arith in rw z at (s .same)
+
+-- the keys of both objects
+
+pub few-keys : {T : Tables} {first : ℕ} {order : List ℕ} {total from size : ℕ} → BothAsk T first order total from size → {keys : List ℕ} {r : ℕ}
+    → SortedKeys T (orderedKey T first order) total keys r → r ≤ 256
+few-keys asks s = let f = asks .pattern .by .few in let g = s .few in omega arith
+
+pub texts-compared : {T : Tables} {first : ℕ} {order : List ℕ} {total from size : ℕ} {a b : List ℕ} {literals others : ℕ} {same : Bool}
+    → SortedKeys T (orderedKey T first order) total a literals → SortedKeys T (fieldKey T from) size b others
+    → same ≡ textsAgree (literalsOf T) a literals b others → TextsCompared T first order total from size literals same
+texts-compared {T} {first} {order} {total} sa sb e = record {
+  counted = keys-length (sa .sorted) ∙ sort-length (textsFrom (orderedKey T first order) 0 total);
+  same-texts = e ∙ texts-agree (sa .sorted) (sb .sorted);
+}

@@ -1,0 +1,5 @@
+pub mod Structure
+pub mod Refusals
+pub mod Post
+pub mod Texts
+pub mod PatternStructure

@@ -1,0 +1,18 @@
+// A pattern held against a literal expression (utils.rs).
+mod texts;
+pub mod utils;
+
+// Mismatches carry the value node, then the two counts or the pattern object's node.
+pub enum LiteralStructureCheck {
+    Match,
+    Unknown,
+    ArrayMismatch {
+        value: u32,
+        expected: u32,
+        actual: u32,
+    },
+    ObjectMismatch {
+        value: u32,
+        pattern: u32,
+    },
+}

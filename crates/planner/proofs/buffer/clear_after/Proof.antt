@@ -1,0 +1,63 @@
+use Prim.Native.Nat.{_-_, _≤_}
+use lib.ListN.{length}
+use Rattle.planner.specs.Post.{wordAt}
+use Rattle.planner.proofs.Filling.{Filling, filling-next, filling-ends, word-out}
+use Rattle.planner.proofs.Copies.{clearing-start}
+use borrow.Author.Needs.{needs}
+use Rattle.planner.proofs.buffer.clear_after.Statement.{statement}
+use Rattle.planner.proofs.buffer.clear_after.Tie as tie
+use Rattle.planner.proofs.buffer.clear_after.Reads as reads
+use Rattle.planner.proofs.buffer.clear_after.Lts as lts
+
+abbrev Inv-loop : tie.InvT-loop
+Inv-loop plan₀ from i₀ plan i = Filling (wordAt plan₀ from) (length plan₀) i plan × (from ≤ i)
+
+abbrev μ-loop : tie.MeasureT-loop
+μ-loop plan₀ from i₀ plan i = length plan₀ - i
+
+-- src/pairs.rt:94:5
+loop-holds : tie.Need-loop-holds Inv-loop μ-loop
+loop-holds c = search (clearing-start, needs)
+
+-- src/pairs.rt:95:9
+mul-plan : tie.Need-mul-plan Inv-loop μ-loop
+mul-plan c = search needs
+
+-- src/pairs.rt:95:9
+slice-write-plan : tie.Need-slice-write-plan Inv-loop μ-loop
+slice-write-plan c = search needs
+
+-- src/pairs.rt:96:9
+add-i : tie.Need-add-i Inv-loop μ-loop
+add-i c = search needs
+
+-- src/pairs.rt:94:5
+loop-less : tie.Need-loop-less Inv-loop μ-loop
+loop-less c = search needs
+
+-- src/pairs.rt:94:5
+loop-again : tie.Need-loop-again Inv-loop μ-loop
+loop-again c = search (filling-next, word-out, needs)
+
+-- src/pairs.rt:90:1
+same-length : tie.Need-same-length Inv-loop μ-loop
+same-length c = search needs
+
+-- src/pairs.rt:90:1
+returns : tie.Need-returns Inv-loop μ-loop
+returns c = search (filling-ends, needs)
+
+pub clear-after-spec : {M : Type 1} → statement M
+clear-after-spec =
+    tie.close
+    (tie.spec
+    Inv-loop
+    μ-loop
+    loop-holds
+    mul-plan
+    slice-write-plan
+    add-i
+    loop-less
+    loop-again
+    same-length
+    returns)

@@ -1,0 +1,35 @@
+-- Entries in the words of a scratch or a buffer.
+use Prim.Native.Nat.{ℕ, zero, suc, _+_, _*_, _/_, _^_, _≤_}
+use mathlib.Core.Path.{_≡_}
+use mathlib.Core.Bool.{cond}
+use mathlib.Core.List.{List, [], _∷_}
+use lib.Dec.{ltb}
+use lib.ListN.{length, getD}
+use lib.Seq.{sets}
+use Rattle.planner.specs.Layout.{Entry, entry, words}
+
+abbrev pub entryAt : List ℕ → ℕ → Entry
+entryAt scratch i = entry (getD scratch (i * 4) 0) (getD scratch (i * 4 + 1) 0) (getD scratch (i * 4 + 2) 0) (getD scratch (i * 4 + 3) 0)
+
+-- k entries from entry i on
+unfoldable pub readEntries : List ℕ → ℕ → ℕ → List Entry
+readEntries scratch i zero = []
+readEntries scratch i (suc k) = entryAt scratch i ∷ readEntries scratch (i + 1) k
+
+-- an entry's words at its place, if the buffer has space for it
+abbrev pub putEntry : List ℕ → ℕ → Entry → List ℕ
+putEntry buffer at e = cond (ltb at (length buffer / 4)) (sets buffer (at * 4) (words (e ∷ []))) buffer
+
+-- entries from place `at` on, as far as there is space
+unfoldable pub putEntries : List ℕ → ℕ → List Entry → List ℕ
+putEntries buffer at [] = buffer
+putEntries buffer at (e ∷ es) = putEntries (putEntry buffer at e) (at + 1) es
+
+-- such entries in the buffer; r is the place after them
+pub record Wrote (before : List ℕ) (at : ℕ) (es : List Entry) (after : List ℕ) (r : ℕ) : Type 0 where
+  pub end : r ≡ at + length es
+  pub put : after ≡ putEntries before at es
+
+pub record CopyAsks (at count : ℕ) : Type 0 where
+  pub few : count ≤ 512
+  pub low : at ≤ 2 ^ 40
