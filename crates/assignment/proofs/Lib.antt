@@ -12,3 +12,6 @@ pub mod PairSides
 pub mod FlatTrees
 pub mod FlatNodes
 pub mod FlatLoops
+pub mod PairsSimple
+pub mod PairsInOrder
+pub mod PairsPlanned

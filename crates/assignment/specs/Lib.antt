@@ -3,3 +3,4 @@ pub mod SomeIn
 pub mod Pairs
 pub mod Assignment
 pub mod PairsPost
+pub mod PairsPromise

@@ -18,11 +18,11 @@ use Rattle.table.proofs.Bools.{and-true}
 use Rattle.table.proofs.Lists.{elem-nil, elem-cons, elem-append, no-repeat-cons, cons-no-repeat, append-no-repeat}
 use Rattle.planner.specs.Plan.{DestructuringPlan, var, ignore, equalityExpr, equalityValue, arrayPlan, objectPlan, Plans, noPlan, itemPlan, FieldPlans, noField, fieldPlan, fresh, plan, plans, fieldPlans, after, afterAll, afterFields, boundVars, boundVarsAll, boundVarsFields}
 use Rattle.planner.specs.Layout.{Entry, literalKey, FieldOrder, noFields, addField, inOrder, concat, entries, entriesAll, fieldOrder}
-use Rattle.planner.specs.Laws.{createPlan, createPlans, createFieldPlans, PlanLaws}
+use Rattle.planner.specs.Laws.{createPlan, createPlans, createFieldPlans, PlanLaws, boundNames}
 use Rattle.planner.proofs.Sizes.{total, total-append, add-total}
 use Rattle.planner.proofs.Binders.{AllNames, AllNamesAll, AllNamesFields, names-all}
 
-elem-either : (x : ℕ) (xs ys : List ℕ) → elem x (xs ++ ys) ≡ (elem x xs || elem x ys)
+pub elem-either : (x : ℕ) (xs ys : List ℕ) → elem x (xs ++ ys) ≡ (elem x xs || elem x ys)
 unfolding elem
 elem-either x [] ys = refl
 elem-either x (y ∷ xs) ys = go (eqb x y) (elem-either x xs ys)
@@ -31,16 +31,16 @@ elem-either x (y ∷ xs) ys = go (eqb x y) (elem-either x xs ys)
     go true h = refl
     go false h = h
 
-or-turn : (a b d : Bool) → (b || (a || d)) ≡ ((a || b) || d)
+pub or-turn : (a b d : Bool) → (b || (a || d)) ≡ ((a || b) || d)
 or-turn true true d = refl
 or-turn true false d = refl
 or-turn false b d = refl
 
-or-left : (a b : Bool) → a ≡ true → (a || b) ≡ true
+pub or-left : (a b : Bool) → a ≡ true → (a || b) ≡ true
 or-left true b e = refl
 or-left false b e = absurd (false≢true e)
 
-or-right : (a b : Bool) → b ≡ true → (a || b) ≡ true
+pub or-right : (a b : Bool) → b ≡ true → (a || b) ≡ true
 or-right true b e = refl
 or-right false b e = e
 
@@ -184,13 +184,13 @@ module _ (u : ℕ → Bool) where
 
 -- how often a number stands in a list
 
-abbrev hit : ℕ → ℕ → ℕ
+abbrev pub hit : ℕ → ℕ → ℕ
 hit x y = cond (eqb x y) 1 0
 
 abbrev pub occurs : ℕ → List ℕ → ℕ
 occurs x l = total (hit x) l
 
-occurs-elem : (x : ℕ) (l : List ℕ) → elem x l ≡ true → 1 ≤ occurs x l
+pub occurs-elem : (x : ℕ) (l : List ℕ) → elem x l ≡ true → 1 ≤ occurs x l
 unfolding total elem
 occurs-elem x [] h = absurd (false≢true h)
 occurs-elem x (y ∷ l) h = go (eqb x y) h (λ t. occurs-elem x l t)
@@ -199,7 +199,7 @@ occurs-elem x (y ∷ l) h = go (eqb x y) h (λ t. occurs-elem x l t)
     go true t f = omega arith
     go false t f = let r = f t in omega arith
 
-occurs-none : (x : ℕ) (l : List ℕ) → (elem x l ≡ true → ⊥) → occurs x l ≡ 0
+pub occurs-none : (x : ℕ) (l : List ℕ) → (elem x l ≡ true → ⊥) → occurs x l ≡ 0
 unfolding total elem
 occurs-none x [] h = refl
 occurs-none x (y ∷ l) h = go (eqb x y) h (occurs-none x l)
@@ -225,11 +225,6 @@ occurs-once (y ∷ l) h =
     (λ t. let r = occurs-elem y l t in let q = eq-eqb y y refl in let b : 1 + occurs y l ≤ 1 = rw q at (h y) in omega arith)
     (occurs-once l (λ x. let b = h x in omega arith))
 
--- the names of the entries that bind, by their nodes
-unfoldable pub boundNames : (ℕ → ℕ) → List Entry → List ℕ
-boundNames nm [] = []
-boundNames nm (e ∷ es) = cond (eqb (e .kind) 1) (nm (e .node) ∷ boundNames nm es) (boundNames nm es)
-
 module _ (nm : ℕ → ℕ) where
   -- nm gives the name of each node that a plan binds
   unfoldable mutual
@@ -249,7 +244,7 @@ module _ (nm : ℕ → ℕ) where
     NamesNodesFields noField = Unit {0}
     NamesNodesFields (fieldPlan k p fs) = NamesNodes p × NamesNodesFields fs
 
-  bound-append : (xs ys : List Entry) → boundNames nm (xs ++ ys) ≡ boundNames nm xs ++ boundNames nm ys
+  pub bound-append : (xs ys : List Entry) → boundNames nm (xs ++ ys) ≡ boundNames nm xs ++ boundNames nm ys
   unfolding boundNames
   bound-append [] ys = refl
   bound-append (e ∷ xs) ys = go (eqb (e .kind) 1) (bound-append xs ys)
@@ -260,13 +255,13 @@ module _ (nm : ℕ → ℕ) where
       go false h = h
 
   module _ (x : ℕ) where
-    abbrev times : List Entry → ℕ
+    abbrev pub times : List Entry → ℕ
     times es = occurs x (boundNames nm es)
 
-    times-append : (xs ys : List Entry) → times (xs ++ ys) ≡ times xs + times ys
+    pub times-append : (xs ys : List Entry) → times (xs ++ ys) ≡ times xs + times ys
     times-append xs ys = ap (occurs x) (bound-append xs ys) ∙ total-append (hit x) (boundNames nm xs) (boundNames nm ys)
 
-    times-concat : (ls : List (List Entry)) → total times ls ≡ times (concat ls)
+    pub times-concat : (ls : List (List Entry)) → total times ls ≡ times (concat ls)
     unfolding total concat boundNames
     times-concat [] = refl
     times-concat (l ∷ ls) = let t = times-concat ls in let a = times-append l (concat ls) in omega arith

@@ -23,7 +23,7 @@ length-read scratch i zero = refl
 length-read scratch i (suc k) = ap suc (length-read scratch (i + 1) k)
 
 -- entries whose words stand in a scratch read back as they are
-read-words : (es : List Entry) (scratch : List ℕ) (i : ℕ) → ((j : ℕ) → j < length es * 4 → getD scratch (i * 4 + j) 0 ≡ getD (words es) j 0) → readEntries scratch i (length es) ≡ es
+pub read-words : (es : List Entry) (scratch : List ℕ) (i : ℕ) → ((j : ℕ) → j < length es * 4 → getD scratch (i * 4 + j) 0 ≡ getD (words es) j 0) → readEntries scratch i (length es) ≡ es
 unfolding readEntries words
 read-words [] scratch i same = refl
 read-words (e ∷ es) scratch i same =
