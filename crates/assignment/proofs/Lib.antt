@@ -15,3 +15,4 @@ pub mod FlatLoops
 pub mod PairsSimple
 pub mod PairsInOrder
 pub mod PairsPlanned
+pub mod Trials

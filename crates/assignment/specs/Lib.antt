@@ -4,3 +4,4 @@ pub mod Pairs
 pub mod Assignment
 pub mod PairsPost
 pub mod PairsPromise
+pub mod Trial

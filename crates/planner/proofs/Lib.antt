@@ -17,4 +17,3 @@ pub mod ReadBack
 pub mod Copies
 pub mod Operations
 pub mod Validating
-pub mod Examples

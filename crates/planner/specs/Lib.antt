@@ -10,4 +10,3 @@ pub mod Post
 pub mod Entries
 pub mod Ordering
 pub mod Validation
-pub mod Trial

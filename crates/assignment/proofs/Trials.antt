@@ -1,0 +1,32 @@
+-- The starred rules on trial hold of the definitions, in one computed test.
+use mathlib.Core.Path.{_≡_, refl}
+use mathlib.Core.List.{List, map}
+use Rattle.literal.specs.Literal.{isNumber}
+use Rattle.literal.specs.Reading.{literalOf}
+use Rattle.literal.specs.Order.{bytesOrder, keyOrder}
+use Rattle.literal.specs.Text.{keyText, digits}
+use Rattle.scope.specs.Scope.{isUnderscore, declaredUnbound, local, bound, global, isUnbound, isName, sameScope, smallMarks, marksOk}
+use Rattle.table.specs.Tables.{recordWord, widthOf, nameBytes}
+use Rattle.table.specs.Names.{sameBytes}
+use Rattle.table.specs.Expr.{depth, count}
+use Rattle.table.specs.Decode.{refOf, literalNode, items, fields, headed, exprAt, expr}
+use Rattle.table.specs.Rules.{allFrom, elem, noRepeat, withinLimits, wholeRecords, spanOk, nameTextOk, wordsOk, childrenBelow, nodeOk, placesFrom, usedPlaces, nameOk, scopeOk, followsRules, shallow, namesDiffer}
+use Rattle.table.specs.Check.{checked}
+use Rattle.planner.specs.Answer.{Line}
+use Rattle.planner.specs.Plan.{plan}
+use Rattle.planner.specs.Layout.{insert, concat, entries, words, bindsAny}
+use Rattle.planner.specs.Operations.{answered, written}
+use Rattle.assignment.specs.Structure.{planOrder, keyTexts, insertText, sortTexts, sameTexts, heldUnder, structure}
+use Rattle.assignment.specs.Pairs.{pairsEntries, flatten}
+use Rattle.assignment.specs.Assignment.{firstSameScope}
+use Rattle.assignment.specs.Trial.{Trial, trials, rows, oneByteEach, positive}
+
+abbrev listedIn : Trial → List Line
+listedIn t = t .listed
+
+abbrev expectedIn : Trial → List Line
+expectedIn t = t .expected
+
+pub trials-hold : map listedIn trials ≡ map expectedIn trials
+unfolding isNumber literalOf bytesOrder keyOrder keyText digits isUnderscore declaredUnbound local bound global isUnbound isName sameScope smallMarks marksOk recordWord widthOf nameBytes sameBytes depth count refOf literalNode items fields headed exprAt expr allFrom elem noRepeat withinLimits wholeRecords spanOk nameTextOk wordsOk childrenBelow nodeOk placesFrom usedPlaces nameOk scopeOk followsRules shallow namesDiffer checked plan insert concat entries words bindsAny answered written planOrder keyTexts insertText sortTexts sameTexts heldUnder structure pairsEntries flatten firstSameScope rows oneByteEach positive
+trials-hold = refl

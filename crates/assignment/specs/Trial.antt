@@ -1,0 +1,176 @@
+-- Rules on trial, starred: what the definitions list for a rule, and what document 01 says.
+use Prim.Native.Nat.{ℕ, zero, suc, _+_, _-_}
+use mathlib.Core.Bool.{false, cond}
+use lib.Dec.{eqb}
+use mathlib.Core.List.{List, [], _∷_, _++_}
+use lib.ListN.{length, getD, drop, replicate}
+use Rattle.scope.specs.declared.Scope.{Scope}
+use Rattle.scope.specs.declared.ScopingMode.the-variants.{RespectParent}
+use Rattle.table.specs.Tables.{Tables, tables}
+use Rattle.planner.specs.Answer.{Line, line, lineOf}
+use Rattle.planner.specs.Operations.{Outcome, answered, written, patternOutcome}
+use Rattle.assignment.specs.declared.AssignOp.the-variants.{ColEq, Eq}
+use Rattle.assignment.specs.Assignment.{assignmentOutcome}
+
+pub record Trial : Type 0 where
+  pub listed : List Line
+  pub expected : List Line
+
+-- a buffer of 16 entries
+abbrev pub blank : List ℕ
+blank = replicate 64 0
+
+-- k entries of a buffer
+unfoldable pub rows : ℕ → List ℕ → List Line
+rows zero words = []
+rows (suc k) words = line (getD words 0 0) (getD words 1 0) (getD words 2 0) (getD words 3 0) ∷ rows k (drop 4 words)
+
+-- an answer's line, then its entries; a refusal has none
+abbrev pub entriesIn : Line → ℕ
+entriesIn l = cond (eqb (l .number) 0) (l .fourth) 0
+
+abbrev pub listing : Outcome → List Line
+listing o = lineOf (answered o blank) ∷ rows (entriesIn (lineOf (answered o blank))) (written o blank)
+
+-- Marks of the names 1, 2 and so on; the others have none.
+abbrev pub marked : List ℕ → Scope
+marked marks = record { marks = marks ++ replicate (128 - length marks) 0; underscore = 0; scheduler = false }
+
+-- five words of a node
+abbrev pub node : ℕ → ℕ → ℕ → ℕ → ℕ → List ℕ → List ℕ
+node kind start end first count rest = kind ∷ (start ∷ (end ∷ (first ∷ (count ∷ rest))))
+
+-- [x, x], as in document 01's sheet
+abbrev pub twice : Tables
+twice = tables (node 6 1 2 1 0 (node 6 4 5 1 0 (node 7 0 6 0 2 []))) (1 ∷ 2 ∷ []) [] (1 ∷ 1 ∷ []) [] (91 ∷ 120 ∷ 44 ∷ 32 ∷ 120 ∷ 93 ∷ [])
+
+-- The other rules keep in their text the names alone, one byte each. Nodes that are no names have an empty range of it.
+abbrev pub nameNode : ℕ → List ℕ → List ℕ
+nameNode x = node 6 (x - 1) x x 0
+
+abbrev pub stringNode : ℕ → ℕ → List ℕ → List ℕ
+stringNode place size = node 1 0 0 place size
+
+abbrev pub numberNode : ℕ → List ℕ → List ℕ
+numberNode place = node 3 0 0 place 0
+
+abbrev pub arrayNode : ℕ → ℕ → List ℕ → List ℕ
+arrayNode first count = node 7 0 0 first count
+
+abbrev pub objectNode : ℕ → ℕ → List ℕ → List ℕ
+objectNode first count = node 9 0 0 first count
+
+-- start and length of each name
+unfoldable pub oneByteEach : ℕ → List ℕ → List ℕ
+oneByteEach at [] = []
+oneByteEach at (b ∷ bs) = at ∷ (1 ∷ oneByteEach (at + 1) bs)
+
+-- two words of each number
+unfoldable pub positive : List ℕ → List ℕ
+positive [] = []
+positive (n ∷ ns) = 0 ∷ (n ∷ positive ns)
+
+-- names by their bytes, strings, numbers, children, nodes
+abbrev pub rule : List ℕ → List ℕ → List ℕ → List ℕ → List ℕ → Tables
+rule names strings numbers children nodes = tables nodes children (positive numbers) (oneByteEach 0 names) strings names
+
+abbrev pub pattern : Tables → ℕ → List Line
+pattern T root = listing (patternOutcome T (marked []) RespectParent root)
+
+abbrev pub colonEquals : List ℕ → Tables → ℕ → ℕ → List Line
+colonEquals marks T left right = listing (assignmentOutcome T (marked marks) ColEq left right)
+
+abbrev pub equals : Tables → ℕ → ℕ → List Line
+equals T left right = listing (assignmentOutcome T (marked []) Eq left right)
+
+abbrev pub x : ℕ
+x = 120
+
+abbrev pub y : ℕ
+y = 121
+
+abbrev pub underscore : ℕ
+underscore = 95
+
+abbrev pub trials : List Trial
+trials =
+    record {
+      listed = pattern twice 3;
+      expected = line 0 0 0 3 ∷ line 5 3 2 0 ∷ line 1 1 0 0 ∷ line 3 2 0 0 ∷ [];
+    }
+    -- x := 1, where x is bound in this scope, and where it is bound above
+    ∷ record {
+      listed = colonEquals (2 ∷ []) (rule (x ∷ []) [] (1 ∷ []) [] (nameNode 1 (numberNode 0 []))) 1 2;
+      expected = line 17 1 0 0 ∷ [];
+    }
+    ∷ record {
+      listed = colonEquals (1 ∷ []) (rule (x ∷ []) [] (1 ∷ []) [] (nameNode 1 (numberNode 0 []))) 1 2;
+      expected = line 0 1 0 1 ∷ line 1 1 0 0 ∷ [];
+    }
+    -- 1 := 1
+    ∷ record {
+      listed = colonEquals [] (rule [] [] (1 ∷ 1 ∷ []) [] (numberNode 0 (numberNode 1 []))) 1 2;
+      expected = line 11 1 0 0 ∷ [];
+    }
+    -- _ := 1
+    ∷ record {
+      listed = colonEquals [] (rule (underscore ∷ []) [] (1 ∷ []) [] (nameNode 1 (numberNode 0 []))) 1 2;
+      expected = line 0 1 0 1 ∷ line 2 1 0 0 ∷ [];
+    }
+    -- x = y
+    ∷ record {
+      listed = equals (rule (x ∷ y ∷ []) [] [] [] (nameNode 1 (nameNode 2 []))) 1 2;
+      expected = line 18 1 0 0 ∷ [];
+    }
+    -- _ = y
+    ∷ record {
+      listed = equals (rule (underscore ∷ y ∷ []) [] [] [] (nameNode 1 (nameNode 2 []))) 1 2;
+      expected = line 0 6 1 0 ∷ [];
+    }
+    -- [_] = [x]
+    ∷ record {
+      listed = equals (rule (underscore ∷ x ∷ []) [] [] (1 ∷ 3 ∷ []) (nameNode 1 (arrayNode 0 1 (nameNode 2 (arrayNode 1 1 []))))) 2 4;
+      expected = line 18 1 0 0 ∷ [];
+    }
+    -- [x, 1] = [1, x]
+    ∷ record {
+      listed =
+          equals
+          (rule (x ∷ []) [] (1 ∷ 1 ∷ []) (1 ∷ 2 ∷ 4 ∷ 5 ∷ []) (nameNode 1 (numberNode 0 (arrayNode 0 2 (numberNode 1 (nameNode 1 (arrayNode 2 2 [])))))))
+          3 6;
+      expected = line 0 4 0 4 ∷ line 7 4 1 0 ∷ line 1 1 0 0 ∷ line 7 5 1 0 ∷ line 3 2 0 0 ∷ [];
+    }
+    -- [x] := [1, 2]
+    ∷ record {
+      listed =
+          colonEquals []
+          (rule (x ∷ []) [] (1 ∷ 2 ∷ []) (1 ∷ 3 ∷ 4 ∷ []) (nameNode 1 (arrayNode 0 1 (numberNode 0 (numberNode 1 (arrayNode 1 2 []))))))
+          2 5;
+      expected = line 13 5 1 2 ∷ [];
+    }
+    -- [x, [y]] := [1, [1, 2]]
+    ∷ record {
+      listed =
+          colonEquals []
+          (rule (x ∷ y ∷ []) [] (1 ∷ 1 ∷ 2 ∷ []) (2 ∷ 1 ∷ 3 ∷ 6 ∷ 7 ∷ 5 ∷ 8 ∷ [])
+          (nameNode 1 (nameNode 2 (arrayNode 0 1 (arrayNode 1 2 (numberNode 0 (numberNode 1 (numberNode 2 (arrayNode 3 2 (arrayNode 5 2 []))))))))))
+          4 9;
+      expected = line 0 1 0 4 ∷ line 5 4 2 0 ∷ line 1 1 0 0 ∷ line 5 3 1 0 ∷ line 1 2 0 0 ∷ [];
+    }
+    -- {1: x} := {"1": 2}
+    ∷ record {
+      listed =
+          colonEquals []
+          (rule (x ∷ []) (49 ∷ []) (1 ∷ 2 ∷ []) (1 ∷ 2 ∷ 4 ∷ 5 ∷ []) (numberNode 0 (nameNode 1 (objectNode 0 1 (stringNode 0 1 (numberNode 1 (objectNode 2 1 [])))))))
+          3 6;
+      expected = line 0 1 0 2 ∷ line 6 3 1 0 ∷ line 1 2 0 1 ∷ [];
+    }
+    -- {"b": x, "a": x}: its plan lists a first
+    ∷ record {
+      listed =
+          pattern
+          (rule (x ∷ []) (98 ∷ 97 ∷ []) [] (1 ∷ 2 ∷ 3 ∷ 4 ∷ []) (stringNode 0 1 (nameNode 1 (stringNode 1 1 (nameNode 1 (objectNode 0 2 []))))))
+          5;
+      expected = line 0 0 0 3 ∷ line 6 5 2 0 ∷ line 3 4 0 3 ∷ line 1 2 0 1 ∷ [];
+    }
+    ∷ []
