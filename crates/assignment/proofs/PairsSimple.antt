@@ -17,7 +17,8 @@ use Rattle.table.specs.Rules.{elem}
 use Rattle.table.proofs.Bools.{and-true, or-true}
 use Rattle.planner.specs.Plan.{var, equalityExpr, fresh, plan, plans, fieldPlans, after, afterAll, afterFields, boundVars, boundVarsAll, boundVarsFields}
 use Rattle.planner.specs.Layout.{Entry, literalKey, Slot, placed, insert, FieldOrder, noFields, addField, heldIn, inOrder, concat, entries, entriesAll, fieldOrder, bindsAny}
-use Rattle.planner.specs.Simple.{isSame, sameKey, hasKey, differing, addKey, keysOf, isLiteral, simple, simpleAll, simpleFields, mentions, mentionsAny, mentionsFields}
+use Rattle.table.specs.Names.{isSame}
+use Rattle.planner.specs.Simple.{sameKey, hasKey, differing, addKey, keysOf, isLiteral, simple, simpleAll, simpleFields, mentions, mentionsAny, mentionsFields}
 use Rattle.planner.specs.Laws.{boundNames}
 use Rattle.planner.proofs.Sizes.{total, total-append}
 use Rattle.planner.proofs.Binders.{AllNames, AllNamesAll, AllNamesFields}

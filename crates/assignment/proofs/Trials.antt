@@ -16,7 +16,7 @@ use Rattle.planner.specs.Answer.{Line}
 use Rattle.planner.specs.Plan.{plan}
 use Rattle.planner.specs.Layout.{insert, concat, entries, words, bindsAny}
 use Rattle.planner.specs.Operations.{answered, written}
-use Rattle.assignment.specs.Structure.{planOrder, keyTexts, insertText, sortTexts, sameTexts, heldUnder, structure}
+use Rattle.checks.specs.Structure.{planOrder, keyTexts, insertText, sortTexts, sameTexts, heldUnder, structure}
 use Rattle.assignment.specs.Pairs.{pairsEntries, flatten}
 use Rattle.assignment.specs.Assignment.{firstSameScope}
 use Rattle.assignment.specs.Trial.{Trial, trials, rows, oneByteEach, positive}

@@ -6,14 +6,10 @@ use mathlib.Core.Option.{Option}
 use mathlib.Core.Option as Option
 use lib.Dec.{eqb}
 use Rattle.literal.specs.Literal.{Literal}
-use Rattle.literal.specs.Order.{Order, less, same, more, keyOrder}
+use Rattle.literal.specs.Order.{keyOrder}
+use Rattle.table.specs.Names.{isSame}
 use Rattle.table.specs.Expr.{Expr, literal, name, wildcard, array, set, object, other, Exprs, none, item, Fields, done, field}
 use Rattle.planner.specs.Layout.{literalKey}
-
-abbrev pub isSame : Order → Bool
-isSame less = false
-isSame same = true
-isSame more = false
 
 -- literals are equal by the order of keys
 abbrev pub sameKey : Literal → Literal → Bool
