@@ -1,5 +1,4 @@
 pub mod Post
-pub mod SomeIn
 pub mod Pairs
 pub mod Assignment
 pub mod PairsPost

@@ -329,7 +329,7 @@ module _ (T : Tables) (s : Scope) {mode : ScopingMode} (binders : List ℕ) (roo
   pub parameter-shadows : {r : ℕ} → mode ≡ AllowShadowing → r ≡ firstDefined T s binders root → r ≡ parameterDefined T s mode binders root
   parameter-shadows m e = simp m e
 
--- a parameter, refused or planned
+-- a pattern that is validated; a parameter, refused or planned
 module _ (T : Tables) (s : Scope) (mode : ScopingMode) (root : ℕ) (g : GoodRoot T root) {binders scratch : List ℕ} {count : ℕ} (p : PatternPlanned T s mode root (replicate 2048 0) binders scratch count) where
   defined-same : (x : ℕ) → Named T x → isWildcard T x ≡ false → definedIn T s binders x ≡ alreadyDefined (reserved T) (isUnbound s RespectParent) (after (isUnbound s mode) (expr T root) []) x
   defined-same x v named =
@@ -344,16 +344,17 @@ module _ (T : Tables) (s : Scope) (mode : ScopingMode) (root : ℕ) (g : GoodRoo
       twice true = refl
       twice false = refl
 
-  parameter-checked : parameterDefined T s mode binders root ≡ parameterCheck T s mode root
+  -- by the binders of its plan, or by the names that the plan tracks
+  pub validated-by : firstDefined T s binders root ≡ validated T s mode root
   unfolding validated
+  validated-by = first-agree T (g .table) root (g .node) (definedIn T s binders) (alreadyDefined (reserved T) (isUnbound s RespectParent) (after (isUnbound s mode) (expr T root) [])) defined-same
+
+  parameter-checked : parameterDefined T s mode binders root ≡ parameterCheck T s mode root
   parameter-checked = go mode refl
     where
       go : (m : ScopingMode) → mode ≡ m → parameterDefined T s mode binders root ≡ parameterCheck T s mode root
       go RespectParent e = simp e
-      go AllowShadowing e =
-          simp e
-          (first-agree T (g .table) root (g .node) (definedIn T s binders) (alreadyDefined (reserved T) (isUnbound s RespectParent) (after (isUnbound s AllowShadowing) (expr T root) []))
-          (λ x v named. subst (λ (m : ScopingMode). definedIn T s binders x ≡ alreadyDefined (reserved T) (isUnbound s RespectParent) (after (isUnbound s m) (expr T root) []) x) e (defined-same x v named)))
+      go AllowShadowing e = simp e (subst (λ (m : ScopingMode). firstDefined T s binders root ≡ validated T s m root) e validated-by)
 
   module _ {x : ℕ} (is : x ≡ parameterDefined T s mode binders root) {before later : List ℕ} where
     pub parameter-refused : (x ≡ 0 → ⊥) → later ≡ replicate (length before) 0 → Answered (parameterPlanned T s mode root) before later (VariableAlreadyDefined x)

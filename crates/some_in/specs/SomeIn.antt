@@ -1,6 +1,6 @@
 -- `some key, value in collection` (some_in.rs).
 use Prim.Native.Nat.{ℕ}
-use mathlib.Core.Bool.{Bool, true, false, cond, _&&_, _||_}
+use mathlib.Core.Bool.{Bool, true, false, cond, _&&_, _||_, not}
 use mathlib.Core.List.{List, [], _++_}
 use lib.Dec.{eqb}
 use Rattle.scope.specs.declared.Scope.{Scope}
@@ -18,23 +18,25 @@ use Rattle.checks.specs.declared.LiteralStructureCheck.the-variants.{Match, Unk
 use Rattle.checks.specs.Structure.{structure}
 use Rattle.checks.specs.Refusals.{unlessMismatch, unlessDefined}
 
--- an item that matches or is unknown excuses every mismatch; else the first mismatch counts
-abbrev pub joinItem : LiteralStructureCheck → LiteralStructureCheck → LiteralStructureCheck
-joinItem Match rest = Match
-joinItem Unknown rest = Match
-joinItem (ArrayMismatch v e a) Match = Match
-joinItem (ArrayMismatch v e a) Unknown = ArrayMismatch v e a
-joinItem (ArrayMismatch v e a) (ArrayMismatch w f b) = ArrayMismatch v e a
-joinItem (ArrayMismatch v e a) (ObjectMismatch w q) = ArrayMismatch v e a
-joinItem (ObjectMismatch v p) Match = Match
-joinItem (ObjectMismatch v p) Unknown = ObjectMismatch v p
-joinItem (ObjectMismatch v p) (ArrayMismatch w f b) = ObjectMismatch v p
-joinItem (ObjectMismatch v p) (ObjectMismatch w q) = ObjectMismatch v p
+abbrev pub isMismatch : LiteralStructureCheck → Bool
+isMismatch Match = false
+isMismatch Unknown = false
+isMismatch (ArrayMismatch value expected actual) = true
+isMismatch (ObjectMismatch value pattern) = true
 
--- the items of a collection, joined; no item is unknown
-unfoldable pub itemsStructure : Exprs → DestructuringPlan → LiteralStructureCheck
-itemsStructure none p = Unknown
-itemsStructure (item e es) p = joinItem (structure e p) (itemsStructure es p)
+-- does an item match, or is it unknown?
+unfoldable pub anyFits : Exprs → DestructuringPlan → Bool
+anyFits none p = false
+anyFits (item e es) p = not (isMismatch (structure e p)) || anyFits es p
+
+-- the first mismatch, if there is one
+unfoldable pub firstMismatch : Exprs → DestructuringPlan → LiteralStructureCheck
+firstMismatch none p = Unknown
+firstMismatch (item e es) p = cond (isMismatch (structure e p)) (structure e p) (firstMismatch es p)
+
+-- an item that fits excuses every mismatch
+abbrev pub itemsStructure : Exprs → DestructuringPlan → LiteralStructureCheck
+itemsStructure es p = cond (anyFits es p) Match (firstMismatch es p)
 
 unfoldable pub collectionStructure : Expr → DestructuringPlan → LiteralStructureCheck
 collectionStructure (array n es) p = itemsStructure es p
@@ -58,12 +60,15 @@ keyForm key = cond (eqb key 0) 0 1
 abbrev pub rootsInside : Tables → ℕ → ℕ → ℕ → Bool
 rootsInside T value collection key = isNode T value && (isNode T collection && (eqb key 0 || isNode T key))
 
-abbrev pub someInPlanned : Tables → Scope → ℕ → ℕ → ℕ → Outcome
-someInPlanned T s value collection key =
-    unlessDefined (keyCheck T s key)
-    (unlessDefined (validated T s RespectParent value)
+-- the value pattern, planned from no names, with the entries of the key before its own
+abbrev pub valuePlanned : Tables → Scope → ℕ → ℕ → ℕ → List Entry → Outcome
+valuePlanned T s value collection form keys =
+    unlessDefined (validated T s RespectParent value)
     (unlessMismatch (collectionStructure (expr T collection) (planOf T s RespectParent value))
-    (planned (keyForm key) 0 (keyEntries T s key ++ entries (planOf T s RespectParent value) 0))))
+    (planned form 0 (keys ++ entries (planOf T s RespectParent value) 0)))
+
+abbrev pub someInPlanned : Tables → Scope → ℕ → ℕ → ℕ → Outcome
+someInPlanned T s value collection key = unlessDefined (keyCheck T s key) (valuePlanned T s value collection (keyForm key) (keyEntries T s key))
 
 abbrev pub someInOutcome : Tables → Scope → ℕ → ℕ → ℕ → Outcome
 someInOutcome T s value collection key =

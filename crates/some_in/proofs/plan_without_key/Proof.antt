@@ -1,0 +1,22 @@
+use Rattle.some_in.proofs.Answers.{without-key}
+use borrow.Author.Needs.{needs}
+use Rattle.some_in.proofs.plan_without_key.Statement.{statement}
+use Rattle.some_in.proofs.plan_without_key.Tie as tie
+use Rattle.some_in.proofs.plan_without_key.Reads as reads
+use Rattle.some_in.proofs.plan_without_key.Lts as lts
+use Rattle.some_in.proofs.plan_value.Reads as plan-value-reads
+
+-- src/lib.rt:219:5
+plan-value-requires : tie.Need-plan-value-requires
+plan-value-requires c κs = search needs
+
+-- src/lib.rt:203:1
+same-length : tie.Need-same-length
+same-length c = search needs
+
+-- src/lib.rt:203:1
+returns : tie.Need-returns
+returns c = search (without-key, needs)
+
+pub plan-without-key-spec : {M : Type 1} → statement M
+plan-without-key-spec = tie.close (tie.spec plan-value-requires same-length returns)

@@ -1,0 +1,3 @@
+pub mod SomeIn
+pub mod Post
+pub mod Trial
