@@ -1,3 +1,2 @@
 pub mod Collections
 pub mod Answers
-pub mod Examples

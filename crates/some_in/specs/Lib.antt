@@ -1,3 +1,2 @@
 pub mod SomeIn
 pub mod Post
-pub mod Trial
