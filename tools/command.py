@@ -1,0 +1,195 @@
+"""The command plan_rule: options, plansheet's run, exit status."""
+
+import argparse
+import os
+import subprocess
+import sys
+from dataclasses import replace
+from pathlib import Path
+
+from listing import ListingError, Refusal, read_listing
+from refusals import refusal_in_words
+from rule_text import Operation, Rule, read_rule
+from sheet import ALLOW_SHADOWING, RESPECT_PARENT, Scope, Sheet, sheet_of
+from source import marked, shown
+from tokens import RuleTextError, TokenKind, read_tokens
+from words import plan_in_words
+
+PLANNED = 0
+REFUSED = 1
+NO_ANSWER = 2
+
+OPERATIONS = {
+    "pattern": Operation.PATTERN,
+    "parameter": Operation.PARAMETER,
+    "index": Operation.INDEX,
+}
+SCOPINGS = {"respect": RESPECT_PARENT, "shadow": ALLOW_SHADOWING}
+MARKS = {"bound": 1, "bound_here": 3, "unbound": 4, "local": 8, "global": 16}
+BUILT = Path(__file__).resolve().parent.parent / "target" / "bin" / "plansheet"
+SECONDS = 60
+
+DESCRIPTION = """\
+Plans a line of rule text and says the plan, or why there is none, in words.
+"""
+
+EPILOG = """\
+rule text:
+  LEFT = RIGHT    LEFT := RIGHT    some VALUE in XS    some KEY, VALUE in XS
+  or one expression: a pattern, or what --as says.
+
+expressions:
+  name  _  12  -3  "text"  `raw text`  true  false  null  [a, b]  {a, b}  set()
+  {"k": v}  {}
+  Numbers are whole, of 64 signed bits; strings have JSON's escapes; {} is the
+  empty object. All others are taken whole, as compared but never taken apart:
+  calls f(x), references a.b[c], operators (+ - * / % & | == != < <= > >= in), a
+  minus before other than a number, comprehensions, all in parentheses, (x) too.
+  Inside the brackets of these, text need only be balanced, and names there are
+  not the planner's. Calls and references are written without blanks.
+
+scope:
+  NAMES are parted by commas; each option may stand more than once, and the
+  marks of a name add up. A name without marks is unbound.
+
+exit status:
+  0 planned, 1 refused by the planner, 2 no answer (rule text, usage, plansheet)
+"""
+
+
+class NoAnswer(Exception):
+    """Why nothing was planned."""
+
+
+def main(arguments: list[str]) -> int:
+    options = argument_parser().parse_args(arguments)
+    text = rule_bytes(options.rule)
+    try:
+        sheet = sheet_of(rule_of(text, options.operation), scope_of(text, options))
+        if options.sheet:
+            sys.stdout.buffer.write(sheet.to_bytes())
+            return PLANNED
+        status, words = answer(sheet, Path(options.plansheet))
+    except RuleTextError as error:
+        print(f"bad rule text: {error}", file=sys.stderr)
+        print(marked(text, error.start, error.end), file=sys.stderr)
+        return NO_ANSWER
+    except NoAnswer as error:
+        print(error, file=sys.stderr)
+        return NO_ANSWER
+    print(words, end="")
+    return status
+
+
+def argument_parser() -> argparse.ArgumentParser:
+    parser = argparse.ArgumentParser(
+        prog="plan_rule",
+        description=DESCRIPTION,
+        epilog=EPILOG,
+        formatter_class=argparse.RawDescriptionHelpFormatter,
+        allow_abbrev=False,
+    )
+    parser.add_argument("rule", metavar="RULE", help="rule text; - reads it from standard input")
+    parser.add_argument(
+        "--as", dest="operation", choices=OPERATIONS, help="what a pattern alone is (pattern)"
+    )
+    add_scope_options(parser)
+    parser.add_argument(
+        "--sheet", action="store_true", help="print the sheet; plansheet is not needed"
+    )
+    parser.add_argument(
+        "--plansheet",
+        metavar="PATH",
+        default=os.environ.get("PLANSHEET") or BUILT,
+        help="the planner (the variable PLANSHEET, or target/bin/plansheet)",
+    )
+    return parser
+
+
+def add_scope_options(parser: argparse.ArgumentParser) -> None:
+    meanings = {
+        "bound": "have a value",
+        "bound_here": "have a value from this very scope",
+        "unbound": "are declared to have none yet",
+        "local": "are local; unbound under --scheduler",
+        "global": "are global: known unless unbound",
+    }
+    for name, meaning in meanings.items():
+        parser.add_argument(
+            option_text(name),
+            metavar="NAMES",
+            action="append",
+            default=[],
+            help=f"these names {meaning}",
+        )
+    parser.add_argument("--scheduler", action="store_true", help="the scope is a scheduler's")
+    parser.add_argument(
+        "--scoping",
+        choices=SCOPINGS,
+        default="respect",
+        help="respect the parent's names or shadow them (respect); of patterns and parameters only",
+    )
+
+
+def rule_bytes(argument: str) -> bytes:
+    if argument != "-":
+        return os.fsencode(argument)
+    return sys.stdin.buffer.read().removesuffix(b"\n").removesuffix(b"\r")
+
+
+def rule_of(text: bytes, chosen: str | None) -> Rule:
+    rule = read_rule(text)
+    if chosen is None:
+        return rule
+    if rule.operation is not Operation.PATTERN:
+        raise NoAnswer(f"--as {chosen} is for one expression, not for =, := or some .. in")
+    return replace(rule, operation=OPERATIONS[chosen])
+
+
+def scope_of(text: bytes, options: argparse.Namespace) -> Scope:
+    """The scope that the options say; every name of theirs must stand in the rule."""
+    names = {token.text for token in read_tokens(text) if token.kind is TokenKind.NAME}
+    marks: dict[bytes, int] = {}
+    for option, mark in MARKS.items():
+        for name in listed_names(vars(options)[option]):
+            if os.fsencode(name) not in names:
+                raise NoAnswer(f"{option_text(option)}: the rule has no name `{shown(name)}`")
+            marks[os.fsencode(name)] = marks.get(os.fsencode(name), 0) | mark
+    return Scope(marks, options.scheduler, SCOPINGS[options.scoping])
+
+
+def listed_names(lists: list[str]) -> list[str]:
+    return [name.strip() for names in lists for name in names.split(",")]
+
+
+def option_text(option: str) -> str:
+    return "--" + option.replace("_", "-")
+
+
+def answer(sheet: Sheet, plansheet: Path) -> tuple[int, str]:
+    """Exit status and words of plansheet's answer."""
+    try:
+        found = read_listing(listing_of(sheet, plansheet), len(sheet.nodes))
+        if isinstance(found, Refusal):
+            return REFUSED, refusal_in_words(sheet, found)
+        return PLANNED, plan_in_words(sheet, found)
+    except ListingError as error:
+        raise NoAnswer(f"the listing of {plansheet} can't be read: {error}") from None
+
+
+def listing_of(sheet: Sheet, plansheet: Path) -> bytes:
+    if not plansheet.exists():
+        raise NoAnswer(
+            f"there is no {plansheet}: build it with `rt check plansheet`, or name another with"
+            " --plansheet or the variable PLANSHEET (--sheet does without)"
+        )
+    try:
+        run = subprocess.run(
+            [str(plansheet.resolve())],
+            input=sheet.to_bytes(),
+            stdout=subprocess.PIPE,
+            timeout=SECONDS,
+        )
+    except (OSError, subprocess.TimeoutExpired) as error:
+        raise NoAnswer(f"{plansheet} did not run: {error}") from None
+    return run.stdout

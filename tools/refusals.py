@@ -1,0 +1,121 @@
+"""What the numbers of refusals mean."""
+
+from dataclasses import dataclass
+
+from listing import Refusal
+from sheet import Sheet
+from source import marked
+
+LIMITS = {
+    "nodes": 512,
+    "child entries": 512,
+    "numbers": 256,
+    "names": 128,
+    "string bytes": 8192,
+    "text bytes": 16384,
+}
+
+
+@dataclass(frozen=True)
+class Meaning:
+    """The Rust's name of a refusal, its meaning, and what its place and its counts are."""
+
+    title: str
+    meaning: str
+    place: str = ""
+    counts: str = ""
+    node_in_first_count: str = ""
+
+
+UNKNOWN = Meaning("unknown", "this tool has no words for it", "the place", "counts {0} and {1}")
+
+MEANINGS = {
+    1: Meaning("over a limit", "the rule is larger than the planner takes"),
+    2: Meaning(
+        "tables broken",
+        "the tables of the sheet break their rules (from rule text: a name longer than 255 bytes)",
+    ),
+    3: Meaning("too deep", "arrays, sets and objects stand inside each other more than 32 deep"),
+    4: Meaning("name twice", "the sheet lists a name twice, which no rule text leads to"),
+    5: Meaning("no root", "the sheet names a node that it hasn't, which no rule text leads to"),
+    6: Meaning(
+        "plan too large",
+        "the plan doesn't fit into the planner's 1536 entries",
+        counts="entries needed: {0}",
+    ),
+    7: Meaning("unreadable", "the planner can't read the sheet, which no rule text leads to"),
+    11: Meaning(
+        "ColonEqualsRequiresBindableLeft",
+        "the left of := has no name to bind and no _",
+        "the left side",
+    ),
+    12: Meaning(
+        "ArraySizeMismatch",
+        "both sides bind, and two arrays to be paired item by item have different lengths",
+        "the left array",
+        "items of the left array: {0}, of the right array: {1}",
+    ),
+    13: Meaning(
+        "ArrayLengthMismatch",
+        "an array of the value hasn't the length that the pattern asks for",
+        "the value's array",
+        "items expected by the pattern: {0}, items of the value: {1}",
+    ),
+    14: Meaning(
+        "ObjectLiteralKeysMismatch",
+        "an object of the value hasn't the literal keys that the pattern asks for",
+        "the value's object",
+        node_in_first_count="the pattern's object",
+    ),
+    15: Meaning(
+        "ObjectFieldCountMismatch",
+        "both sides bind, and two objects to be paired key by key differ in their fields",
+        "the left object",
+        "different keys of the left object: {0}, fields of the right object: {1}",
+    ),
+    16: Meaning(
+        "ObjectKeyNotFound",
+        "both sides bind, and the left object hasn't this key of the right object",
+        "the right key",
+    ),
+    17: Meaning(
+        "VariableAlreadyDefined",
+        "a name that this rule has to define is defined already",
+        "the name",
+    ),
+    18: Meaning(
+        "IncompatibleDestructuringPatterns",
+        "the sides can't be matched: an array meets an object, or both sides bind here and are not"
+        " two arrays, or two objects with literal keys",
+        "the binding side; where both bind, the left",
+    ),
+}
+
+
+def refusal_in_words(sheet: Sheet, refusal: Refusal) -> str:
+    meaning = MEANINGS.get(refusal.number, UNKNOWN)
+    lines = [f"refused, {refusal.number} {meaning.title}: {meaning.meaning}"]
+    if refusal.place:
+        lines.append(marked_node(sheet, refusal.place, meaning.place))
+    first, _ = refusal.counts
+    if meaning.node_in_first_count and 1 <= first <= len(sheet.nodes):
+        lines.append(marked_node(sheet, first, meaning.node_in_first_count))
+    if meaning.counts:
+        lines.append(meaning.counts.format(*refusal.counts))
+    if refusal.number == 1:
+        lines += over_limits(sheet)
+    return "\n".join(lines) + "\n"
+
+
+def marked_node(sheet: Sheet, number: int, label: str) -> str:
+    node = sheet.node(number)
+    return marked(sheet.text, node.start, node.end, label)
+
+
+def over_limits(sheet: Sheet) -> list[str]:
+    counts = sheet.counts()
+    return [
+        f"{what}: {counts[what]}, at most {limit}"
+        for what, limit in LIMITS.items()
+        if counts[what] > limit
+    ]

@@ -1,0 +1,90 @@
+"""The tokens of a line of rule text, with their places in bytes."""
+
+import re
+from dataclasses import dataclass
+from enum import Enum
+
+from source import part
+
+
+class RuleTextError(Exception):
+    """Rule text that can't be read, and the bytes that are to blame."""
+
+    def __init__(self, message: str, start: int, end: int) -> None:
+        super().__init__(message)
+        self.start = start
+        self.end = end
+
+
+class TokenKind(Enum):
+    NAME = "name"
+    NUMBER = "number"
+    STRING = "string"
+    RAW_STRING = "raw_string"
+    SYMBOL = "symbol"
+    END = "end"
+
+
+@dataclass(frozen=True)
+class Token:
+    kind: TokenKind
+    start: int
+    end: int
+    text: bytes
+
+    def found(self) -> str:
+        """The token as an error message names it."""
+        if self.kind is TokenKind.END:
+            return "the end of the rule"
+        return f"`{part(self.text, 0, len(self.text))}`"
+
+
+BLANKS = re.compile(rb"[ \t]*")
+TOKEN = re.compile(
+    rb"""
+    (?P<name>[A-Za-z_][A-Za-z0-9_]*)
+    | (?P<number>[0-9]+(?:\.[0-9]+)?(?:[eE][-+]?[0-9]+)?)
+    | (?P<string>"(?:[^"\\]|\\.)*")
+    | (?P<raw_string>`[^`]*`)
+    | (?P<symbol>:=|==|!=|<=|>=|[-+*/%&|<>=:;,.()\[\]{}])
+    """,
+    re.VERBOSE,
+)
+
+
+def read_tokens(text: bytes) -> list[Token]:
+    """All tokens, the end of the rule as the last."""
+    check_line(text)
+    tokens = []
+    place = after_blanks(text, 0)
+    while place < len(text):
+        found = TOKEN.match(text, place)
+        if found is None:
+            raise no_token(text, place)
+        kind = TokenKind(found.lastgroup)
+        tokens.append(Token(kind, found.start(), found.end(), found.group()))
+        place = after_blanks(text, found.end())
+    tokens.append(Token(TokenKind.END, len(text), len(text), b""))
+    return tokens
+
+
+def check_line(text: bytes) -> None:
+    try:
+        text.decode()
+    except UnicodeDecodeError as error:
+        raise RuleTextError("rule text is UTF-8, this is not", error.start, error.end) from None
+    line_end = re.search(rb"[\r\n]", text)
+    if line_end:
+        raise RuleTextError("rule text is one line, and it ends here", *line_end.span())
+
+
+def after_blanks(text: bytes, place: int) -> int:
+    blanks = BLANKS.match(text, place)
+    return blanks.end() if blanks else place
+
+
+def no_token(text: bytes, place: int) -> RuleTextError:
+    character = text[place:].decode()[0]
+    if character in "\"`":
+        return RuleTextError(f"this string has no closing {character}", place, len(text))
+    return RuleTextError("no token of a rule starts here", place, place + len(character.encode()))
