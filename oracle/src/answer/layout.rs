@@ -1,0 +1,87 @@
+//! Plans of the Rust as plan entries. The Rust's plan does not name every node, so a plan is read
+//! beside the pattern that it was made from.
+
+use super::expr::{last_field, Field};
+use super::listing::Entry;
+use planner::ast::{Expr, ExprRef};
+use planner::compiler::destructuring_planner::DestructuringPlan;
+use planner::value::Value;
+use std::collections::BTreeMap;
+
+mod kind {
+    pub const BIND: u32 = 1;
+    pub const IGNORE: u32 = 2;
+    pub const COMPARE_EXPRESSION: u32 = 3;
+    pub const COMPARE_LITERAL: u32 = 4;
+    pub const ARRAY: u32 = 5;
+    pub const OBJECT: u32 = 6;
+    pub const PAIR: u32 = 7;
+}
+
+#[derive(Default)]
+pub struct Layout {
+    pub entries: Vec<Entry>,
+}
+
+impl Layout {
+    pub fn plan(&mut self, plan: &DestructuringPlan, pattern: &ExprRef) {
+        self.field(0, plan, pattern);
+    }
+
+    pub fn pair(&mut self, value: &ExprRef, plan: &DestructuringPlan, pattern: &ExprRef) {
+        self.push(kind::PAIR, value.eidx(), 1, 0);
+        self.plan(plan, pattern);
+    }
+
+    fn push(&mut self, kind: u32, node: u32, children: usize, key: u32) {
+        self.entries.push(Entry { kind, node, children: children as u32, key });
+    }
+
+    fn field(&mut self, key: u32, plan: &DestructuringPlan, pattern: &ExprRef) {
+        let node = pattern.eidx();
+        match (plan, pattern.as_ref()) {
+            (DestructuringPlan::Var(span), _) => {
+                assert_eq!(span.node, node);
+                self.push(kind::BIND, node, 0, key);
+            }
+            (DestructuringPlan::Ignore, _) => self.push(kind::IGNORE, node, 0, key),
+            (DestructuringPlan::EqualityExpr(expr), _) => {
+                assert_eq!(expr.eidx(), node);
+                self.push(kind::COMPARE_EXPRESSION, node, 0, key);
+            }
+            (DestructuringPlan::EqualityValue(_), _) => {
+                self.push(kind::COMPARE_LITERAL, node, 0, key);
+            }
+            (DestructuringPlan::Array { element_plans }, Expr::Array { items, .. }) => {
+                assert_eq!(element_plans.len(), items.len());
+                self.push(kind::ARRAY, node, items.len(), key);
+                element_plans.iter().zip(items).for_each(|(plan, item)| self.plan(plan, item));
+            }
+            (
+                DestructuringPlan::Object { field_plans, dynamic_fields },
+                Expr::Object { fields, .. },
+            ) => {
+                self.push(kind::OBJECT, node, field_plans.len() + dynamic_fields.len(), key);
+                self.fields(field_plans, dynamic_fields, fields);
+            }
+            _ => panic!("the plan of node {node} has not its pattern's shape: {plan:?}"),
+        }
+    }
+
+    fn fields(
+        &mut self,
+        literal: &BTreeMap<Value, DestructuringPlan>,
+        computed: &[(ExprRef, DestructuringPlan)],
+        fields: &[Field],
+    ) {
+        for (key, plan) in literal {
+            let (_, key, value) = last_field(fields, key).expect("a key of the pattern");
+            self.field(key.eidx(), plan, value);
+        }
+        for (key, plan) in computed {
+            let field = fields.iter().find(|field| field.1 == *key);
+            let (_, key, value) = field.expect("a field of the pattern");
+            self.field(key.eidx(), plan, value);
+        }
+    }
+}
