@@ -50,9 +50,12 @@ impl Node {
 }
 
 impl Tables<'_> {
-    /// The node's children; its range lies within the child list.
+    /// The node's children; the range of a node that has some lies within the child list.
     pub fn children_of(&self, node: &Node) -> &[u32] {
-        &self.children[node.first as usize..][..node.width() as usize]
+        match node.width() as usize {
+            0 => &[],
+            width => &self.children[node.first as usize..][..width],
+        }
     }
 
     /// The bytes of a string or raw string that lies within its store.
