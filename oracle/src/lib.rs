@@ -1,5 +1,9 @@
 //! The published Rust planner behind the sheets of document 01, and what is compared with it.
 
 pub mod answer;
+pub mod comparison;
+pub mod generate;
 pub mod sheets;
+pub mod subject;
+pub mod tally;
 pub mod trials;

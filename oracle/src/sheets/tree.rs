@@ -23,6 +23,18 @@ impl Tree {
         Self::String(text.into())
     }
 
+    /// Whether a name stands anywhere in it.
+    pub fn has_name(&self, name: &str) -> bool {
+        match self {
+            Self::Name(own) => own == name,
+            Self::Array(items) | Self::Set(items) => items.iter().any(|item| item.has_name(name)),
+            Self::Object(fields) => {
+                fields.iter().any(|(key, value)| key.has_name(name) || value.has_name(name))
+            }
+            _ => false,
+        }
+    }
+
     /// The number of nodes.
     pub fn size(&self) -> usize {
         1 + match self {

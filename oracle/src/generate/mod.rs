@@ -1,0 +1,74 @@
+//! The seeded generator of sheets.
+
+mod damage;
+mod disguise;
+mod edges;
+pub mod exhaustive;
+mod grow;
+mod mutate;
+mod palette;
+mod random;
+mod rules;
+
+use crate::sheets::draft::Draft;
+use crate::sheets::encode;
+use random::Random;
+
+/// The sheet of a case; a seed and a case give the same sheet everywhere.
+pub fn sheet(seed: u64, case: u64) -> Vec<u8> {
+    let random = &mut Random::of_case(seed, case);
+    match random.weighted(&[620, 60, 90, 90, 30, 30, 40, 30, 20]) {
+        0 => planned(random).bytes(),
+        1 => exhaustive::any(random),
+        2 => {
+            let mut draft = planned(random);
+            damage::break_tables(random, &mut draft);
+            draft.bytes()
+        }
+        3 => {
+            let draft = planned(random);
+            let mut sheet = draft.bytes();
+            damage::break_bytes(random, &mut sheet, draft.strings.len() + draft.text.len());
+            sheet
+        }
+        4 => {
+            let mut draft = encode(&rules::rule(random));
+            damage::repeat_name(random, &mut draft);
+            disguise::disguise(random, &mut draft);
+            draft.bytes()
+        }
+        5 => disguised(random, edges::deep),
+        6 => edges::at_a_limit(random).bytes(),
+        7 => {
+            let mut draft = planned(random);
+            let outside = [0, draft.nodes.len() as u32 + 1, 999_999];
+            draft.roots[random.below(3)] = *random.pick(&outside);
+            draft.bytes()
+        }
+        _ => disguised(random, edges::many_entries),
+    }
+}
+
+fn disguised(random: &mut Random, make: impl Fn(&mut Random) -> Draft) -> Vec<u8> {
+    let mut draft = make(random);
+    disguise::disguise(random, &mut draft);
+    draft.bytes()
+}
+
+fn planned(random: &mut Random) -> Draft {
+    let mut draft = encode(&rules::rule(random));
+    if random.chance(80) {
+        disguise::disguise(random, &mut draft);
+    }
+    let nodes = draft.nodes.len();
+    if random.chance(3) {
+        let root = 1 + random.below(nodes) as u32;
+        draft.roots[random.below(2)] = root;
+    }
+    if matches!(draft.operation, 1 | 5 | 6) && random.chance(20) {
+        let any = [0, 1, nodes as u32, nodes as u32 + 1, 999_999];
+        draft.roots[1] = *random.pick(&any);
+        draft.roots[2] = *random.pick(&any);
+    }
+    draft
+}
