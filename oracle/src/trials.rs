@@ -13,9 +13,11 @@ type Row = (&'static str, &'static [(&'static str, u32)], &'static str);
 
 const BOUND: u32 = 1;
 const SAME_SCOPE: u32 = 2;
+const GLOBAL: u32 = 16;
 
+/// Document 01, "Rules on trial".
 #[rustfmt::skip]
-const STARRED: &[Row] = &[
+const ON_TRIAL: &[Row] = &[
     ("index [x, x]", &[], "0 0 0 3, 5 3 2 0, 1 1 0 0, 3 2 0 0"),
     ("x := 1", &[("x", SAME_SCOPE)], "17 1 0 0"),
     ("x := 1", &[("x", BOUND)], "0 1 0 1, 1 1 0 0"),
@@ -27,22 +29,94 @@ const STARRED: &[Row] = &[
     ("[x, 1] = [1, x]", &[], "0 4 0 4, 7 4 1 0, 1 1 0 0, 7 5 1 0, 3 2 0 0"),
     ("[x] := [1, 2]", &[], "13 5 1 2"),
     ("[x, [y]] := [1, [1, 2]]", &[], "0 1 0 4, 5 4 2 0, 1 1 0 0, 5 3 1 0, 1 2 0 0"),
-    ("{1: x} := {\"1\": 2}", &[], "0 1 0 2, 6 3 1 0, 1 2 0 1"),
-    ("pattern {\"b\": x, \"a\": x}", &[], "0 0 0 3, 6 5 2 0, 3 4 0 3, 1 2 0 1"),
-];
-
-#[rustfmt::skip]
-const OTHERS: &[Row] = &[
-    ("some x, x in xs", &[("xs", BOUND)], "0 1 0 2, 1 3 0 0, 1 1 0 0"),
+    (r#"{1: x} := {"1": 2}"#, &[], "0 1 0 2, 6 3 1 0, 1 2 0 1"),
+    (r#"pattern {"b": x, "a": x}"#, &[], "0 0 0 3, 6 5 2 0, 3 4 0 3, 1 2 0 1"),
+    ("some x, x in xs", &[], "0 1 0 2, 1 3 0 0, 1 1 0 0"),
     ("some [x] in []", &[], "0 0 0 2, 5 2 1 0, 1 1 0 0"),
     ("some [x] in [[], [1, 2]]", &[], "13 3 1 0"),
-    ("{\"a\": x, \"b\": y} = {\"a\": 1, \"a\": z}", &[], "0 4 0 4, 7 7 1 0, 1 2 0 0, 7 2 1 0, 1 9 0 0"),
+    (r#"{"a": x, "b": y} = {"a": 1, "a": z}"#, &[], "0 4 0 4, 7 7 1 0, 1 2 0 0, 7 2 1 0, 1 9 0 0"),
 ];
 
-/// The starred trials first.
+/// Other sentences of document 01, its traps among them.
+#[rustfmt::skip]
+const SENTENCES: &[Row] = &[
+    // One side's preview does not see the other's names.
+    ("[x] = [x]", &[], "18 1 0 0"),
+    // Nothing is looked at after an unknown item.
+    (r#"{"a": x, "b": [y]} := {"a": 1, "b": [1, 2]}"#, &[], "0 1 0 4, 6 6 2 0, 1 2 0 1, 5 5 1 3, 1 4 0 0"),
+    ("[[], [x]] := [[], [1, 2]]", &[], "13 8 1 2"),
+    // Left keys are counted without repeats.
+    (r#"[{"a": x, "a": y}, 1] = [{"a": 1, "b": 2}, z]"#, &[], "15 5 1 2"),
+    (r#"[{"a": x, "a": y}, 1] = [{"a": 2}, z]"#, &[], "0 4 0 4, 7 9 1 0, 1 4 0 0, 7 6 1 0, 1 11 0 0"),
+    (r#"[{"a": x}, 1] = [{"b": 2}, z]"#, &[], "16 6 0 0"),
+    (r#"[{"a": x, "b": y}, 1] = [{"c": 1, "d": 2}, z]"#, &[], "16 8 0 0"),
+    ("[[x], 1] = [[1, 2], y]", &[], "12 2 1 2"),
+    (r#"{"a": x} := {"b": 1}"#, &[], "14 6 3 0"),
+    (r#"[{"a": x}] := [{"b": 1}]"#, &[], "14 7 3 0"),
+    ("[1, 2] = [x]", &[], "13 3 1 2"),
+    (r#"{"a": 1} = [x]"#, &[], "18 5 0 0"),
+    (r#"[{}, x] := [{"a": 1}, [2]]"#, &[], "0 1 0 3, 5 3 2 0, 6 1 0 0, 1 2 0 0"),
+    (r#"[{}, [x]] := [{"a": 1}, [1, 2]]"#, &[], "13 10 1 2"),
+    // Objects with a computed key are not taken apart in pairs.
+    (r#"[{k: x}, 1] = [{"a": 1}, y]"#, &[], "0 4 0 5, 7 8 1 0, 6 3 1 0, 1 2 0 1, 7 4 1 0, 1 9 0 0"),
+    (r#"[{"a": x}, 1] = [{k: 2}, y]"#, &[], "0 4 0 5, 7 8 1 0, 6 3 1 0, 1 2 0 1, 7 4 1 0, 1 9 0 0"),
+    (r#"{k: x} = {"a": y}"#, &[], "18 3 0 0"),
+    // A computed field of the pattern leaves its object unknown, one of the value is passed over.
+    (r#"[{"a": [], k: x}, [y]] := [{"a": []}, [1, 2]]"#, &[],
+        "0 1 0 6, 5 8 2 0, 6 5 2 0, 5 2 0 1, 1 4 0 3, 5 7 1 0, 1 6 0 0"),
+    ("[{k: x}, [y]] := [{}, [1, 2]]", &[], "0 1 0 5, 5 6 2 0, 6 3 1 0, 1 2 0 1, 5 5 1 0, 1 4 0 0"),
+    (r#"{"a": x} := {"a": 1, k: 2}"#, &[], "0 1 0 2, 6 3 1 0, 1 2 0 1"),
+    // Key texts sorted, with repeats kept.
+    ("{2: x, 10: y} := {10: 1, 2: 3}", &[], "0 1 0 3, 6 5 2 0, 1 2 0 1, 1 4 0 3"),
+    (r#"{"a": x} := {"a": 1, "a": 2}"#, &[], "14 8 3 0"),
+    // A repeated key keeps the last plan and key node; the lost names stay tracked.
+    (r#"pattern {"a": x, `a`: y}"#, &[], "0 0 0 2, 6 5 1 0, 1 4 0 3"),
+    (r#"index [{"a": x, "a": 1}, x]"#, &[], "0 0 0 4, 5 7 2 0, 6 5 1 0, 4 4 0 3, 3 6 0 0"),
+    (r#"pattern {k: x, "a": y}"#, &[], "0 0 0 3, 6 5 2 0, 1 4 0 3, 1 2 0 1"),
+    (r#"pattern {"a": 1, 2: 3, true: 4, null: 5, -1: 6, false: 7}"#, &[],
+        "0 0 0 7, 6 13 6 0, 4 8 0 7, 4 12 0 11, 4 6 0 5, 4 10 0 9, 4 4 0 3, 4 2 0 1"),
+    ("pattern {x}", &[], "0 0 0 1, 3 2 0 0"),
+    ("pattern f()", &[], "0 0 0 1, 3 1 0 0"),
+    ("pattern _", &[("_", 4)], "0 0 0 1, 2 1 0 0"),
+    // Marks 1 and 8; 16; 4 and 16.
+    ("index x", &[("x", 9)], "0 0 0 1, 3 1 0 0"),
+    ("scheduler index x", &[("x", 9)], "0 0 0 1, 1 1 0 0"),
+    ("index x", &[("x", 16)], "0 0 0 1, 3 1 0 0"),
+    ("index x", &[("x", 20)], "0 0 0 1, 1 1 0 0"),
+    ("shadowing pattern x", &[("x", 31)], "0 0 0 1, 1 1 0 0"),
+    // Validation looks inside sets and passes over input and data.
+    ("shadowing parameter {x}", &[("x", BOUND)], "17 1 0 0"),
+    ("parameter {x}", &[("x", BOUND)], "0 0 0 1, 3 2 0 0"),
+    ("shadowing parameter {input, data}", &[("input", BOUND), ("data", BOUND)], "0 0 0 1, 3 3 0 0"),
+    ("some x, y in xs", &[("x", BOUND), ("y", BOUND)], "17 3 0 0"),
+    ("some [x] in [[1, 2], f()]", &[], "0 0 0 2, 5 2 1 0, 1 1 0 0"),
+    ("some [] in [[1], []]", &[], "0 0 0 1, 5 1 0 0"),
+    ("x = _", &[], "0 6 2 0"),
+    ("_ = _", &[], "0 6 3 0"),
+    ("1 = 1", &[], "0 5 0 0"),
+    ("x = 1", &[], "0 2 0 1, 1 1 0 0"),
+    ("1 = x", &[], "0 3 0 1, 1 2 0 0"),
+];
+
+/// Smallest inputs where the Rust and the Rego reference differ, beside those above.
+#[rustfmt::skip]
+const DIFFERENCES: &[Row] = &[
+    ("[x, 1] := [2, 1]", &[], "0 1 0 3, 5 3 2 0, 1 1 0 0, 4 2 0 0"),
+    ("[x, x] := [1, 1]", &[], "0 1 0 3, 5 3 2 0, 1 1 0 0, 3 2 0 0"),
+    ("[x, y] = [y, 1]", &[], "18 1 0 0"),
+    ("x := y", &[], "0 1 0 1, 1 1 0 0"),
+    ("x := _", &[], "0 1 0 1, 1 1 0 0"),
+    ("{x} = {1}", &[], "0 5 0 0"),
+    (r#"{k: v} = {"a": 1}"#, &[], "0 2 0 2, 6 3 1 0, 1 2 0 1"),
+    ("some x in xs", &[("x", GLOBAL)], "17 1 0 0"),
+    ("some [x] in [[1, 2]]", &[], "13 5 1 2"),
+    ("input := 1", &[], "0 1 0 1, 1 1 0 0"),
+    (r#"[x] = {"a": 1}"#, &[], "18 2 0 0"),
+];
+
 pub fn trials() -> Vec<Trial> {
-    let rows = STARRED.iter().chain(OTHERS).map(of_row);
-    rows.chain(limit_trials()).collect()
+    let rows = [ON_TRIAL, SENTENCES, DIFFERENCES].concat();
+    rows.iter().map(of_row).chain(limit_trials()).collect()
 }
 
 fn of_row((text, scope, expected): &Row) -> Trial {
@@ -73,8 +147,8 @@ fn limit_trials() -> Vec<Trial> {
     ]
 }
 
-/// In `limits::pairs(26, 57)` the wildcards are nodes 2 to 58, their array 59, the left 1 is 61, the
-/// values of the right "a" are 114, 116, .. and y is 166.
+/// In `limits::pairs(26, 57)` the wildcards are nodes 2 to 58, their array 59, the left 1 is 61,
+/// the values of the right "a" are 114, 116, .. and y is 166.
 fn exact_pairs() -> String {
     let wildcards: String = (2..=58).map(|node| format!(", 2 {node} 0 0")).collect();
     let values = (0..26).map(|time| 114 + 2 * time);

@@ -1,4 +1,5 @@
-//! A sheet in, its listing out: reading and table check are ours, plans and refusals 11 to 18 the Rust's.
+//! A sheet in, its listing out: reading and table check are ours, plans and refusals 11 to 18 are
+//! the Rust's.
 
 mod check;
 mod expr;

@@ -3,6 +3,7 @@
 use super::listing::Refusal;
 use super::tables::{Name, Node, Tables};
 
+#[derive(Debug)]
 pub struct Sheet<'a> {
     pub operation: u32,
     pub scheduler: bool,
@@ -155,7 +156,7 @@ mod tests {
 
     #[test]
     fn the_example_of_document_01() {
-        let sheet = read(EXAMPLE.as_bytes()).ok().expect("the example is a sheet");
+        let sheet = read(EXAMPLE.as_bytes()).expect("the example is a sheet");
         assert_eq!((sheet.operation, sheet.scheduler, sheet.scoping), (5, false, 1));
         assert_eq!((sheet.first, sheet.second, sheet.key), (3, 0, 0));
         assert_eq!(sheet.tables.nodes.len(), 3);

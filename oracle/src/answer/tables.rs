@@ -1,5 +1,6 @@
 //! The tables of a sheet, as read.
 
+#[derive(Debug)]
 pub struct Tables<'a> {
     /// Node `n` stands at place `n - 1`.
     pub nodes: Vec<Node>,
@@ -10,7 +11,7 @@ pub struct Tables<'a> {
     pub text: &'a [u8],
 }
 
-#[derive(Clone, Copy)]
+#[derive(Clone, Copy, Debug)]
 pub struct Node {
     pub kind: u32,
     pub start: u32,
@@ -19,6 +20,7 @@ pub struct Node {
     pub count: u32,
 }
 
+#[derive(Debug)]
 pub struct Name {
     pub start: u32,
     pub length: u32,

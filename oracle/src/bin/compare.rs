@@ -1,5 +1,5 @@
-//! compare [--oracle-only] [--exhaustive] [--seed SEED] [N]: holds the program under test against the
-//! Rust on N generated sheets (100,000), or on all small ones, and prints a tally.
+//! compare [--oracle-only] [--exhaustive] [--seed SEED] [N]: holds the program under test against
+//! the Rust on N generated sheets (100,000), or on all small ones, and prints a tally.
 
 use oracle::comparison::Comparison;
 use oracle::generate::{exhaustive, sheet};

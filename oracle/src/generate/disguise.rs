@@ -1,4 +1,4 @@
-//! The same sheet in another layout: nodes, names and numbers renumbered, entries that nothing uses.
+//! The same sheet in another layout: nodes, names and numbers renumbered, and unused entries.
 
 use super::random::Random;
 use crate::sheets::draft::{Draft, END, FIRST, KIND, START};

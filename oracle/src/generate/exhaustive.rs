@@ -121,7 +121,7 @@ fn lists(size: usize) -> Vec<Vec<Tree>> {
         let rests = lists(size - first);
         for tree in of_size(first) {
             for rest in &rests {
-                all.push([&[tree.clone()], rest.as_slice()].concat());
+                all.push([std::slice::from_ref(&tree), rest].concat());
             }
         }
     }

@@ -62,6 +62,31 @@ pub fn mirror(random: &mut Random, palette: &Palette, pattern: &Tree) -> Tree {
     }
 }
 
+/// Both sides behind an item that the structure check mostly calls a match, so it comes to them.
+pub fn after_matches(
+    random: &mut Random,
+    palette: &Palette,
+    left: Tree,
+    right: Tree,
+) -> (Tree, Tree) {
+    let (array, object) = (Tree::Array(Vec::new()), Tree::Object(Vec::new()));
+    let field = (Palette::literal_key(random), array.clone());
+    let computed = (palette.name(random), palette.name(random));
+    let (one, other) = match random.below(5) {
+        0 => (array.clone(), array),
+        1 => (object.clone(), object),
+        2 => (object, Tree::Object(vec![field])),
+        3 => (Tree::Object(vec![computed.clone()]), Tree::Object(vec![computed])),
+        _ => (Tree::Object(vec![field.clone(), computed]), Tree::Object(vec![field])),
+    };
+    if random.chance(70) {
+        (Tree::Array(vec![one, left]), Tree::Array(vec![other, right]))
+    } else {
+        let fields = |one, other| Tree::Object(vec![(Tree::Null, one), (Tree::Bool(true), other)]);
+        (fields(one, left), fields(other, right))
+    }
+}
+
 /// Two sides made together, so that mostly one of them binds at each place.
 pub fn twins(random: &mut Random, palette: &Palette, depth: usize) -> (Tree, Tree) {
     if depth == 0 || random.chance(15) {
@@ -113,10 +138,29 @@ fn twin_objects(
     }
     random.shuffle(&mut right);
     let place = random.below(count);
-    match random.weighted(&[76, 12, 12]) {
+    match random.weighted(&[60, 10, 12, 12, 6]) {
         0 => {}
-        1 => right[place].0 = left[random.below(count)].0.clone(),
-        _ => right[place].0 = Palette::literal_key(random),
+        1 => computed_key(random, palette, &mut left, &mut right),
+        2 => right[place].0 = left[random.below(count)].0.clone(),
+        3 => right[place].0 = Palette::literal_key(random),
+        _ => right.iter_mut().for_each(|field| field.0 = Palette::literal_key(random)),
     }
     (Tree::Object(left), Tree::Object(right))
+}
+
+/// A computed key in one of the two sides, or in both.
+fn computed_key(
+    random: &mut Random,
+    palette: &Palette,
+    left: &mut [(Tree, Tree)],
+    right: &mut [(Tree, Tree)],
+) {
+    let key = palette.name(random);
+    let sides = random.below(3);
+    if sides != 0 {
+        left[random.below(left.len())].0 = key.clone();
+    }
+    if sides != 1 {
+        right[random.below(right.len())].0 = key;
+    }
 }

@@ -12,7 +12,7 @@ mod rules;
 
 use crate::sheets::draft::Draft;
 use crate::sheets::encode;
-use random::Random;
+pub use random::Random;
 
 /// The sheet of a case; a seed and a case give the same sheet everywhere.
 pub fn sheet(seed: u64, case: u64) -> Vec<u8> {
@@ -71,4 +71,39 @@ fn planned(random: &mut Random) -> Draft {
         draft.roots[2] = *random.pick(&any);
     }
     draft
+}
+
+#[cfg(test)]
+mod tests {
+    use super::*;
+    use crate::answer::{answer, Answer};
+
+    /// The answer without the numbers of nodes.
+    fn shape(answer: &Answer) -> String {
+        match &answer.outcome {
+            Ok(plan) => {
+                let kinds = plan.entries.iter().map(|entry| (entry.kind, entry.children));
+                format!("{} {} {:?}", plan.form, plan.side, kinds.collect::<Vec<_>>())
+            }
+            Err(refusal) => format!("refusal {}", refusal.number),
+        }
+    }
+
+    #[test]
+    fn rules_keep_the_table_rules_and_a_disguise_keeps_the_answer() {
+        for case in 0..2000 {
+            let random = &mut Random::of_case(1, case);
+            let mut draft = encode(&rules::rule(random));
+            let plain = shape(&answer(&draft.bytes()));
+            disguise::disguise(random, &mut draft);
+            assert_eq!(shape(&answer(&draft.bytes())), plain, "case {case}");
+            assert!(!["refusal 2", "refusal 7"].contains(&plain.as_str()), "case {case}");
+        }
+    }
+
+    #[test]
+    fn a_case_is_always_the_same_sheet() {
+        assert_eq!(sheet(3, 14), sheet(3, 14));
+        assert_ne!(sheet(3, 14), sheet(4, 14));
+    }
 }

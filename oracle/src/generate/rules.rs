@@ -1,6 +1,6 @@
 //! Random rules of the six operations.
 
-use super::grow::{grow, mirror, twins};
+use super::grow::{after_matches, grow, mirror, twins};
 use super::mutate::{mutate, reshape};
 use super::palette::Palette;
 use super::random::Random;
@@ -35,6 +35,20 @@ fn pattern(random: &mut Random, palette: &Palette) -> Tree {
     }
 }
 
+/// A pattern and a value that it nearly takes apart.
+fn near_sides(random: &mut Random, palette: &Palette) -> (Tree, Tree) {
+    let left = pattern(random, palette);
+    let right = near(random, palette, &left);
+    match random.weighted(&[50, 25, 25]) {
+        0 => (left, right),
+        1 => after_matches(random, palette, left, right),
+        _ => {
+            let (name, value) = (palette.name(random), Palette::literal(random));
+            (Tree::Array(vec![left, name]), Tree::Array(vec![right, value]))
+        }
+    }
+}
+
 /// A value that the pattern takes apart, but for a few changes.
 fn near(random: &mut Random, palette: &Palette, pattern: &Tree) -> Tree {
     let mut value = mirror(random, palette, pattern);
@@ -55,8 +69,7 @@ fn parameter(random: &mut Random, palette: &Palette) -> Rule {
 }
 
 fn colon_equals(random: &mut Random, palette: &Palette) -> Rule {
-    let left = pattern(random, palette);
-    let right = near(random, palette, &left);
+    let (left, right) = near_sides(random, palette);
     Rule::two_sided(Operation::ColonEquals, left, right)
 }
 
@@ -66,11 +79,7 @@ fn equals(random: &mut Random, palette: &Palette) -> Rule {
             let depth = random.weighted(&[10, 40, 40, 10]);
             twins(random, palette, depth)
         }
-        1 => {
-            let left = pattern(random, palette);
-            let right = near(random, palette, &left);
-            (left, right)
-        }
+        1 => near_sides(random, palette),
         2 => (
             Tree::name("_"),
             if random.chance(25) { Tree::name("_") } else { grow(random, palette, 1) },

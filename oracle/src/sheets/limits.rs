@@ -49,8 +49,8 @@ pub fn depth(depth: usize) -> Draft {
     pattern((1..depth).fold(Tree::name("x"), |inner, _| Tree::Array(vec![inner])))
 }
 
-/// `{"a": [_, ..], "b": 1, ..} = {"a": 2, .., "b": y}`: the array is paired with each 2, so the plan has
-/// `times * (wildcards + 2) + 2` entries.
+/// `{"a": [_, ..], "b": 1, ..} = {"a": true, .., "b": y}`: the array is paired with each true, so the
+/// plan has `times * (wildcards + 2) + 2` entries.
 pub fn pairs(times: usize, wildcards: usize) -> Draft {
     let field = |key: &str, value| (Tree::string(key), value);
     let mut left = vec![field("a", Tree::Array(vec![Tree::name("_"); wildcards]))];

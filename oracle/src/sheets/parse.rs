@@ -1,9 +1,16 @@
-//! Rules written by hand, for the trials: `[x, 1] = [1, x]`, `some k, v in xs`, `index [x, x]`.
+//! Rules written by hand, for the trials: `[x, 1] = [1, x]`, `some k, v in xs`, `index [x, x]`,
+//! `shadowing parameter x`, `scheduler index x`.
 
 use super::tree::{Operation, Rule, Tree};
 
-/// The rule that a text says. The text is ours, so one that can't be read is a fault of the program.
+/// The rule that a text says. The texts are ours, so one that can't be read is a fault of ours.
 pub fn rule(text: &str) -> Rule {
+    if let Some(text) = text.strip_prefix("scheduler ") {
+        return Rule { scheduler: true, ..rule(text) };
+    }
+    if let Some(text) = text.strip_prefix("shadowing ") {
+        return Rule { shadowing: true, ..rule(text) };
+    }
     let singles = [
         ("pattern ", Operation::Pattern),
         ("index ", Operation::Index),
@@ -123,5 +130,26 @@ impl<'a> Reader<'a> {
             "null" => Tree::Null,
             _ => word.parse().map_or_else(|_| Tree::name(word), Tree::Number),
         }
+    }
+}
+
+#[cfg(test)]
+mod tests {
+    use super::*;
+
+    #[test]
+    fn braces_are_objects_or_sets() {
+        assert_eq!(tree("{}"), Tree::Object(Vec::new()));
+        assert_eq!(tree("set()"), Tree::Set(Vec::new()));
+        assert_eq!(tree("{1}"), Tree::Set(vec![Tree::Number(1)]));
+        assert_eq!(tree("{{1}, x}"), Tree::Set(vec![tree("{1}"), Tree::name("x")]));
+        assert_eq!(tree("{[x]: {}}"), Tree::Object(vec![(tree("[x]"), tree("{}"))]));
+    }
+
+    #[test]
+    fn a_some_in_key_stands_in_front() {
+        let rule = rule("some k, [v] in xs");
+        assert_eq!(rule.key, Some(Tree::name("k")));
+        assert_eq!((rule.first, rule.second), (tree("[v]"), Some(Tree::name("xs"))));
     }
 }

@@ -1,5 +1,5 @@
 
-// From here on ours, appended by oracle/build: the types that the published file names and does not have.
+// From here on ours, appended by oracle/build: types that the published file names and lacks.
 
 pub type ExprRef = Ref<Expr>;
 

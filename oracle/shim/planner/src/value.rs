@@ -1,4 +1,4 @@
-//! A stand-in for `value::Value`: literals, in the order of keys that value/mod.rs and number.rs give.
+//! A stand-in for `value::Value`: literals, in the order of keys of value/mod.rs and number.rs.
 
 use crate::Rc;
 use core::fmt;
