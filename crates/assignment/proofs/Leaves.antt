@@ -8,7 +8,7 @@ use mir.Val.{Fits}
 use mir.Syntax.{w64}
 use borrow.Author.Tests.{eq-eqb, ne-eqb, eqb-true, eqb-false, le-leb, lt-leb}
 use lib.Dec.{eqb, leb}
-use lib.ListN.{length, getD, set}
+use lib.ListN.{getD, set}
 use lib.Seq.{getD-set-other}
 use Rattle.table.specs.Tables.{Tables, kindOf, firstOf, countOf, childAt}
 use Rattle.table.specs.Rules.{allFrom}

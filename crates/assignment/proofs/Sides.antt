@@ -1,10 +1,10 @@
 -- `:=` and `=`, answer by answer.
-use Prim.Native.Nat.{ℕ, _+_, _*_, _/_, _≤_, _<_}
+use Prim.Native.Nat.{ℕ, _/_}
 use mathlib.Core.Path.{_≡_, refl, sym, ap, subst, _∙_}
-use mathlib.Core.List.{List, [], _∷_, _++_}
-use mathlib.Core.Bool.{Bool, true, false, cond, not, _&&_, and-false}
+use mathlib.Core.List.{List, []}
+use mathlib.Core.Bool.{Bool, true, false, cond, not}
 use native.Mathlib.Omega.{arith}
-use borrow.Author.Tests.{eq-eqb, ne-eqb, eqb-true, eqb-false, not-true, not-false, le-leb}
+use borrow.Author.Tests.{ne-eqb, eqb-true, eqb-false, not-true, not-false, le-leb}
 use lib.Dec.{eqb, leb}
 use lib.ListN.{length, replicate}
 use Rattle.scope.specs.declared.Scope.{Scope}
@@ -16,18 +16,17 @@ use Rattle.table.specs.declared.TableAnswer.the-variants.{Sound}
 use Rattle.table.specs.declared.NameClass.{NameClass}
 use Rattle.table.specs.declared.NameClass.the-variants.{Underscore, InputOrData, Ordinary}
 use Rattle.table.specs.Tables.{Tables, kindOf, firstOf, nameBytes, isNode}
-use Rattle.table.specs.Names.{classOf, sameBytes, underscoreBytes}
-use Rattle.table.specs.Expr.{Expr, literal, name, wildcard, array, set, object, other}
+use Rattle.table.specs.Names.{classOf}
+use Rattle.table.specs.Expr.{Expr, name, wildcard}
 use Rattle.table.specs.Decode.{expr, isWildcard}
 use Rattle.table.specs.Check.{checked}
-use Rattle.table.specs.Sound.{Node, WellFormed}
 use Rattle.table.proofs.Trees.{expr-name, expr-array, expr-object}
 use Rattle.planner.specs.declared.PlanAnswer.{PlanAnswer}
 use Rattle.planner.specs.declared.PlanAnswer.the-variants.{Planned, RootOutside, ColonEqualsRequiresBindableLeft, VariableAlreadyDefined}
-use Rattle.planner.specs.Plan.{DestructuringPlan, plan}
+use Rattle.planner.specs.Plan.{plan}
 use Rattle.planner.specs.Layout.{Entry, entries, words, bindsAny}
 use Rattle.planner.specs.Passes.{stateBy}
-use Rattle.planner.specs.Operations.{Outcome, refused, planned, answered, written, Answered, tableFirst, isSound, planOf}
+use Rattle.planner.specs.Operations.{planned, answered, written, Answered, isSound, planOf}
 use Rattle.planner.specs.Post.{GoodRoot, PatternAsks, PatternPlanned}
 use Rattle.planner.proofs.NodeKinds.{Plain, plain-literal, plain-set, plain-other, plain-kind}
 use Rattle.planner.proofs.SamePlan.{class-wild}
@@ -35,11 +34,9 @@ use Rattle.planner.proofs.Operations.{refuses, sound-well, root-node, table-pas
 use Rattle.assignment.specs.declared.AssignOp.{AssignOp}
 use Rattle.assignment.specs.declared.AssignOp.the-variants.{ColEq, Eq}
 use Rattle.checks.specs.declared.LiteralStructureCheck.{LiteralStructureCheck}
-use Rattle.checks.specs.Structure.{structure}
 use Rattle.checks.specs.PatternStructure.{structureBy}
 use Rattle.planner.specs.Entries.{readEntries}
-use Rattle.checks.specs.Refusals.{unlessDefined}
-use Rattle.assignment.specs.Assignment.{bindSide, firstSameScope, bothInside, colonEqualsFrom, colonEqualsPlanned, isUnderscore, wildcardSide, sideOf, pairsOutcome, equalsFrom, equalsSides, equalsPlanned, byOperator, assignmentOutcome}
+use Rattle.assignment.specs.Assignment.{bindSide, firstSameScope, colonEqualsFrom, colonEqualsPlanned, isUnderscore, sideOf, pairsOutcome, equalsFrom, equalsSides, equalsPlanned, byOperator, assignmentOutcome}
 use Rattle.checks.specs.Post.{GoodPair}
 use Rattle.assignment.specs.Post.{BindAsks, EqualsAsks}
 use Rattle.checks.proofs.Refused.{passes-undefined, refuses-defined}

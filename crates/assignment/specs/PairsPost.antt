@@ -1,5 +1,5 @@
 -- What the functions that flatten an `=` ask and say.
-use Prim.Native.Nat.{ℕ, zero, suc, _+_, _*_, _/_, _^_, _≤_, _<_}
+use Prim.Native.Nat.{ℕ, zero, suc, _+_, _*_, _^_, _≤_, _<_}
 use mathlib.Core.Path.{_≡_}
 use mathlib.Core.Bool.{Bool, true, false, cond, _&&_, not}
 use mathlib.Core.List.{List, [], _∷_}
@@ -7,7 +7,6 @@ use mathlib.Core.Option.{Option}
 use mathlib.Core.Option as Option
 use lib.Dec.{eqb, leb}
 use lib.ListN.{length, getD, replicate}
-use lib.Seq.{sets}
 use Rattle.literal.specs.Literal.{Literal}
 use Rattle.table.specs.Tables.{Tables, kindOf, firstOf, countOf, childAt}
 use Rattle.table.specs.Decode.{isWildcard, expr, items, fields, literalAt}
@@ -15,7 +14,7 @@ use Rattle.table.specs.Expr.{parts, partsAll, partsFields, Fields}
 use Rattle.table.specs.Sound.{Node, WellFormed}
 use Rattle.planner.specs.declared.PlanAnswer.the-variants.{ArraySizeMismatch, ObjectFieldCountMismatch}
 use Rattle.planner.specs.Plan.{fresh, plan, after}
-use Rattle.planner.specs.Layout.{Entry, entry, entries, words, introducesBinding, Slot}
+use Rattle.planner.specs.Layout.{entry, entries, introducesBinding, Slot}
 use Rattle.planner.specs.Passes.{unboundIn, bindersOf, keyNode, valueNode, orderOf}
 use Rattle.planner.specs.Post.{States, OrderedBy}
 use Rattle.assignment.specs.declared.pairs.Flattened.{Flattened}

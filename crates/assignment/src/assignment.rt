@@ -1,7 +1,6 @@
 // `:=` and `=` (assignment.rs).
 ghost use mathlib.Core.Path.{_≡_};
 ghost use mathlib.Core.List.{[]};
-ghost use Prim.Native.Nat.{_≤_};
 ghost use Rattle.table.specs.Tables.{tables};
 ghost use Rattle.table.specs.Decode.{expr};
 ghost use Rattle.planner.specs.Operations.{planned, Answered};
@@ -9,7 +8,7 @@ ghost use Rattle.planner.specs.Post.{GoodRoot};
 ghost use Rattle.planner.specs.Entries.{readEntries};
 ghost use Rattle.assignment.specs.Pairs.{shapeOf};
 ghost use Rattle.checks.specs.PatternStructure.{structureBy};
-ghost use Rattle.assignment.specs.Assignment.{opposed, bindSide, isUnderscore, wildcardSide, sideOf, colonEqualsFrom, colonEqualsPlanned, equalsFrom, equalsSides, equalsPlanned, byOperator, assignmentOutcome};
+ghost use Rattle.assignment.specs.Assignment.{opposed, bindSide, isUnderscore, sideOf, colonEqualsFrom, colonEqualsPlanned, equalsFrom, equalsSides, equalsPlanned, assignmentOutcome};
 ghost use Rattle.checks.specs.Post.{GoodPair};
 ghost use Rattle.assignment.specs.Post.{BindAsks, EqualsAsks};
 use crate::AssignOp;

@@ -2,8 +2,7 @@
 ghost use Prim.Native.Nat.{_+_, _<_, _≤_, _^_};
 ghost use mathlib.Core.Path.{_≡_};
 ghost use mathlib.Core.Bool.{_||_};
-ghost use mathlib.Core.List.{[], _∷_};
-ghost use lib.ListN.{length};
+ghost use mathlib.Core.List.{[]};
 ghost use Rattle.scope.specs.declared.ScopingMode.the-variants.{RespectParent};
 ghost use Rattle.scope.specs.Scope.{isUnbound};
 ghost use Rattle.table.specs.Tables.{tables};

@@ -12,7 +12,7 @@ use Rattle.table.specs.Decode.{expr, items, fields, literalAt}
 use Rattle.table.specs.Sound.{Node, WellFormed}
 use Rattle.checks.specs.declared.LiteralStructureCheck.{LiteralStructureCheck}
 use Rattle.checks.specs.declared.LiteralStructureCheck.the-variants.{Match, Unknown, ArrayMismatch}
-use Rattle.planner.specs.Layout.{literalKey, Slot, FieldOrder, noFields, addField}
+use Rattle.planner.specs.Layout.{literalKey, Slot, FieldOrder, noFields}
 use Rattle.planner.specs.Passes.{keyNode, valueNode, orderOf}
 use Rattle.planner.specs.Ordering.{FieldsIn}
 use Rattle.checks.specs.Post.{GoodPair}

@@ -1,7 +1,7 @@
 -- A pattern's plan held against a literal expression (utils.rs, check_literal_structure).
 use Prim.Native.Nat.{ℕ}
 use mathlib.Core.Bool.{Bool, true, false, cond, _&&_}
-use mathlib.Core.List.{List, [], _∷_, _++_, map}
+use mathlib.Core.List.{List, [], _∷_, map}
 use mathlib.Core.Option.{Option}
 use mathlib.Core.Option as Option
 use lib.Dec.{eqb}

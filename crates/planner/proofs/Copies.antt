@@ -1,24 +1,23 @@
 -- Entries put into the lent buffer as far as they fit.
 use Prim.Native.Nat.{ℕ, zero, suc, _+_, _-_, _*_, _/_, _≤_, _<_}
-use mathlib.Core.Path.{_≡_, refl, sym, ap, subst, _∙_}
+use mathlib.Core.Path.{_≡_, refl, sym, ap, _∙_}
 use mathlib.Core.Bool.{Bool, true, false}
 use mathlib.Core.List.{List, [], _∷_, _++_}
 use native.Mathlib.Omega.{arith}
 use mir.Val.{Fits}
 use mir.Syntax.{w64}
-use borrow.Author.Tests.{lt-ltb, le-ltb, le-leb, lt-leb, leb-true, leb-false}
+use borrow.Author.Tests.{lt-ltb, le-ltb, leb-true}
 use lib.Dec.{leb, ltb}
-use lib.ListN.{length, set, replicate, length-append}
-use lib.Seq.{sets, length-sets}
+use lib.ListN.{length, set, length-append}
+use lib.Seq.{length-sets}
 use Rattle.planner.specs.declared.PlanAnswer.{PlanAnswer}
-use Rattle.planner.specs.declared.PlanAnswer.the-variants.{Planned, PlanTooLarge}
 use Rattle.planner.specs.Layout.{Entry, entry, words}
 use Rattle.planner.specs.Entries.{entryAt, readEntries, putEntry, putEntries, Wrote, CopyAsks}
 use Rattle.planner.specs.Operations.{planned, answered, written, Answered}
 use Rattle.planner.specs.Post.{Laid, Delivered, wordAt}
 use Rattle.planner.proofs.Filling.{Filling, word-in}
 use Rattle.planner.proofs.Written.{put-stores, laid-put, laid-none, laid-append}
-use Rattle.planner.proofs.ReadBack.{length-read, read-laid, delivered-read}
+use Rattle.planner.proofs.ReadBack.{read-laid, delivered-read}
 
 -- one entry
 module _ (before : List ℕ) (at kind node count key : ℕ) where

@@ -1,8 +1,8 @@
 -- The planning operations, answer by answer.
-use Prim.Native.Nat.{ℕ, zero, suc, _+_, _-_, _*_, _/_, _≤_, _<_}
+use Prim.Native.Nat.{ℕ, _-_, _/_, _≤_}
 use mathlib.Core.Path.{_≡_, refl, sym, ap, subst, _∙_}
-use mathlib.Core.List.{List, [], _∷_, _++_}
-use mathlib.Core.Bool.{Bool, true, false, cond, not, _&&_, false≢true}
+use mathlib.Core.List.{List, []}
+use mathlib.Core.Bool.{Bool, true, false, not, false≢true}
 use native.Mathlib.Omega.{arith}
 use borrow.Author.Tests.{leb-true, not-true, not-false}
 use lib.Dec.{eqb, leb}
@@ -10,24 +10,22 @@ use lib.ListN.{length, getD, replicate, length-replicate}
 use lib.Seq.{length-sets}
 use Rattle.scope.specs.declared.Scope.{Scope}
 use Rattle.scope.specs.declared.ScopingMode.{ScopingMode}
-use Rattle.scope.specs.Scope.{isUnbound}
 use Rattle.table.specs.declared.TableAnswer.{TableAnswer}
 use Rattle.table.specs.declared.TableAnswer.the-variants.{Sound, OverLimit, BreaksRules, TooDeep, EqualNames}
 use Rattle.table.specs.Tables.{Tables, nodeCount, isNode}
-use Rattle.table.specs.Decode.{expr}
 use Rattle.table.specs.Check.{checked}
 use Rattle.table.specs.Rules.{elem}
 use Rattle.table.specs.Sound.{Node, WellFormed}
-use Rattle.table.proofs.Bools.{and-true, told-no, told-yes}
+use Rattle.table.proofs.Bools.{and-true}
 use Rattle.table.proofs.Facts.{sound-table}
 use Rattle.planner.specs.declared.PlanAnswer.{PlanAnswer}
-use Rattle.planner.specs.declared.PlanAnswer.the-variants.{Planned, TableRefused, RootOutside, PlanTooLarge, VariableAlreadyDefined}
-use Rattle.planner.specs.Plan.{DestructuringPlan, plan, after}
+use Rattle.planner.specs.declared.PlanAnswer.the-variants.{TableRefused, RootOutside}
+use Rattle.planner.specs.Plan.{DestructuringPlan, plan}
 use Rattle.planner.specs.Layout.{Entry, entries, words}
-use Rattle.planner.specs.Passes.{unboundIn, bindersOf}
+use Rattle.planner.specs.Passes.{unboundIn}
 use Rattle.planner.specs.Entries.{readEntries}
-use Rattle.planner.specs.Operations.{Outcome, refused, planned, space, fits, zeros, answered, written, Answered, tableFirst, isSound, rootInside, planOf, patternPlanned, patternOutcome}
-use Rattle.planner.specs.Post.{NameNumber, States, StatesOf, Walks, Laid, PlanAsks, PlannedBy, PatternAsks, PatternPlanned, GoodRoot, Delivered}
+use Rattle.planner.specs.Operations.{Outcome, refused, planned, answered, written, Answered, tableFirst, isSound, rootInside, planOf, patternPlanned}
+use Rattle.planner.specs.Post.{StatesOf, Laid, PlanAsks, PlannedBy, PatternAsks, PatternPlanned, GoodRoot, Delivered}
 use Rattle.planner.proofs.Binders.{bound-agree-of}
 use Rattle.planner.proofs.SamePlan.{states-wild, same-plan, same-after}
 use Rattle.planner.proofs.ReadBack.{read-laid, delivered-read}

@@ -1,6 +1,6 @@
 -- Entries read back from a scratch, and delivered.
 use Prim.Native.Nat.{ℕ, zero, suc, _+_, _-_, _*_, _/_, _≤_, _<_}
-use mathlib.Core.Path.{_≡_, refl, sym, ap, subst, _∙_}
+use mathlib.Core.Path.{_≡_, refl, sym, ap, _∙_}
 use mathlib.Core.List.{List, [], _∷_, _++_}
 use mathlib.Core.Bool.{Bool, true, false}
 use native.Mathlib.Omega.{arith}
@@ -11,7 +11,7 @@ use lib.ListN.{length, getD, drop, replicate, length-replicate, getD-replicate, 
 use lib.Seq.{sets-eq, length-sets, ext-getD, getD-append-add, getD-drop}
 use Rattle.planner.specs.declared.PlanAnswer.{PlanAnswer}
 use Rattle.planner.specs.Layout.{Entry, words}
-use Rattle.planner.specs.Entries.{entryAt, readEntries}
+use Rattle.planner.specs.Entries.{readEntries}
 use Rattle.planner.specs.Operations.{planned, answered, written, Answered}
 use Rattle.planner.specs.Post.{Laid, Delivered, wordAt, tabulate}
 use Rattle.planner.proofs.Filling.{length-tabulate, getD-tabulate}

@@ -1,10 +1,10 @@
 -- `some .. in`, answer by answer.
-use Prim.Native.Nat.{ℕ, _+_, _/_, _^_, _≤_, _<_}
-use mathlib.Core.Path.{_≡_, refl, sym, ap, subst, _∙_}
-use mathlib.Core.Bool.{Bool, true, false, cond, not, _&&_, _||_}
-use mathlib.Core.List.{List, [], _∷_, _++_}
+use Prim.Native.Nat.{ℕ, _+_}
+use mathlib.Core.Path.{_≡_, sym, subst, _∙_}
+use mathlib.Core.Bool.{Bool, true, false, cond, not, _||_}
+use mathlib.Core.List.{List, _++_}
 use native.Mathlib.Omega.{arith}
-use borrow.Author.Tests.{eq-eqb, ne-eqb, not-true, not-false}
+use borrow.Author.Tests.{ne-eqb, not-true, not-false}
 use lib.Dec.{eqb}
 use lib.ListN.{length, replicate}
 use Rattle.scope.specs.declared.Scope.{Scope}
@@ -13,25 +13,23 @@ use Rattle.scope.specs.Scope.{isUnbound}
 use Rattle.table.specs.declared.TableAnswer.{TableAnswer}
 use Rattle.table.specs.declared.TableAnswer.the-variants.{Sound}
 use Rattle.table.specs.Tables.{Tables, isNode}
-use Rattle.table.specs.Decode.{expr}
 use Rattle.table.specs.Check.{checked}
 use Rattle.planner.specs.declared.PlanAnswer.{PlanAnswer}
 use Rattle.planner.specs.declared.PlanAnswer.the-variants.{RootOutside, VariableAlreadyDefined}
-use Rattle.planner.specs.Layout.{Entry, entries}
+use Rattle.planner.specs.Layout.{Entry}
 use Rattle.planner.specs.Entries.{readEntries, Wrote, CopyAsks}
-use Rattle.planner.specs.Operations.{refused, planned, Answered, isSound, planOf, validated}
-use Rattle.planner.specs.Post.{GoodRoot, PatternAsks, PatternPlanned, Delivered}
+use Rattle.planner.specs.Operations.{refused, planned, Answered, isSound}
+use Rattle.planner.specs.Post.{PatternPlanned, Delivered}
 use Rattle.planner.specs.Validation.{firstDefined}
-use Rattle.planner.proofs.Operations.{refuses, read-plan, sound-well, root-node, table-passes}
+use Rattle.planner.proofs.Operations.{refuses, read-plan, table-passes}
 use Rattle.planner.proofs.ReadBack.{length-read}
 use Rattle.planner.proofs.Copies.{wrote-append, wrote-delivered}
 use Rattle.planner.proofs.Validating.{validated-by}
 use Rattle.checks.specs.declared.LiteralStructureCheck.{LiteralStructureCheck}
-use Rattle.checks.specs.Refusals.{unlessMismatch, unlessDefined}
-use Rattle.checks.specs.Post.{GoodPair}
+use Rattle.checks.specs.Refusals.{unlessMismatch}
 use Rattle.checks.proofs.Refused.{passes-undefined, refuses-defined}
-use Rattle.some_in.specs.SomeIn.{collectionStructure, keyCheck, keyEntries, keyForm, rootsInside, valuePlanned, someInPlanned, someInOutcome}
-use Rattle.some_in.specs.Post.{CollectionChecked, CountsAsk, ValueAsks, KeyAsks}
+use Rattle.some_in.specs.SomeIn.{valuePlanned, someInPlanned, someInOutcome}
+use Rattle.some_in.specs.Post.{BlankAsks, Validated, CollectionChecked, CountsAsk, KeyAsks}
 
 -- both plans into the buffer
 pub ask-entries : {keys count : ℕ} → CountsAsk keys count → (scratch : List ℕ) {before mid : List ℕ} {at : ℕ} → Wrote before 0 (readEntries scratch 0 keys) mid at → CopyAsks at count
@@ -45,36 +43,32 @@ pub both-delivered : (form : ℕ) {ks es : List Entry} {before mid last later : 
     → Answered (planned form 0 (ks ++ es)) before later r
 both-delivered form {ks} {es} a b d = wrote-delivered form (ks ++ es) (wrote-append a b) d
 
--- the value's plan
-module _ (T : Tables) (s : Scope) (value collection : ℕ) (g : GoodPair T value collection) {binders scratch : List ℕ} {count : ℕ} (p : PatternPlanned T s RespectParent value (replicate 2048 0) binders scratch count) {name : ℕ} (is : name ≡ firstDefined T s binders value) where
-  value-validated : name ≡ validated T s RespectParent value
-  value-validated = is ∙ validated-by T s RespectParent value (record { table = g .table; node = g .first }) p
+-- a pattern's plan, and its names
+module _ (T : Tables) (s : Scope) (root : ℕ) {scratch : List ℕ} (a : BlankAsks T root scratch) where
+  pub plan-validated : {binders later : List ℕ} {count name : ℕ} → PatternPlanned T s RespectParent root scratch binders later count → name ≡ firstDefined T s binders root → Validated T s root later count name
+  plan-validated {binders} {later} {count} laid is =
+      let p = subst (λ (l : List ℕ). PatternPlanned T s RespectParent root l binders later count) (a .blank) laid in
+      record { read = read-plan T s RespectParent root p; few = p .few; defined = is ∙ validated-by T s RespectParent root (record { table = a .table; node = a .node }) p }
 
-  pub value-refused : (form : ℕ) (ks : List Entry) {before later : List ℕ} → (name ≡ 0 → ⊥) → later ≡ replicate (length before) 0 → Answered (valuePlanned T s value collection form ks) before later (VariableAlreadyDefined name)
-  value-refused form ks d z = rw (← value-validated) (refuses-defined _ d z)
+-- the value's
+module _ (T : Tables) (s : Scope) (value collection : ℕ) {scratch : List ℕ} {count name : ℕ} (p : Validated T s value scratch count name) (form : ℕ) (ks : List Entry) {before later : List ℕ} where
+  pub value-refused : (name ≡ 0 → ⊥) → later ≡ replicate (length before) 0 → Answered (valuePlanned T s value collection form ks) before later (VariableAlreadyDefined name)
+  value-refused d z = rw (← (p .defined)) (refuses-defined _ d z)
 
-  pub value-delivered : (form : ℕ) (ks : List Entry) {before later : List ℕ} {r : PlanAnswer} → name ≡ 0 → {c : LiteralStructureCheck} → CollectionChecked T value collection c
+  pub value-delivered : {r : PlanAnswer} → name ≡ 0 → {c : LiteralStructureCheck} → CollectionChecked T value collection c
       → Answered (unlessMismatch c (planned form 0 (ks ++ readEntries scratch 0 count))) before later r → Answered (valuePlanned T s value collection form ks) before later r
-  value-delivered form ks none-defined told d =
-      let e = read-plan T s RespectParent value p in
-      rw (← value-validated) (passes-undefined _ none-defined (rw (← (told .told (isUnbound s RespectParent)), ← e) d))
+  value-delivered none-defined told d = rw (← (p .defined)) (passes-undefined _ none-defined (rw (← (told .told (isUnbound s RespectParent)), ← (p .read)) d))
 
--- the key's plan
-module _ (T : Tables) (s : Scope) (value collection key : ℕ) (a : KeyAsks T value collection key) {binders scratch : List ℕ} {count : ℕ} (p : PatternPlanned T s RespectParent key (replicate 2048 0) binders scratch count) {name : ℕ} (is : name ≡ firstDefined T s binders key) where
-  a-key : eqb key 0 ≡ false
-  a-key = let l = a .node .low in ne-eqb key 0 (λ e. omega arith)
+-- the key's
+a-key : {T : Tables} {value collection key : ℕ} → KeyAsks T value collection key → eqb key 0 ≡ false
+a-key {key = key} a = let l = a .node .low in ne-eqb key 0 (λ e. omega arith)
 
-  key-validated : name ≡ validated T s RespectParent key
-  key-validated = is ∙ validated-by T s RespectParent key (record { table = a .pair .table; node = a .node }) p
+module _ (T : Tables) (s : Scope) (value collection key : ℕ) (a : KeyAsks T value collection key) {scratch : List ℕ} {count name : ℕ} (p : Validated T s key scratch count name) {before later : List ℕ} where
+  pub key-refused : (name ≡ 0 → ⊥) → later ≡ replicate (length before) 0 → Answered (someInPlanned T s value collection key) before later (VariableAlreadyDefined name)
+  key-refused d z = let k = a-key a in rw (k, ← (p .defined)) (refuses-defined _ d z)
 
-  pub key-refused : {before later : List ℕ} → (name ≡ 0 → ⊥) → later ≡ replicate (length before) 0 → Answered (someInPlanned T s value collection key) before later (VariableAlreadyDefined name)
-  key-refused d z = let k = a-key in rw (k, ← key-validated) (refuses-defined _ d z)
-
-  pub key-delivered : {before later : List ℕ} {r : PlanAnswer} → name ≡ 0 → Answered (valuePlanned T s value collection 1 (readEntries scratch 0 count)) before later r → Answered (someInPlanned T s value collection key) before later r
-  key-delivered none-defined d =
-      let k = a-key in
-      let e = read-plan T s RespectParent key p in
-      rw (k, ← key-validated) (passes-undefined _ none-defined (rw (← e) d))
+  pub key-delivered : {r : PlanAnswer} → name ≡ 0 → Answered (valuePlanned T s value collection 1 (readEntries scratch 0 count)) before later r → Answered (someInPlanned T s value collection key) before later r
+  key-delivered none-defined d = let k = a-key a in rw (k, ← (p .defined)) (passes-undefined _ none-defined (rw (← (p .read)) d))
 
 -- no key
 pub without-key : (T : Tables) (s : Scope) (value collection : ℕ) (scratch : List ℕ) {before later : List ℕ} {r : PlanAnswer} → Answered (valuePlanned T s value collection 0 (readEntries scratch 0 0)) before later r

@@ -1,41 +1,26 @@
 -- A pattern held against the items of a collection.
-use Prim.Native.Nat.{ℕ, zero, suc, _+_, _-_, _≤_, _<_}
+use Prim.Native.Nat.{ℕ, _+_, _-_, _≤_, _<_}
 use mathlib.Core.Path.{_≡_, refl, sym, ap, _∙_}
-use mathlib.Core.Bool.{Bool, true, false, cond, not, _||_, false≢true}
-use mathlib.Core.List.{List, []}
+use mathlib.Core.Bool.{Bool, true, false, not, _||_, false≢true}
+use mathlib.Core.List.{[]}
 use native.Mathlib.Omega.{arith}
 use mir.Val.{Fits}
 use mir.Syntax.{w64}
 use borrow.Author.Tests.{eqb-true, eqb-false}
 use lib.Dec.{eqb}
 use Rattle.table.specs.Tables.{Tables, kindOf, firstOf, countOf, childAt, width}
-use Rattle.table.specs.Expr.{Expr, literal, name, wildcard, array, set, object, other, Exprs, none, item}
+use Rattle.table.specs.Expr.{Expr, name, wildcard, Exprs}
 use Rattle.table.specs.Decode.{expr, items, isWildcard}
-use Rattle.table.specs.Sound.{Node, WellFormed}
 use Rattle.table.proofs.Trees.{expr-name, expr-array, expr-object, width-array, items-step, items-end, child-node}
 use Rattle.planner.specs.Plan.{DestructuringPlan, plan}
 use Rattle.planner.proofs.NodeKinds.{Plain, plain-literal, plain-set, plain-other, plain-kind}
 use Rattle.checks.specs.declared.LiteralStructureCheck.{LiteralStructureCheck}
 use Rattle.checks.specs.declared.LiteralStructureCheck.the-variants.{Match, Unknown, ArrayMismatch, ObjectMismatch}
-use Rattle.checks.specs.Structure.{structure}
 use Rattle.checks.specs.PatternStructure.{structureBy}
 use Rattle.checks.specs.Post.{GoodPair}
 use Rattle.checks.proofs.PlanStructure.{checked-plan}
-use Rattle.some_in.specs.SomeIn.{isMismatch, anyFits, firstMismatch, itemsStructure, collectionStructure}
+use Rattle.some_in.specs.SomeIn.{isMismatch, anyFits, firstMismatch, collectionStructure}
 use Rattle.some_in.specs.Post.{ItemsAsk, AnyFits, ItemsChecked, CollectionChecked}
-
-module _ {c : LiteralStructureCheck} where
-  pub is-match : c ≡ Match → false ≡ isMismatch c
-  is-match e = simp e
-
-  pub is-unknown : c ≡ Unknown → false ≡ isMismatch c
-  is-unknown e = simp e
-
-  pub is-array : {n expected actual : ℕ} → c ≡ ArrayMismatch n expected actual → true ≡ isMismatch c
-  is-array e = simp e
-
-  pub is-object : {n pattern : ℕ} → c ≡ ObjectMismatch n pattern → true ≡ isMismatch c
-  is-object e = simp e
 
 -- the items in turn
 pub record Looking (T : Tables) (pattern at left place more : ℕ) : Type 0 where

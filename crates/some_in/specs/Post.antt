@@ -2,11 +2,17 @@
 use Prim.Native.Nat.{ℕ, _+_, _^_, _≤_, _<_}
 use mathlib.Core.Path.{_≡_}
 use mathlib.Core.Bool.{Bool}
-use mathlib.Core.List.{[]}
+use mathlib.Core.List.{List, []}
+use lib.ListN.{replicate}
+use Rattle.scope.specs.declared.Scope.{Scope}
+use Rattle.scope.specs.declared.ScopingMode.the-variants.{RespectParent}
 use Rattle.table.specs.Tables.{Tables, childAt}
 use Rattle.table.specs.Decode.{expr, items}
 use Rattle.table.specs.Sound.{Node, WellFormed}
 use Rattle.planner.specs.Plan.{plan}
+use Rattle.planner.specs.Layout.{entries}
+use Rattle.planner.specs.Entries.{readEntries}
+use Rattle.planner.specs.Operations.{planOf, validated}
 use Rattle.checks.specs.declared.LiteralStructureCheck.{LiteralStructureCheck}
 use Rattle.checks.specs.Post.{GoodPair}
 use Rattle.some_in.specs.SomeIn.{anyFits, itemsStructure, collectionStructure}
@@ -28,6 +34,18 @@ pub record ItemsChecked (T : Tables) (pattern at left : ℕ) (r : LiteralStructu
 
 pub record CollectionChecked (T : Tables) (pattern collection : ℕ) (r : LiteralStructureCheck) : Type 0 where
   pub told : (unbound : ℕ → Bool) → r ≡ collectionStructure (expr T collection) (plan unbound (expr T pattern) [])
+
+-- a root of a good table, and an empty scratch
+pub record BlankAsks (T : Tables) (root : ℕ) (scratch : List ℕ) : Type 0 where
+  pub table : WellFormed T
+  pub node : Node T root
+  pub blank : scratch ≡ replicate 2048 0
+
+-- its plan in the scratch, and its first name that is defined already, or 0
+pub record Validated (T : Tables) (s : Scope) (root : ℕ) (scratch : List ℕ) (count name : ℕ) : Type 0 where
+  pub read : readEntries scratch 0 count ≡ entries (planOf T s RespectParent root) 0
+  pub few : count ≤ 512
+  pub defined : name ≡ validated T s RespectParent root
 
 -- two plans in scratches
 pub record CountsAsk (keys count : ℕ) : Type 0 where

@@ -8,7 +8,7 @@ ghost use Rattle.planner.specs.Operations.{planned, Answered};
 ghost use Rattle.checks.specs.Refusals.{unlessMismatch};
 ghost use Rattle.checks.specs.Post.{GoodPair};
 ghost use Rattle.some_in.specs.SomeIn.{valuePlanned, someInPlanned, someInOutcome};
-ghost use Rattle.some_in.specs.Post.{CountsAsk, ValueAsks, KeyAsks};
+ghost use Rattle.some_in.specs.Post.{BlankAsks, Validated, CountsAsk, ValueAsks, KeyAsks};
 use crate::collection::check_collection;
 use checks::LiteralStructureCheck;
 use planner::PlanAnswer;
@@ -22,6 +22,54 @@ use scope::Scope;
 use scope::ScopingMode;
 use table::check;
 use table::reading::is_node;
+
+// A pattern's plan in a scratch: how many entries it has, and the first name that is defined already, or 0.
+pub struct ValidatedPlan {
+    pub count: usize,
+    pub name: u32,
+}
+
+fn plan_validated(
+    nodes: &[u32],
+    children: &[u32],
+    numbers: &[u64],
+    names: &[u32],
+    strings: &[u8],
+    text: &[u8],
+    scope: Scope,
+    root: u32,
+    scratch: &mut [u32; 2048],
+) -> ValidatedPlan
+    requires { ⌜ BlankAsks (tables (now nodes) (now children) (now numbers) (now names) (now strings) (now text)) root (now scratch) ⌝ }
+    ensures { λ r. ⌜ Validated (tables (now (nodes .entry)) (now (children .entry)) (now (numbers .entry)) (now (names .entry)) (now (strings .entry)) (now (text .entry))) scope root (now (scratch .exit)) (r .count) (r .name) ⌝ }
+{
+    let mut binders = [0u32; 128];
+    let count = plan_pattern(
+        nodes,
+        children,
+        numbers,
+        names,
+        strings,
+        text,
+        scope,
+        ScopingMode::RespectParent,
+        root,
+        &mut binders,
+        scratch,
+    );
+    let name = validate_pattern_bindings(
+        nodes,
+        children,
+        numbers,
+        names,
+        strings,
+        text,
+        scope,
+        &binders,
+        root,
+    );
+    ValidatedPlan { count, name }
+}
 
 // The key's entries, then the value's.
 fn deliver_both(
@@ -82,7 +130,7 @@ fn deliver_some_in(
     }
 }
 
-// The value, after a key whose entries stand in the scratch.
+// The value, after a key whose entries stand in its scratch.
 fn plan_value(
     nodes: &[u32],
     children: &[u32],
@@ -101,9 +149,8 @@ fn plan_value(
     requires { ⌜ ValueAsks (tables (now nodes) (now children) (now numbers) (now names) (now strings) (now text)) value collection keys ⌝ }
     ensures { λ r. ⌜ Answered (valuePlanned (tables (now (nodes .entry)) (now (children .entry)) (now (numbers .entry)) (now (names .entry)) (now (strings .entry)) (now (text .entry))) scope value collection form (readEntries (now («key_scratch» .entry)) 0 keys)) (now (plan .entry)) (now (plan .exit)) r ⌝ }
 {
-    let mut binders = [0u32; 128];
     let mut scratch = [0u32; 2048];
-    let count = plan_pattern(
+    let value_plan = plan_validated(
         nodes,
         children,
         numbers,
@@ -111,25 +158,14 @@ fn plan_value(
         strings,
         text,
         scope,
-        ScopingMode::RespectParent,
         value,
-        &mut binders,
         &mut scratch,
     );
-    let name = validate_pattern_bindings(
-        nodes,
-        children,
-        numbers,
-        names,
-        strings,
-        text,
-        scope,
-        &binders,
-        value,
-    );
-    if name != 0 {
+    if value_plan.name != 0 {
         clear(plan);
-        return PlanAnswer::VariableAlreadyDefined { name };
+        return PlanAnswer::VariableAlreadyDefined {
+            name: value_plan.name,
+        };
     }
     let check = check_collection(
         nodes,
@@ -141,7 +177,15 @@ fn plan_value(
         value,
         collection,
     );
-    deliver_some_in(plan, form, check, key_scratch, keys, &scratch, count)
+    deliver_some_in(
+        plan,
+        form,
+        check,
+        key_scratch,
+        keys,
+        &scratch,
+        value_plan.count,
+    )
 }
 
 fn plan_key(
@@ -160,9 +204,8 @@ fn plan_key(
     requires { ⌜ KeyAsks (tables (now nodes) (now children) (now numbers) (now names) (now strings) (now text)) value collection key ⌝ }
     ensures { λ r. ⌜ Answered (someInPlanned (tables (now (nodes .entry)) (now (children .entry)) (now (numbers .entry)) (now (names .entry)) (now (strings .entry)) (now (text .entry))) scope value collection key) (now (plan .entry)) (now (plan .exit)) r ⌝ }
 {
-    let mut binders = [0u32; 128];
-    let mut scratch = [0u32; 2048];
-    let count = plan_pattern(
+    let mut key_scratch = [0u32; 2048];
+    let key_plan = plan_validated(
         nodes,
         children,
         numbers,
@@ -170,25 +213,14 @@ fn plan_key(
         strings,
         text,
         scope,
-        ScopingMode::RespectParent,
         key,
-        &mut binders,
-        &mut scratch,
+        &mut key_scratch,
     );
-    let name = validate_pattern_bindings(
-        nodes,
-        children,
-        numbers,
-        names,
-        strings,
-        text,
-        scope,
-        &binders,
-        key,
-    );
-    if name != 0 {
+    if key_plan.name != 0 {
         clear(plan);
-        return PlanAnswer::VariableAlreadyDefined { name };
+        return PlanAnswer::VariableAlreadyDefined {
+            name: key_plan.name,
+        };
     }
     plan_value(
         nodes,
@@ -201,8 +233,8 @@ fn plan_key(
         value,
         collection,
         1,
-        &scratch,
-        count,
+        &key_scratch,
+        key_plan.count,
         plan,
     )
 }
