@@ -1,0 +1,16 @@
+-- What the private functions that read a decimal form answer.
+use Prim.Native.Nat.{ℕ, _^_}
+use mathlib.Core.Bool.{cond, _&&_}
+use mathlib.Core.List.{List}
+use lib.Dec.{leb}
+use Rattle.literal.specs.Text.{value}
+use Rattle.columns.specs.declared.decimal.Decimal.{Decimal}
+use Rattle.columns.specs.declared.decimal.Decimal.the-variants.{Number, NoNumber}
+use Rattle.columns.specs.Columns.{allDigits, isDecimal}
+
+-- what digits say after the digits that say `before`, up to 2^63
+unfoldable pub digitsNumber : ℕ → List ℕ → Decimal
+digitsNumber before ds = cond (allDigits ds && leb (value before ds) (2 ^ 63)) (Number (value before ds)) NoNumber
+
+unfoldable pub readDecimal : List ℕ → Decimal
+readDecimal ds = cond (isDecimal ds && leb (value 0 ds) (2 ^ 63)) (Number (value 0 ds)) NoNumber

@@ -1,0 +1,19 @@
+-- What is written is read back.
+use Prim.Native.Nat.{ℕ, _^_, _<_}
+use mathlib.Core.Bool.{Bool, true, false, cond}
+use mathlib.Core.List.{List}
+use mathlib.Core.Path.{_≡_}
+use lib.ListN.{length}
+use Rattle.literal.specs.Literal.{isNumber}
+use Rattle.columns.specs.declared.Column.the-variants as Column
+use Rattle.columns.specs.declared.SignedColumn.the-variants as SignedColumn
+use Rattle.columns.specs.Columns.{readColumn, readSigned, writeColumn, writeSigned}
+
+abbrev pub belowWord : Bool → ℕ
+belowWord below = cond below 1 0
+
+pub record ReadBack : Type 0 where
+  pub column-long : (n : ℕ) → length (writeColumn n) ≡ 6
+  pub column : (n : ℕ) → n < 10 ^ 6 → readColumn (writeColumn n) ≡ Column.Number n
+  pub signed-long : (below : Bool) (size : ℕ) → length (writeSigned below size) ≡ 20
+  pub signed : (below : Bool) (size : ℕ) → isNumber (belowWord below) size ≡ true → readSigned (writeSigned below size) ≡ SignedColumn.Number (belowWord below) size

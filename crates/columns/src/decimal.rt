@@ -1,0 +1,64 @@
+// Decimal forms.
+ghost use mathlib.Core.Path.{_≡_};
+ghost use Rattle.columns.specs.Columns.{afterBlanks};
+ghost use Rattle.columns.specs.Decimals.{digitsNumber, readDecimal};
+
+// No number: not a decimal form without leading zeros, or one above 2^63.
+pub(crate) enum Decimal {
+    Number(u64),
+    NoNumber,
+}
+
+pub(crate) fn after_blanks(bytes: &[u8]) -> &[u8]
+    ensures { λ r. ⌜ now r ≡ afterBlanks (now (bytes .entry)) ⌝ }
+{
+    let mut i: usize = 0;
+    while i < bytes.len() {
+        if bytes[i] != 32 {
+            return &bytes[i..];
+        }
+        i += 1;
+    }
+    &bytes[i..]
+}
+
+// What digits say; 922337203685477580 is the last tenth of 2^63.
+fn digits_number(bytes: &[u8]) -> Decimal
+    ensures { λ r. ⌜ r ≡ digitsNumber 0 (now (bytes .entry)) ⌝ }
+{
+    let mut n: u64 = 0;
+    let mut i: usize = 0;
+    while i < bytes.len() {
+        let byte = bytes[i];
+        if byte < 48 {
+            return Decimal::NoNumber;
+        }
+        if 57 < byte {
+            return Decimal::NoNumber;
+        }
+        if 922337203685477580 < n {
+            return Decimal::NoNumber;
+        }
+        n = n * 10 + (byte - 48) as u64;
+        i += 1;
+    }
+    if 9223372036854775808 < n {
+        return Decimal::NoNumber;
+    }
+    Decimal::Number(n)
+}
+
+pub(crate) fn read_decimal(bytes: &[u8]) -> Decimal
+    ensures { λ r. ⌜ r ≡ readDecimal (now (bytes .entry)) ⌝ }
+{
+    if bytes.len() == 0 {
+        return Decimal::NoNumber;
+    }
+    if bytes.len() == 1 {
+        return digits_number(bytes);
+    }
+    if bytes[0] == 48 {
+        return Decimal::NoNumber;
+    }
+    digits_number(bytes)
+}

@@ -1,0 +1,112 @@
+// Decimal columns: a number without leading zeros, right-justified with blanks.
+mod decimal;
+
+use decimal::Decimal;
+use decimal::after_blanks;
+use decimal::read_decimal;
+use literal::is_number;
+ghost use mathlib.Core.Path.{_≡_};
+ghost use Prim.Native.Nat.{_+_, _≤_};
+ghost use lib.ListN.{length};
+ghost use Rattle.columns.specs.Columns.{columnBytes, columnAt, signedColumnAt, signedNumber, columnStored};
+ghost use Rattle.columns.specs.Written.{columnByte, writeRest};
+
+pub enum Column {
+    Number(u32),
+    Unreadable,
+}
+
+// Below is 1 for a number below zero, else 0.
+pub enum SignedColumn {
+    Number { below: u64, size: u64 },
+    Unreadable,
+}
+
+// Empty for a column that is not all there.
+fn column_bytes(bytes: &[u8], at: usize, width: usize) -> &[u8]
+    ensures { λ r. ⌜ now r ≡ columnBytes (now (bytes .entry)) at width ⌝ }
+{
+    if bytes.len() < width {
+        return &bytes[0..0];
+    }
+    if bytes.len() - width < at {
+        return &bytes[0..0];
+    }
+    &bytes[at..at + width]
+}
+
+// The column of six bytes at a place.
+pub fn read_column(bytes: &[u8], at: usize) -> Column
+    ensures { λ r. ⌜ r ≡ columnAt (now (bytes .entry)) at ⌝ }
+{
+    match read_decimal(after_blanks(column_bytes(bytes, at, 6))) {
+        Decimal::Number(n) => Column::Number(n as u32),
+        Decimal::NoNumber => Column::Unreadable,
+    }
+}
+
+fn signed_number(below: u64, digits: &[u8]) -> SignedColumn
+    ensures { λ r. ⌜ r ≡ signedNumber below (now (digits .entry)) ⌝ }
+{
+    match read_decimal(digits) {
+        Decimal::Number(size) => {
+            if is_number(below, size) {
+                return SignedColumn::Number { below, size };
+            }
+            SignedColumn::Unreadable
+        }
+        Decimal::NoNumber => SignedColumn::Unreadable,
+    }
+}
+
+// The column of twenty bytes at a place, of a number of 64 signed bits.
+pub fn read_signed_column(bytes: &[u8], at: usize) -> SignedColumn
+    ensures { λ r. ⌜ r ≡ signedColumnAt (now (bytes .entry)) at ⌝ }
+{
+    let number = after_blanks(column_bytes(bytes, at, 20));
+    if number.len() == 0 {
+        return SignedColumn::Unreadable;
+    }
+    if number[0] == 45 {
+        return signed_number(1, &number[1..]);
+    }
+    signed_number(0, number)
+}
+
+// A digit of what is left of a number, or a blank once nothing is left.
+fn column_byte(rest: u64) -> u8
+    ensures { λ r. ⌜ r ≡ columnByte rest ⌝ }
+{
+    if rest == 0 {
+        return 32;
+    }
+    48 + (rest % 10) as u8
+}
+
+// What is left of a number above its last digit.
+fn write_rest(out: &mut [u8], at: usize, above: u64)
+    requires { ⌜ at + 5 ≤ length (now out) ⌝ }
+    ensures { λ _. ⌜ now (out .exit) ≡ writeRest (now (out .entry)) at 5 above ⌝ }
+{
+    let mut left: usize = 5;
+    let mut rest = above;
+    while 0 < left {
+        left -= 1;
+        out[at + left] = column_byte(rest);
+        rest = rest / 10;
+    }
+}
+
+// The number as a column of six at a place, if there is space for it.
+pub fn write_column(out: &mut [u8], at: usize, n: u64)
+    ensures { λ _. ⌜ now (out .exit) ≡ columnStored (now (out .entry)) at n ⌝ }
+{
+    if out.len() < 6 {
+        return;
+    }
+    if out.len() - 6 < at {
+        return;
+    }
+    out[at + 5] = 48 + (n % 10) as u8;
+    write_rest(out, at, n / 10);
+}

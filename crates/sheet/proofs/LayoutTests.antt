@@ -1,0 +1,154 @@
+-- Line 1, line 2 and the whole layout, as the code tests them.
+use Prim.Native.Nat.{ℕ, _+_, _*_, _^_, _<_, _≤_}
+use mathlib.Core.Bool.{Bool, true, false, not, _&&_, and-false}
+use mathlib.Core.List.{List}
+use mathlib.Core.Path.{_≡_, refl, sym, ap, _∙_}
+use native.Mathlib.Omega.{arith}
+use borrow.Author.Tests.{le-leb, lt-leb, leb-true, eq-eqb, ne-eqb}
+use lib.Dec.{eqb, leb}
+use lib.ListN.{length}
+use Rattle.table.proofs.Bools.{and-true, told-no, told-yes}
+use Rattle.sheet.specs.declared.layout.Counts.{Counts}
+use Rattle.sheet.specs.declared.layout.Places.{Places}
+use Rattle.sheet.specs.declared.operation.Operation.{Operation}
+use Rattle.sheet.specs.Lines.{numberAt, isLine, linesOk, numberLinesOk}
+use Rattle.sheet.specs.Sheet.{countsOf, withinLimits, childrenPlace, numbersPlace, namesPlace, endPlace, placesOf, operationOf, operationOk, marksOk, layoutOk}
+use Rattle.sheet.specs.Post.{Inside, Lines, Limited, WordAsks}
+
+-- limits
+module _ (c : Counts) where
+  pub limit-nodes : 512 < c .nodes → false ≡ withinLimits c
+  unfolding withinLimits
+  limit-nodes h = simp (lt-leb (c .nodes) 512 h)
+
+  pub limit-children : 512 < c .children → false ≡ withinLimits c
+  unfolding withinLimits
+  limit-children h = simp (lt-leb (c .children) 512 h, and-false)
+
+  pub limit-numbers : 256 < c .numbers → false ≡ withinLimits c
+  unfolding withinLimits
+  limit-numbers h = simp (lt-leb (c .numbers) 256 h, and-false)
+
+  pub limit-names : 128 < c .names → false ≡ withinLimits c
+  unfolding withinLimits
+  limit-names h = simp (lt-leb (c .names) 128 h, and-false)
+
+  pub limit-strings : 8192 < c .strings → false ≡ withinLimits c
+  unfolding withinLimits
+  limit-strings h = simp (lt-leb (c .strings) 8192 h, and-false)
+
+  pub limit-text : c .nodes ≤ 512 → c .children ≤ 512 → c .numbers ≤ 256 → c .names ≤ 128 → c .strings ≤ 8192 → leb (c .text) 16384 ≡ withinLimits c
+  unfolding withinLimits
+  limit-text n k m x s = simp (le-leb (c .nodes) 512 n, le-leb (c .children) 512 k, le-leb (c .numbers) 256 m, le-leb (c .names) 128 x, le-leb (c .strings) 8192 s)
+
+  pub limited : {r : Bool} → r ≡ withinLimits c → not r ≡ false → Limited c
+  unfolding withinLimits
+  limited is t =
+      let all = told-yes is t in
+      let a = and-true (leb (c .nodes) 512) (leb (c .children) 512 && (leb (c .numbers) 256 && (leb (c .names) 128 && (leb (c .strings) 8192 && leb (c .text) 16384)))) all in
+      let b = and-true (leb (c .children) 512) (leb (c .numbers) 256 && (leb (c .names) 128 && (leb (c .strings) 8192 && leb (c .text) 16384))) (a .1) in
+      let d = and-true (leb (c .numbers) 256) (leb (c .names) 128 && (leb (c .strings) 8192 && leb (c .text) 16384)) (b .1) in
+      let e = and-true (leb (c .names) 128) (leb (c .strings) 8192 && leb (c .text) 16384) (d .1) in
+      let f = and-true (leb (c .strings) 8192) (leb (c .text) 16384) (e .1) in
+      record {
+        nodes-few = leb-true (c .nodes) 512 (a .0);
+        children-few = leb-true (c .children) 512 (b .0);
+        numbers-few = leb-true (c .numbers) 256 (d .0);
+        names-few = leb-true (c .names) 128 (e .0);
+        strings-few = leb-true (c .strings) 8192 (f .0);
+        text-few = leb-true (c .text) 16384 (f .1);
+      }
+
+-- line 2
+module _ (o : Operation) where
+  pub operation-low : o .number < 1 → false ≡ operationOk o
+  unfolding operationOk
+  operation-low h = simp (lt-leb 1 (o .number) h)
+
+  pub operation-high : 6 < o .number → false ≡ operationOk o
+  unfolding operationOk
+  operation-high h = simp (lt-leb (o .number) 6 h, and-false)
+
+  pub scheduler-high : 1 < o .scheduler → false ≡ operationOk o
+  unfolding operationOk
+  scheduler-high h = simp (lt-leb (o .scheduler) 1 h, and-false)
+
+  pub scoping-low : o .scoping < 1 → false ≡ operationOk o
+  unfolding operationOk
+  scoping-low h = simp (lt-leb 1 (o .scoping) h, and-false)
+
+  pub scoping-high : 1 ≤ o .number → o .number ≤ 6 → o .scheduler ≤ 1 → 1 ≤ o .scoping → leb (o .scoping) 2 ≡ operationOk o
+  unfolding operationOk
+  scoping-high a b d e = simp (le-leb 1 (o .number) a, le-leb (o .number) 6 b, le-leb (o .scheduler) 1 d, le-leb 1 (o .scoping) e)
+
+-- what each test asks
+module _ {c : Counts} {p : Places} (few : Limited c) (is : p ≡ placesOf c) where
+  pub nodes-lines : Lines 74 5 (c .nodes)
+  nodes-lines = record { lines = record { below = omega (arith, few) }; few = omega arith }
+
+  pub children-lines : Lines (p .children) 1 (c .children)
+  children-lines = rw is (record { lines = record { below = omega (arith, few) }; few = omega arith })
+
+  pub numbers-lines : Inside (p .numbers) 21 (c .numbers)
+  numbers-lines = rw is (record { below = omega (arith, few) })
+
+  pub names-lines : Lines (p .names) 3 (c .names)
+  names-lines = rw is (record { lines = record { below = omega (arith, few) }; few = omega arith })
+
+  pub marks-words : WordAsks (p .names + 12) 19 1 (c .names)
+  marks-words = rw is (record { low = omega (arith, few); short = omega arith; some = omega arith; few = omega (arith, few) })
+
+-- the tests, one after the other
+module _ (sheet : List ℕ) (c : Counts) {p : Places} (is : p ≡ placesOf c) where
+  pub length-differs : (length sheet ≡ p .end → ⊥) → false ≡ layoutOk sheet c
+  unfolding layoutOk
+  length-differs h = simp (ne-eqb (length sheet) (endPlace c) (rw is at h))
+
+  pub line-2-fails : {r : Bool} → r ≡ isLine sheet 37 6 → not r ≡ true → false ≡ layoutOk sheet c
+  unfolding layoutOk
+  line-2-fails e t = simp (told-no e t, and-false)
+
+  pub operation-fails : {o : Operation} {r : Bool} → o ≡ operationOf sheet → r ≡ operationOk o → not r ≡ true → false ≡ layoutOk sheet c
+  unfolding layoutOk
+  operation-fails q e t = simp (told-no (rw q at e) t, and-false)
+
+  pub nodes-fail : {r : Bool} → r ≡ linesOk sheet 74 5 (c .nodes) → not r ≡ true → false ≡ layoutOk sheet c
+  unfolding layoutOk
+  nodes-fail e t = simp (told-no e t, and-false)
+
+  pub children-fail : {r : Bool} → r ≡ linesOk sheet (p .children) 1 (c .children) → not r ≡ true → false ≡ layoutOk sheet c
+  unfolding layoutOk
+  children-fail e t = simp (told-no (rw is at e) t, and-false)
+
+  pub numbers-fail : {r : Bool} → r ≡ numberLinesOk sheet (p .numbers) (c .numbers) → not r ≡ true → false ≡ layoutOk sheet c
+  unfolding layoutOk
+  numbers-fail e t = simp (told-no (rw is at e) t, and-false)
+
+  pub names-fail : {r : Bool} → r ≡ linesOk sheet (p .names) 3 (c .names) → not r ≡ true → false ≡ layoutOk sheet c
+  unfolding layoutOk
+  names-fail e t = simp (told-no (rw is at e) t, and-false)
+
+  pub layout-tested : {o : Operation} {line-2 operation nodes children numbers names marks : Bool}
+      → length sheet ≡ p .end
+      → line-2 ≡ isLine sheet 37 6 → not line-2 ≡ false
+      → o ≡ operationOf sheet → operation ≡ operationOk o → not operation ≡ false
+      → nodes ≡ linesOk sheet 74 5 (c .nodes) → not nodes ≡ false
+      → children ≡ linesOk sheet (p .children) 1 (c .children) → not children ≡ false
+      → numbers ≡ numberLinesOk sheet (p .numbers) (c .numbers) → not numbers ≡ false
+      → names ≡ linesOk sheet (p .names) 3 (c .names) → not names ≡ false
+      → marks ≡ marksOk sheet (p .names) (c .names)
+      → marks ≡ layoutOk sheet c
+  unfolding layoutOk
+  layout-tested l e1 t1 q e2 t2 e3 t3 e4 t4 e5 t5 e6 t6 e7 =
+      simp (eq-eqb (length sheet) (endPlace c) (rw is at l), told-yes e1 t1, told-yes (rw q at e2) t2, told-yes e3 t3, told-yes (rw is at e4) t4, told-yes (rw is at e5) t5, told-yes (rw is at e6) t6)
+      (rw is at e7)
+
+-- the two lines as they are read
+module _ (sheet : List ℕ) where
+  pub counts-read : {n k m x s t : ℕ} → n ≡ numberAt sheet 0 → k ≡ numberAt sheet 6 → m ≡ numberAt sheet 12 → x ≡ numberAt sheet 18 → s ≡ numberAt sheet 24 → t ≡ numberAt sheet 30
+      → _≡_ {A = Counts} (record { nodes = n; children = k; numbers = m; names = x; strings = s; text = t }) (countsOf sheet)
+  counts-read a b c d e f = cc
+
+  pub operation-read : {n d g f s k : ℕ} → n ≡ numberAt sheet 37 → d ≡ numberAt sheet 43 → g ≡ numberAt sheet 49 → f ≡ numberAt sheet 55 → s ≡ numberAt sheet 61 → k ≡ numberAt sheet 67
+      → _≡_ {A = Operation} (record { number = n; scheduler = d; scoping = g; first = f; second = s; key = k }) (operationOf sheet)
+  operation-read a b c d e f = cc

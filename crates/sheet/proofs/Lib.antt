@@ -1,0 +1,14 @@
+pub mod LineTests
+pub mod WordTables
+pub mod LayoutTests
+pub mod ListingLines
+pub mod OneLine
+pub mod PlanListing
+pub mod Parsing
+pub mod Examples
+pub mod Output
+pub mod RoundTripParts
+pub mod RoundTripTables
+pub mod RoundTripSound
+pub mod RoundTrip
+pub mod RoundTripExample

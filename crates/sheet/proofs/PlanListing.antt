@@ -1,0 +1,129 @@
+-- The operation that was carried out, and the listing of its answer and plan.
+use Prim.Native.Nat.{ℕ, zero, suc, _+_, _-_, _*_, _/_, _<_, _≤_}
+use mathlib.Core.Bool.{Bool, true, false, cond}
+use mathlib.Core.List.{List, [], _∷_, _++_, map}
+use mathlib.Core.Path.{_≡_, refl, sym, ap, _∙_}
+use native.Mathlib.Omega.{arith}
+use borrow.Author.Tests.{eq-eqb, ne-eqb, eqb-true, leb-true}
+use lib.Dec.{eqb, leb}
+use lib.ListN.{length, getD, drop, replicate, length-append, length-replicate, List·getD-append}
+use Rattle.scope.specs.declared.Scope.{Scope}
+use Rattle.scope.specs.declared.ScopingMode.{ScopingMode}
+use Rattle.scope.specs.declared.ScopingMode.the-variants.{RespectParent, AllowShadowing}
+use Rattle.table.specs.Tables.{Tables}
+use Rattle.planner.specs.declared.PlanAnswer.{PlanAnswer}
+use Rattle.planner.specs.declared.PlanAnswer.the-variants.{Planned, PlanTooLarge}
+use Rattle.planner.specs.Answer.{Line, line, lineOf}
+use Rattle.planner.specs.Layout.{Entry, words}
+use Rattle.planner.specs.Operations.{Outcome, refused, planned, zeros, answered, written, Answered, patternOutcome, indexOutcome, parameterOutcome}
+use Rattle.planner.specs.Entries.{readEntries}
+use Rattle.planner.proofs.ReadBack.{read-words}
+use Rattle.planner.proofs.Written.{length-words}
+use Rattle.assignment.specs.declared.AssignOp.the-variants.{ColEq, Eq}
+use Rattle.assignment.specs.Assignment.{assignmentOutcome}
+use Rattle.some_in.specs.SomeIn.{someInOutcome}
+use Rattle.sheet.specs.declared.operation.Operation.{Operation}
+use Rattle.sheet.specs.Sheet.{scopingOf}
+use Rattle.sheet.specs.Listing.{operated, entryLine, linesOf, linesBytes, Printed}
+use Rattle.sheet.specs.Post.{entriesIn, entryLines, answerLines, refusalLine}
+use Rattle.sheet.proofs.OneLine.{oneLine, one-line}
+
+-- the scoping
+module _ (o : Operation) where
+  pub scoping-shadows : o .scoping ≡ 2 → AllowShadowing ≡ scopingOf o
+  scoping-shadows e = simp (eq-eqb (o .scoping) 2 e)
+
+  pub scoping-respects : (o .scoping ≡ 2 → ⊥) → RespectParent ≡ scopingOf o
+  scoping-respects e = simp (ne-eqb (o .scoping) 2 e)
+
+-- the operation, by its number
+module _ (o : Operation) (T : Tables) (s : Scope) {before after : List ℕ} {r : PlanAnswer} where
+  pub operated-pattern : {mode : ScopingMode} → mode ≡ scopingOf o → o .number ≡ 1 → Answered (patternOutcome T s mode (o .first)) before after r → Answered (operated o T s) before after r
+  unfolding operated
+  operated-pattern m e a = rw (eq-eqb (o .number) 1 e, ← m) a
+
+  pub operated-colon : o .number ≡ 2 → Answered (assignmentOutcome T s ColEq (o .first) (o .second)) before after r → Answered (operated o T s) before after r
+  unfolding operated
+  operated-colon e a = rw e a
+
+  pub operated-equals : o .number ≡ 3 → Answered (assignmentOutcome T s Eq (o .first) (o .second)) before after r → Answered (operated o T s) before after r
+  unfolding operated
+  operated-equals e a = rw e a
+
+  pub operated-some-in : o .number ≡ 4 → Answered (someInOutcome T s (o .first) (o .second) (o .key)) before after r → Answered (operated o T s) before after r
+  unfolding operated
+  operated-some-in e a = rw e a
+
+  pub operated-index : o .number ≡ 5 → Answered (indexOutcome T s (o .first)) before after r → Answered (operated o T s) before after r
+  unfolding operated
+  operated-index e a = rw e a
+
+  pub operated-parameter : {mode : ScopingMode} → mode ≡ scopingOf o
+      → (o .number ≡ 1 → ⊥) → (o .number ≡ 2 → ⊥) → (o .number ≡ 3 → ⊥) → (o .number ≡ 4 → ⊥) → (o .number ≡ 5 → ⊥)
+      → Answered (parameterOutcome T s mode (o .first)) before after r → Answered (operated o T s) before after r
+  unfolding operated
+  operated-parameter m n1 n2 n3 n4 n5 a =
+      rw (ne-eqb (o .number) 1 n1, ne-eqb (o .number) 2 n2, ne-eqb (o .number) 3 n3, ne-eqb (o .number) 4 n4, ne-eqb (o .number) 5 n5, ← m) a
+
+-- what is listed of an answer and its plan
+record Listed (o : Outcome) (first : Line) (plan : List ℕ) : Type 0 where
+  held : entriesIn first * 4 ≤ length plan
+  lines : answerLines first plan ≡ linesOf o
+
+listed-refused : (a : PlanAnswer) (plan : List ℕ) → eqb (entriesIn (lineOf a)) 0 ≡ true → Listed (refused a) (lineOf a) plan
+unfolding linesOf readEntries
+listed-refused a plan e =
+    let z = eqb-true (entriesIn (lineOf a)) 0 e in
+    record { held = omega arith; lines = rw z }
+
+module _ (form side : ℕ) (es : List Entry) {plan : List ℕ} where
+  listed-planned : leb (length es) 1536 ≡ true → plan ≡ words es ++ drop (4 * length es) (replicate 6144 0) → Listed (planned form side es) (line 0 form side (length es)) plan
+  unfolding linesOf
+  listed-planned fits e =
+      let rest : List ℕ = drop (4 * length es) (replicate 6144 0) in
+      let w = length-words es in
+      let long : length plan ≡ length (words es) + length rest = ap length e ∙ length-append (words es) rest in
+      let read : readEntries plan 0 (length es) ≡ es =
+      read-words es plan 0 (λ j lt.
+      let z : 0 * 4 + j ≡ j = omega arith in
+      rw (z, e) (List·getD-append (words es) rest 0 j (omega arith))) in
+      record { held = omega arith; lines = rw (fits, read) }
+
+  listed-large : leb (length es) 1536 ≡ false → Listed (planned form side es) (line 6 0 (length es) 0) plan
+  unfolding linesOf readEntries
+  listed-large past = record { held = omega arith; lines = rw past }
+
+listed-as : (o : Outcome) {blank plan : List ℕ} {a : PlanAnswer} → length blank ≡ 6144 → oneLine o ≡ true → Answered o blank plan a → Listed o (lineOf a) plan
+unfolding answered written
+listed-as (refused b) {plan = plan} long one done = rw (done .answer) (listed-refused b plan one)
+listed-as (planned form side es) {blank} {plan} {a} long one done = go (leb (length es) 1536) refl (rw long at (done .answer)) (rw long at (done .buffer))
+  where
+    go : (b : Bool) → leb (length es) 1536 ≡ b → a ≡ cond b (Planned form side (length es)) (PlanTooLarge (length es))
+        → plan ≡ cond b (words es ++ drop (4 * length es) (replicate 6144 0)) (replicate 6144 0)
+        → Listed (planned form side es) (lineOf a) plan
+    go true p e f = rw e (listed-planned form side es p f)
+    go false p e f = rw e (listed-large form side es p)
+
+module _ (o : Operation) (T : Tables) (s : Scope) {blank plan : List ℕ} {a : PlanAnswer} {first : Line}
+    (long : length blank ≡ 6144) (done : Answered (operated o T s) blank plan a) (is : first ≡ lineOf a) where
+  pub entries-held : entriesIn first * 4 ≤ length plan
+  entries-held = rw is (listed-as (operated o T s) long (one-line o T s) done .held)
+
+  pub operation-listed : {before after : List ℕ} {r : ℕ} → Printed (linesBytes (answerLines first plan)) before after r → Printed (linesBytes (linesOf (operated o T s))) before after r
+  operation-listed p = rw (← listed-as (operated o T s) long (one-line o T s) done .lines, ← is) p
+
+-- a refusal of the sheet itself
+module _ {first : Line} {n : ℕ} (is : first ≡ line n 0 0 0) (plan : List ℕ) where
+  no-entries : entriesIn first ≡ 0
+  no-entries = rw is (go (eqb n 0))
+    where
+      go : (b : Bool) → _≡_ {A = ℕ} (cond b 0 0) 0
+      go true = refl
+      go false = refl
+
+  pub refusal-held : entriesIn first * 4 ≤ length plan
+  refusal-held = omega (arith, no-entries)
+
+  pub refusal-listed : {before after : List ℕ} {r : ℕ} → Printed (linesBytes (answerLines first plan)) before after r → Printed (refusalLine n) before after r
+  unfolding readEntries
+  refusal-listed p = rw (no-entries, is) at p

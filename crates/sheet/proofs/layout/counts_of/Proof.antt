@@ -1,0 +1,22 @@
+use Rattle.sheet.proofs.LayoutTests.{counts-read}
+use borrow.Author.Needs.{needs}
+use Rattle.sheet.proofs.layout.counts_of.Statement.{statement}
+use Rattle.sheet.proofs.layout.counts_of.Tie as tie
+
+pub counts-of-spec : {M : Type 1} → statement M
+counts-of-spec =
+    tie.close
+    (tie.spec
+    (λ c κs. search needs)
+    (λ c. search needs)
+    (λ c κs. search needs)
+    (λ c. search needs)
+    (λ c κs. search needs)
+    (λ c. search needs)
+    (λ c κs. search needs)
+    (λ c. search needs)
+    (λ c κs. search needs)
+    (λ c. search needs)
+    (λ c κs. search needs)
+    (λ c. search needs)
+    (λ c. search (counts-read, needs)))

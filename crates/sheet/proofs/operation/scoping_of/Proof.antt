@@ -1,0 +1,9 @@
+use Rattle.sheet.proofs.PlanListing.{scoping-shadows, scoping-respects}
+use borrow.Author.Needs.{needs}
+use Rattle.sheet.proofs.operation.scoping_of.Statement.{statement}
+use Rattle.sheet.proofs.operation.scoping_of.Tie as tie
+
+pub scoping-of-spec : {M : Type 1} → statement M
+scoping-of-spec = tie.close (tie.spec
+    (λ c. search (scoping-shadows, needs))
+    (λ c. search (scoping-respects, needs)))

@@ -1,0 +1,17 @@
+use Rattle.sheet.proofs.PlanListing.{entries-held, operation-listed}
+use borrow.Author.Needs.{needs}
+use Rattle.sheet.proofs.plan_listed.Statement.{statement}
+use Rattle.sheet.proofs.plan_listed.Tie as tie
+
+pub plan-listed-spec : {M : Type 1} → statement M
+plan-listed-spec =
+    tie.close
+    (tie.spec
+    (λ c κs. search needs)
+    (λ c. search needs)
+    (λ c κs. search needs)
+    (λ c κs. search needs)
+    (λ c. search needs)
+    (λ c κs. search (entries-held, needs))
+    (λ c. search needs)
+    (λ c. search (operation-listed, needs)))

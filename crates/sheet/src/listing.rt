@@ -1,0 +1,164 @@
+// The listing: the answer's line, then a line for each entry of the plan.
+ghost use mathlib.Core.Path.{_≡_};
+ghost use Prim.Native.Nat.{_+_, _*_, _≤_};
+ghost use lib.ListN.{length, getD, replicate};
+ghost use Rattle.table.specs.Check.{refusal};
+ghost use Rattle.planner.specs.Answer.{lineOf, line};
+ghost use Rattle.planner.specs.Entries.{entryAt};
+ghost use Rattle.columns.specs.Columns.{stored};
+ghost use Rattle.sheet.specs.Listing.{entryLine, lineBytes, linesBytes, Printed};
+ghost use Rattle.sheet.specs.Post.{rowLine, writePair, entriesIn, entryLines, answerLines, EntriesAsked};
+use columns::write_column;
+use planner::PlanAnswer;
+use table::TableAnswer;
+
+// The numbers of a line.
+pub(crate) struct Row {
+    pub number: u64,
+    pub second: u64,
+    pub third: u64,
+    pub fourth: u64,
+}
+
+pub(crate) fn row_from(number: u64, second: u64, third: u64, fourth: u64) -> Row
+    ensures { λ r. ⌜ rowLine r ≡ line number second third fourth ⌝ }
+{
+    Row {
+        number,
+        second,
+        third,
+        fourth,
+    }
+}
+
+fn table_refusal(answer: TableAnswer) -> u64
+    ensures { λ r. ⌜ r ≡ refusal answer ⌝ }
+{
+    match answer {
+        TableAnswer::Sound => 0,
+        TableAnswer::OverLimit => 1,
+        TableAnswer::BreaksRules => 2,
+        TableAnswer::TooDeep => 3,
+        TableAnswer::EqualNames => 4,
+    }
+}
+
+pub(crate) fn row_of(answer: PlanAnswer) -> Row
+    ensures { λ r. ⌜ rowLine r ≡ lineOf answer ⌝ }
+{
+    match answer {
+        PlanAnswer::Planned {
+            form,
+            side,
+            entries,
+        } => row_from(0, form as u64, side as u64, entries as u64),
+        PlanAnswer::TableRefused(refused) => row_from(table_refusal(refused), 0, 0, 0),
+        PlanAnswer::RootOutside => row_from(5, 0, 0, 0),
+        PlanAnswer::PlanTooLarge { needed } => row_from(6, 0, needed as u64, 0),
+        PlanAnswer::ColonEqualsRequiresBindableLeft { left } => row_from(11, left as u64, 0, 0),
+        PlanAnswer::ArraySizeMismatch { left, size, other } => {
+            row_from(12, left as u64, size as u64, other as u64)
+        }
+        PlanAnswer::ArrayLengthMismatch {
+            value,
+            expected,
+            actual,
+        } => row_from(13, value as u64, expected as u64, actual as u64),
+        PlanAnswer::ObjectLiteralKeysMismatch { value, pattern } => {
+            row_from(14, value as u64, pattern as u64, 0)
+        }
+        PlanAnswer::ObjectFieldCountMismatch { left, keys, fields } => {
+            row_from(15, left as u64, keys as u64, fields as u64)
+        }
+        PlanAnswer::ObjectKeyNotFound { key } => row_from(16, key as u64, 0, 0),
+        PlanAnswer::VariableAlreadyDefined { name } => row_from(17, name as u64, 0, 0),
+        PlanAnswer::IncompatibleDestructuringPatterns { side } => row_from(18, side as u64, 0, 0),
+    }
+}
+
+// The entries that follow a line.
+fn entries_in(row: Row) -> usize
+    ensures { λ r. ⌜ r ≡ entriesIn (rowLine row) ⌝ }
+{
+    if row.number == 0 {
+        return row.fourth as usize;
+    }
+    0
+}
+
+// Two columns side by side.
+fn write_pair(out: &mut [u8], at: usize, left: u64, right: u64)
+    requires { ⌜ at + 12 ≤ length (now out) ⌝ }
+    ensures { λ _. ⌜ now (out .exit) ≡ stored (now (out .entry)) at (writePair left right) ⌝ }
+{
+    write_column(out, at, left);
+    write_column(out, at + 6, right);
+}
+
+fn write_row(out: &mut [u8], at: usize, row: Row)
+    requires { ⌜ at + 25 ≤ length (now out) ⌝ }
+    ensures { λ _. ⌜ now (out .exit) ≡ stored (now (out .entry)) at (lineBytes (rowLine row)) ⌝ }
+{
+    write_pair(out, at, row.number, row.second);
+    write_pair(out, at + 12, row.third, row.fourth);
+    out[at + 24] = 10;
+}
+
+fn word_of(plan: &[u32], i: usize) -> u64
+    ensures { λ r. ⌜ r ≡ getD (now (plan .entry)) i 0 ⌝ }
+{
+    if i < plan.len() {
+        return plan[i] as u64;
+    }
+    0
+}
+
+fn entry_row(plan: &[u32], i: usize) -> Row
+    requires { ⌜ i * 4 + 4 ≤ length (now plan) ⌝ }
+    ensures { λ r. ⌜ rowLine r ≡ entryLine (entryAt (now (plan .entry)) i) ⌝ }
+{
+    let at = i * 4;
+    row_from(
+        word_of(plan, at),
+        word_of(plan, at + 1),
+        word_of(plan, at + 2),
+        word_of(plan, at + 3),
+    )
+}
+
+// The entries of the plan, after the answer's line.
+fn write_entries(out: &mut [u8], plan: &[u32], count: usize)
+    requires { ⌜ EntriesAsked (now out) (now plan) count ⌝ }
+    ensures { λ _. ⌜ now (out .exit) ≡ stored (now (out .entry)) 25 (linesBytes (entryLines (now (plan .entry)) 0 count)) ⌝ }
+{
+    let mut i: usize = 0;
+    while i < count {
+        write_row(out, 25 + i * 25, entry_row(plan, i));
+        i += 1;
+    }
+}
+
+fn clear(out: &mut [u8])
+    ensures { λ _. ⌜ now (out .exit) ≡ replicate (length (now (out .entry))) 0 ⌝ }
+{
+    let mut i: usize = 0;
+    while i < out.len() {
+        out[i] = 0;
+        i += 1;
+    }
+}
+
+// The answer and its plan in the output, if they fit. How many bytes were written.
+pub(crate) fn write_lines(out: &mut [u8], first: Row, plan: &[u32]) -> usize
+    requires { ⌜ entriesIn (rowLine first) * 4 ≤ length (now plan) ⌝ }
+    ensures { λ r. ⌜ Printed (linesBytes (answerLines (rowLine first) (now (plan .entry)))) (now (out .entry)) (now (out .exit)) r ⌝ }
+{
+    clear(out);
+    let count = entries_in(first);
+    if out.len() / 25 <= count {
+        return 0;
+    }
+    write_row(out, 0, first);
+    write_entries(out, plan, count);
+    count * 25 + 25
+}

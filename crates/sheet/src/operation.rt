@@ -1,0 +1,169 @@
+// Line 2, and the operation that it names.
+ghost use mathlib.Core.Path.{_≡_};
+ghost use Rattle.table.specs.Tables.{tables};
+ghost use Rattle.planner.specs.Operations.{Answered};
+ghost use Rattle.sheet.specs.Sheet.{operationOf, operationOk, scopingOf};
+ghost use Rattle.sheet.specs.Listing.{operated};
+use super::lines::number_at;
+use assignment::AssignOp;
+use assignment::assignment::create_assignment_binding_plan;
+use planner::PlanAnswer;
+use planner::destructuring::create_destructuring_plan;
+use planner::parameters::create_loop_index_binding_plan;
+use planner::parameters::create_parameter_binding_plan;
+use scope::Scope;
+use scope::ScopingMode;
+use some_in::create_some_in_binding_plan;
+
+// The roots: first (left, pattern or value pattern), second (right or collection), some-in key.
+pub(crate) struct Operation {
+    pub number: u32,
+    pub scheduler: u32,
+    pub scoping: u32,
+    pub first: u32,
+    pub second: u32,
+    pub key: u32,
+}
+
+pub(crate) fn operation_of(sheet: &[u8]) -> Operation
+    ensures { λ r. ⌜ r ≡ operationOf (now (sheet .entry)) ⌝ }
+{
+    Operation {
+        number: number_at(sheet, 37),
+        scheduler: number_at(sheet, 43),
+        scoping: number_at(sheet, 49),
+        first: number_at(sheet, 55),
+        second: number_at(sheet, 61),
+        key: number_at(sheet, 67),
+    }
+}
+
+pub(crate) fn operation_ok(operation: Operation) -> bool
+    ensures { λ r. ⌜ r ≡ operationOk operation ⌝ }
+{
+    if operation.number < 1 {
+        return false;
+    }
+    if 6 < operation.number {
+        return false;
+    }
+    if 1 < operation.scheduler {
+        return false;
+    }
+    if operation.scoping < 1 {
+        return false;
+    }
+    operation.scoping <= 2
+}
+
+fn scoping_of(operation: Operation) -> ScopingMode
+    ensures { λ r. ⌜ r ≡ scopingOf operation ⌝ }
+{
+    if operation.scoping == 2 {
+        return ScopingMode::AllowShadowing;
+    }
+    ScopingMode::RespectParent
+}
+
+pub(crate) fn operate(
+    nodes: &[u32],
+    children: &[u32],
+    numbers: &[u64],
+    names: &[u32],
+    strings: &[u8],
+    text: &[u8],
+    scope: Scope,
+    operation: Operation,
+    plan: &mut [u32],
+) -> PlanAnswer
+    ensures { λ r. ⌜ Answered (operated operation (tables (now (nodes .entry)) (now (children .entry)) (now (numbers .entry)) (now (names .entry)) (now (strings .entry)) (now (text .entry))) scope) (now (plan .entry)) (now (plan .exit)) r ⌝ }
+{
+    let number = operation.number;
+    let scoping = scoping_of(operation);
+    let first = operation.first;
+    let second = operation.second;
+    if number == 1 {
+        return create_destructuring_plan(
+            nodes,
+            children,
+            numbers,
+            names,
+            strings,
+            text,
+            scope,
+            scoping,
+            first,
+            plan,
+        );
+    }
+    if number == 2 {
+        return create_assignment_binding_plan(
+            nodes,
+            children,
+            numbers,
+            names,
+            strings,
+            text,
+            scope,
+            AssignOp::ColEq,
+            first,
+            second,
+            plan,
+        );
+    }
+    if number == 3 {
+        return create_assignment_binding_plan(
+            nodes,
+            children,
+            numbers,
+            names,
+            strings,
+            text,
+            scope,
+            AssignOp::Eq,
+            first,
+            second,
+            plan,
+        );
+    }
+    if number == 4 {
+        return create_some_in_binding_plan(
+            nodes,
+            children,
+            numbers,
+            names,
+            strings,
+            text,
+            scope,
+            first,
+            second,
+            operation.key,
+            plan,
+        );
+    }
+    if number == 5 {
+        return create_loop_index_binding_plan(
+            nodes,
+            children,
+            numbers,
+            names,
+            strings,
+            text,
+            scope,
+            first,
+            plan,
+        );
+    }
+    create_parameter_binding_plan(
+        nodes,
+        children,
+        numbers,
+        names,
+        strings,
+        text,
+        scope,
+        scoping,
+        first,
+        plan,
+    )
+}
