@@ -4,7 +4,7 @@ use crate::answer::{answer, CAPACITY};
 use crate::subject::PlanSheet;
 use crate::tally::Tally;
 use std::path::Path;
-use std::{fs, io};
+use std::{fmt, fs, io};
 
 /// The longest listing: a head and as many entries as the plan buffer has space for.
 const LONGEST: usize = 25 * (CAPACITY + 1);
@@ -20,10 +20,17 @@ pub struct Comparison {
 }
 
 pub struct Difference {
-    pub sheet: Vec<u8>,
-    pub room: usize,
-    pub expected: Vec<u8>,
-    pub actual: Vec<u8>,
+    sheet: Vec<u8>,
+    room: usize,
+    expected: Output,
+    actual: Output,
+}
+
+#[derive(PartialEq)]
+struct Output {
+    written: usize,
+    /// The output, and after it bytes that are not the subject's.
+    bytes: Vec<u8>,
 }
 
 /// Differences beyond these are counted alone.
@@ -71,34 +78,39 @@ fn room(turn: u64, listing: usize) -> usize {
     }
 }
 
-/// The count returned, the output, and the bytes after it, which are not the subject's.
-fn expected(listing: &[u8], room: usize) -> Vec<u8> {
+fn expected(listing: &[u8], room: usize) -> Output {
     let written = if listing.len() <= room { listing } else { &[] };
-    let mut all = written.len().to_le_bytes().to_vec();
-    all.extend(written);
-    all.resize(8 + room, 0);
-    all.resize(8 + room + GUARD, UNWRITTEN);
-    all
+    let mut bytes = written.to_vec();
+    bytes.resize(room, 0);
+    bytes.resize(room + GUARD, UNWRITTEN);
+    Output { written: written.len(), bytes }
 }
 
-fn actual(subject: PlanSheet, sheet: &[u8], room: usize) -> Vec<u8> {
-    let mut all = vec![UNWRITTEN; 8 + room + GUARD];
-    let written = subject(sheet, &mut all[8..8 + room]);
-    all[..8].copy_from_slice(&written.to_le_bytes());
-    all
+fn actual(subject: PlanSheet, sheet: &[u8], room: usize) -> Output {
+    let mut bytes = vec![UNWRITTEN; room + GUARD];
+    let written = subject(sheet, &mut bytes[..room]);
+    Output { written, bytes }
 }
 
 impl Difference {
-    /// Writes the sheet and both outputs into a folder.
+    /// Writes the sheet and both outputs, whole, into a folder.
     pub fn save(&self, folder: &Path, number: usize) -> io::Result<()> {
         fs::create_dir_all(folder)?;
         fs::write(folder.join(format!("{number}.sheet")), &self.sheet)?;
-        fs::write(folder.join(format!("{number}.expected")), self.output(&self.expected))?;
-        fs::write(folder.join(format!("{number}.actual")), self.output(&self.actual))
+        fs::write(folder.join(format!("{number}.expected")), &self.expected.bytes[..self.room])?;
+        fs::write(folder.join(format!("{number}.actual")), &self.actual.bytes[..self.room])
     }
+}
 
-    fn output<'a>(&self, all: &'a [u8]) -> &'a [u8] {
-        let end = all.iter().rposition(|&byte| byte != 0 && byte != UNWRITTEN);
-        &all[8..end.map_or(8, |end| (end + 1).max(8))]
+impl fmt::Display for Difference {
+    fn fmt(&self, f: &mut fmt::Formatter<'_>) -> fmt::Result {
+        let Self { room, expected, actual, .. } = self;
+        let beyond = actual.bytes[*room..] != expected.bytes[*room..];
+        write!(
+            f,
+            "output of {room} bytes: {} to write, {} told",
+            expected.written, actual.written
+        )?;
+        f.write_str(if beyond { ", wrote beyond it" } else { "" })
     }
 }

@@ -19,7 +19,7 @@ const SHORT: usize = 700;
 fn share((row, _): &Place) -> (usize, usize) {
     match row {
         Row::Refusal(1..=7) => (30, 12_000),
-        _ => (75, 35_000),
+        _ => (60, 29_000),
     }
 }
 

@@ -55,6 +55,7 @@ fn report(comparison: &Comparison, compared: bool) -> ExitCode {
     }
     let folder = Path::new("target/differences");
     for (number, difference) in (1..).zip(&comparison.differences) {
+        println!("difference {number}: {difference}");
         if let Err(error) = difference.save(folder, number) {
             eprintln!("compare: {}: {error}", folder.display());
         }

@@ -14,23 +14,35 @@ pub fn break_tables(random: &mut Random, draft: &mut Draft) {
 
 fn break_node(random: &mut Random, draft: &mut Draft) {
     let place = random.below(draft.nodes.len());
-    let (text, strings) = (draft.text.len() as u32, draft.strings.len() as u32);
-    let (numbers, names) = (draft.numbers.len() as u32, draft.names.len() as u32);
-    let children = draft.children.len() as u32;
+    let text = draft.text.len() as u32;
+    let end = pointed_into(draft, draft.nodes[place][KIND]);
     let node = &mut draft.nodes[place];
     match random.weighted(&[15, 10, 10, 20, 30, 15]) {
-        0 => node[KIND] = *random.pick(&[0, 1, 2, 3, 4, 5, 6, 7, 8, 9, 10, 11]),
+        0 => node[KIND] = random.below(12) as u32,
         1 => (node[START], node[END]) = (node[END], node[START]),
-        2 => node[END] = text + 1 + random.below(2) as u32,
+        2 => node[END] = text + random.below(3) as u32,
         3 => node[*random.pick(&[FIRST, COUNT])] += 1,
         4 => {
-            let edges = [0, 1, 2, text, text + 1, strings, strings + 1, numbers];
-            let more = [names, names + 1, children, children + 1, 999_999];
-            let edge = if random.chance(60) { *random.pick(&edges) } else { *random.pick(&more) };
-            node[*random.pick(&[FIRST, COUNT])] = edge;
+            let first = *random.pick(&[node[FIRST], end, end + 1, 0, 999_999]);
+            let just = end.saturating_sub(first);
+            node[FIRST] = first;
+            node[COUNT] = *random.pick(&[node[COUNT], just, just + 1, just.div_ceil(2), 0]);
         }
         _ => node[*random.pick(&[START, END])] = random.below(text as usize + 2) as u32,
     }
+}
+
+/// The length of what a node of a kind points into.
+fn pointed_into(draft: &Draft, kind: u32) -> u32 {
+    let length = match kind {
+        1 => draft.strings.len(),
+        2 => draft.text.len(),
+        3 => draft.numbers.len(),
+        6 => draft.names.len(),
+        7..=9 => draft.children.len(),
+        _ => 1,
+    };
+    length as u32
 }
 
 fn break_children(random: &mut Random, draft: &mut Draft) {
@@ -68,6 +80,48 @@ pub fn repeat_name(random: &mut Random, draft: &mut Draft) {
     }
     let [start, length, _] = *random.pick(&draft.names);
     draft.names.push([start, length, random.below(32) as u32]);
+}
+
+/// A root outside the nodes, be it one that the operation uses or not.
+pub fn move_root(random: &mut Random, draft: &mut Draft) {
+    let outside = [0, draft.nodes.len() as u32 + 1, 999_999];
+    draft.roots[random.below(3)] = *random.pick(&outside);
+}
+
+const ODD_NUMBERS: [&str; 10] = [
+    "-0",
+    "00",
+    "-",
+    "+1",
+    "-01",
+    "1 ",
+    "9223372036854775808",
+    "-9223372036854775809",
+    "9223372036854775807",
+    "-9223372036854775808",
+];
+
+/// A sheet with a word that is not listed, or just is, or with a number that nearly is one.
+pub fn with_odd_words(random: &mut Random, mut draft: Draft) -> Vec<u8> {
+    match random.below(5) {
+        0 => draft.operation = *random.pick(&[0, 7, 8, 999_999]),
+        1 => draft.scheduler = *random.pick(&[1, 2, 3]),
+        2 => draft.scoping = *random.pick(&[0, 2, 3, 4]),
+        3 if !draft.names.is_empty() => {
+            let place = random.below(draft.names.len());
+            draft.names[place][2] = *random.pick(&[31, 32, 33, 64, 255]);
+        }
+        _ => {
+            draft.numbers.push(0);
+            let names = 19 * draft.names.len();
+            let mut sheet = draft.bytes();
+            let end = sheet.len() - draft.strings.len() - draft.text.len() - names - 1;
+            let column = format!("{:>20}", random.pick(&ODD_NUMBERS));
+            sheet[end - 20..end].copy_from_slice(column.as_bytes());
+            return sheet;
+        }
+    }
+    draft.bytes()
 }
 
 const ODD_BYTES: &[u8] = b" 0123456789-+\n\r\tx\0\x7f\xc3\xff";

@@ -1,7 +1,7 @@
 //! The same sheet in another layout: nodes, names and numbers renumbered, and unused entries.
 
 use super::random::Random;
-use crate::sheets::draft::{Draft, END, FIRST, KIND, START};
+use crate::sheets::draft::{Draft, COUNT, END, FIRST, KIND, START};
 
 pub fn disguise(random: &mut Random, draft: &mut Draft) {
     add_spares(random, draft);
@@ -10,6 +10,7 @@ pub fn disguise(random: &mut Random, draft: &mut Draft) {
     renumber_names(random, draft);
     renumber_numbers(random, draft);
     move_bytes(random, draft);
+    move_strings(random, draft);
     move_spans(random, draft);
 }
 
@@ -89,27 +90,38 @@ fn renumber_names(random: &mut Random, draft: &mut Draft) {
     draft.names = order.iter().map(|&old| draft.names[old]).collect();
     let named = draft.nodes.iter_mut().filter(|node| node[KIND] == 6);
     named.for_each(|node| node[FIRST] = numbers[node[FIRST] as usize - 1]);
-    for place in 0..draft.names.len() {
-        let [start, length, _] = draft.names[place].map(|word| word as usize);
-        let bytes = &draft.text[start..start + length];
-        let same = draft.text.windows(length).enumerate().filter(|(_, part)| *part == bytes);
-        let places: Vec<usize> = same.map(|(place, _)| place).collect();
-        draft.names[place][0] = *random.pick(&places) as u32;
+    for name in &mut draft.names {
+        name[0] = any_place(random, &draft.text, name[0], name[1]);
     }
 }
 
-/// Another order of the numbers, some of them twice or unused.
+/// Any place that has the bytes of a range.
+fn any_place(random: &mut Random, store: &[u8], first: u32, count: u32) -> u32 {
+    let (first, count) = (first as usize, count as usize);
+    if count == 0 {
+        return random.below(store.len() + 1) as u32;
+    }
+    let bytes = &store[first..first + count];
+    let same = store.windows(count).enumerate().filter(|(_, part)| *part == bytes);
+    let places: Vec<usize> = same.map(|(place, _)| place).collect();
+    *random.pick(&places) as u32
+}
+
+/// Another order of the numbers, sometimes with an unused one, or with one for all that are equal.
 fn renumber_numbers(random: &mut Random, draft: &mut Draft) {
     if random.chance(20) {
         draft.numbers.push(-7);
     }
     let mut order: Vec<usize> = (0..draft.numbers.len()).collect();
     random.shuffle(&mut order);
-    let place_of =
-        |old: usize| order.iter().position(|&other| other == old).expect("all are there");
-    let numbered = draft.nodes.iter_mut().filter(|node| node[KIND] == 3);
-    numbered.for_each(|node| node[FIRST] = place_of(node[FIRST] as usize) as u32);
-    draft.numbers = order.iter().map(|&old| draft.numbers[old]).collect();
+    let share = random.chance(30);
+    let old = std::mem::take(&mut draft.numbers);
+    draft.numbers = order.iter().map(|&place| old[place]).collect();
+    for node in draft.nodes.iter_mut().filter(|node| node[KIND] == 3) {
+        let own = node[FIRST] as usize;
+        let is_it = |&place: &usize| place == own || share && old[place] == old[own];
+        node[FIRST] = order.iter().position(is_it).expect("the number is there") as u32;
+    }
 }
 
 /// Bytes that nothing uses, before and after.
@@ -132,6 +144,14 @@ fn move_bytes(random: &mut Random, draft: &mut Draft) {
     }
     if random.chance(30) {
         draft.text.extend(b"\ny");
+    }
+}
+
+/// Strings at any place that has their bytes.
+fn move_strings(random: &mut Random, draft: &mut Draft) {
+    for node in draft.nodes.iter_mut().filter(|node| matches!(node[KIND], 1 | 2)) {
+        let store = if node[KIND] == 1 { &draft.strings } else { &draft.text };
+        node[FIRST] = any_place(random, store, node[FIRST], node[COUNT]);
     }
 }
 

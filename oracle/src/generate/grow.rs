@@ -72,11 +72,15 @@ pub fn after_matches(
     let (array, object) = (Tree::Array(Vec::new()), Tree::Object(Vec::new()));
     let field = (Palette::literal_key(random), array.clone());
     let computed = (palette.name(random), palette.name(random));
-    let (one, other) = match random.below(5) {
+    let (one, other) = match random.below(6) {
         0 => (array.clone(), array),
         1 => (object.clone(), object),
         2 => (object, Tree::Object(vec![field])),
         3 => (Tree::Object(vec![computed.clone()]), Tree::Object(vec![computed])),
+        4 => {
+            let keyed = |key| Tree::Object(vec![(key, computed.1.clone())]);
+            (keyed(Tree::Number(1)), keyed(Tree::string("1")))
+        }
         _ => (Tree::Object(vec![field.clone(), computed]), Tree::Object(vec![field])),
     };
     if random.chance(70) {
@@ -138,12 +142,13 @@ fn twin_objects(
     }
     random.shuffle(&mut right);
     let place = random.below(count);
-    match random.weighted(&[60, 10, 12, 12, 6]) {
+    match random.weighted(&[52, 10, 12, 12, 6, 8]) {
         0 => {}
         1 => computed_key(random, palette, &mut left, &mut right),
         2 => right[place].0 = left[random.below(count)].0.clone(),
         3 => right[place].0 = Palette::literal_key(random),
-        _ => right.iter_mut().for_each(|field| field.0 = Palette::literal_key(random)),
+        4 => right.iter_mut().for_each(|field| field.0 = Palette::literal_key(random)),
+        _ => left.insert(random.below(count), (left[place].0.clone(), leaf(random, palette))),
     }
     (Tree::Object(left), Tree::Object(right))
 }

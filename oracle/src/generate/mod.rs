@@ -17,36 +17,37 @@ pub use random::Random;
 /// The sheet of a case; a seed and a case give the same sheet everywhere.
 pub fn sheet(seed: u64, case: u64) -> Vec<u8> {
     let random = &mut Random::of_case(seed, case);
-    match random.weighted(&[620, 60, 90, 90, 30, 30, 40, 30, 20]) {
+    match random.weighted(&[610, 60, 90, 80, 30, 25, 30, 40, 30, 20]) {
         0 => planned(random).bytes(),
         1 => exhaustive::any(random),
-        2 => {
-            let mut draft = planned(random);
-            damage::break_tables(random, &mut draft);
-            draft.bytes()
-        }
+        2 => damaged(random, damage::break_tables),
         3 => {
             let draft = planned(random);
             let mut sheet = draft.bytes();
             damage::break_bytes(random, &mut sheet, draft.strings.len() + draft.text.len());
             sheet
         }
-        4 => {
-            let mut draft = encode(&rules::rule(random));
-            damage::repeat_name(random, &mut draft);
-            disguise::disguise(random, &mut draft);
-            draft.bytes()
+        4 => damaged(random, damage::repeat_name),
+        5 => {
+            let draft = planned(random);
+            damage::with_odd_words(random, draft)
         }
-        5 => disguised(random, edges::deep),
-        6 => edges::at_a_limit(random).bytes(),
-        7 => {
-            let mut draft = planned(random);
-            let outside = [0, draft.nodes.len() as u32 + 1, 999_999];
-            draft.roots[random.below(3)] = *random.pick(&outside);
-            draft.bytes()
-        }
+        6 => disguised(random, edges::deep),
+        7 => edges::at_a_limit(random).bytes(),
+        8 => damaged(random, damage::move_root),
         _ => disguised(random, edges::many_entries),
     }
+}
+
+/// A sound draft with a fault, sometimes with a second one.
+fn damaged(random: &mut Random, fault: impl Fn(&mut Random, &mut Draft)) -> Vec<u8> {
+    let mut draft = if random.chance(10) { edges::deep(random) } else { planned(random) };
+    fault(random, &mut draft);
+    if random.chance(10) {
+        let faults = [damage::break_tables, damage::repeat_name, damage::move_root];
+        random.pick(&faults)(random, &mut draft);
+    }
+    draft.bytes()
 }
 
 fn disguised(random: &mut Random, make: impl Fn(&mut Random) -> Draft) -> Vec<u8> {

@@ -18,6 +18,11 @@ pub fn rule(random: &mut Random) -> Rule {
     };
     rule.scheduler = random.chance(50);
     rule.shadowing = random.chance(50);
+    if rule.second.is_none() && random.chance(15) {
+        // Roots that the operation does not use.
+        rule.second = Some(grow(random, &palette, 1));
+        rule.key = Some(grow(random, &palette, 1));
+    }
     rule.scope = palette.scope;
     if random.chance(20) {
         rule.scope.push(("_".into(), random.below(32) as u32));

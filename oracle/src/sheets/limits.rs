@@ -12,10 +12,10 @@ pub fn nodes(count: usize) -> Draft {
     pattern(Tree::Array(vec![Tree::Null; count - 1]))
 }
 
-/// All used but the last, which is the root's own number.
+/// On 512 nodes; entries that no array uses are the root's own number, so one of them is sound.
 pub fn children(count: usize) -> Draft {
-    let mut draft = nodes(count);
-    draft.children.push(count as u32);
+    let mut draft = nodes(512);
+    draft.children.resize(count, 512);
     draft
 }
 

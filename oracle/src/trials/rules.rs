@@ -1,12 +1,7 @@
-//! The rules on trial of document 01: sheets, and answers written by hand from it.
+//! Rules, with the answers that document 01 gives them.
 
-use crate::sheets::{encode, limits, rule, Draft};
-
-pub struct Trial {
-    pub name: String,
-    pub sheet: Vec<u8>,
-    pub expected: String,
-}
+use super::{trial, Trial};
+use crate::sheets::{encode, rule};
 
 /// Rule, names with marks, expected listing with its lines parted by commas.
 type Row = (&'static str, &'static [(&'static str, u32)], &'static str);
@@ -61,6 +56,8 @@ const SENTENCES: &[Row] = &[
     (r#"[{k: x}, 1] = [{"a": 1}, y]"#, &[], "0 4 0 5, 7 8 1 0, 6 3 1 0, 1 2 0 1, 7 4 1 0, 1 9 0 0"),
     (r#"[{"a": x}, 1] = [{k: 2}, y]"#, &[], "0 4 0 5, 7 8 1 0, 6 3 1 0, 1 2 0 1, 7 4 1 0, 1 9 0 0"),
     (r#"{k: x} = {"a": y}"#, &[], "18 3 0 0"),
+    // A value's field whose key has the text of another key alone is passed over.
+    (r#"[{1: x}, [y]] := [{"1": 2}, [1, 2]]"#, &[], "13 12 1 2"),
     // A computed field of the pattern leaves its object unknown, one of the value is passed over.
     (r#"[{"a": [], k: x}, [y]] := [{"a": []}, [1, 2]]"#, &[],
         "0 1 0 6, 5 8 2 0, 6 5 2 0, 5 2 0 1, 1 4 0 3, 5 7 1 0, 1 6 0 0"),
@@ -114,9 +111,8 @@ const DIFFERENCES: &[Row] = &[
     (r#"[x] = {"a": 1}"#, &[], "18 2 0 0"),
 ];
 
-pub fn trials() -> Vec<Trial> {
-    let rows = [ON_TRIAL, SENTENCES, DIFFERENCES].concat();
-    rows.iter().map(of_row).chain(limit_trials()).collect()
+pub fn trials() -> impl Iterator<Item = Trial> {
+    [ON_TRIAL, SENTENCES, DIFFERENCES].into_iter().flatten().map(of_row)
 }
 
 fn of_row((text, scope, expected): &Row) -> Trial {
@@ -127,43 +123,4 @@ fn of_row((text, scope, expected): &Row) -> Trial {
         name += &format!(", {marked} marked {marks}");
     }
     trial(&name, &encode(&rule), expected)
-}
-
-fn limit_trials() -> Vec<Trial> {
-    let lines = |line: fn(usize) -> String, nodes: &[usize]| {
-        nodes.iter().map(|&node| line(node)).collect::<Vec<_>>().join(", ")
-    };
-    let nested: Vec<usize> = (2..=32).rev().collect();
-    let arrays = lines(|node| format!("5 {node} 1 0"), &nested);
-    let items: Vec<usize> = (1..=511).collect();
-    let nulls = lines(|node| format!("4 {node} 0 0"), &items);
-    vec![
-        trial("depth 32", &limits::depth(32), &format!("0 0 0 32, {arrays}, 1 1 0 0")),
-        trial("depth 33", &limits::depth(33), "3 0 0 0"),
-        trial("512 nodes", &limits::nodes(512), &format!("0 0 0 512, 5 512 511 0, {nulls}")),
-        trial("513 nodes", &limits::nodes(513), "1 0 0 0"),
-        trial("buffer exact", &limits::pairs(26, 57), &exact_pairs()),
-        trial("buffer one entry short", &limits::pairs(5, 305), "6 0 1537 0"),
-    ]
-}
-
-/// In `limits::pairs(26, 57)` the wildcards are nodes 2 to 58, their array 59, the left 1 is 61,
-/// the values of the right "a" are 114, 116, .. and y is 166.
-fn exact_pairs() -> String {
-    let wildcards: String = (2..=58).map(|node| format!(", 2 {node} 0 0")).collect();
-    let values = (0..26).map(|time| 114 + 2 * time);
-    let pairs: String =
-        values.map(|node| format!(", 7 {node} 1 0, 5 59 57 0{wildcards}")).collect();
-    format!("0 4 0 1536{pairs}, 7 61 1 0, 1 166 0 0")
-}
-
-fn trial(name: &str, draft: &Draft, expected: &str) -> Trial {
-    Trial { name: name.into(), sheet: draft.bytes(), expected: listing(expected) }
-}
-
-/// Numbers parted by blanks, lines by commas, in columns of six.
-fn listing(lines: &str) -> String {
-    let column = |number: &str| format!("{number:>6}");
-    let line = |line: &str| line.split_whitespace().map(column).collect::<String>() + "\n";
-    lines.split(", ").map(line).collect()
 }
