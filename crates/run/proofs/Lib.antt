@@ -1,0 +1,17 @@
+pub mod Good
+pub mod Fits
+pub mod Promise
+pub mod Examples
+pub mod Patterns
+pub mod Lists
+pub mod Entries
+pub mod Parts
+pub mod EntryLists
+pub mod Shown
+pub mod Placing
+pub mod Valued
+pub mod Checking
+pub mod Running
+pub mod Reporting
+pub mod Tabled
+pub mod Demand

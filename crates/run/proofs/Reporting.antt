@@ -1,0 +1,342 @@
+-- The names report, from its marks to the list at the end.
+use Prim.Native.Nat.{ℕ, zero, suc, _+_, _-_, _*_, _/_, _≤_, _<_}
+use mathlib.Core.Path.{_≡_, refl, sym, ap, ap₂, subst, _∙_}
+use mathlib.Core.Logic.{_⊎_, inl, inr, ⊎-elim}
+use mathlib.Core.List.{List, [], _∷_, _++_}
+use mathlib.Core.Bool.{Bool, true, false, cond, _&&_, _||_, not, false≢true}
+use mathlib.Core.Option.{Option}
+use native.Mathlib.Omega.{arith}
+use borrow.Author.Tests.{eqb-true, eqb-false, eq-eqb, ne-eqb, le-leb, lt-leb, lt-ltb, le-ltb, ltb-true, ltb-false, not-true, not-false}
+use lib.Dec.{T as True, eqb, leb, ltb}
+use lib.ListN.{length, getD, set, replicate, length-set}
+use lib.Seq.{getD-set-same, getD-set-other, ext-getD}
+use Rattle.scope.specs.declared.Scope.{Scope}
+use Rattle.scope.specs.declared.ScopingMode.{ScopingMode}
+use Rattle.scope.specs.Scope.{isUnbound}
+use Rattle.table.specs.declared.TableAnswer.{TableAnswer}
+use Rattle.table.specs.declared.TableAnswer.the-variants.{Sound, OverLimit, BreaksRules, TooDeep, EqualNames}
+use Rattle.table.specs.Tables.{Tables, firstOf, nameCount, isNode}
+use Rattle.table.specs.Expr as Expr
+use Rattle.table.specs.Expr.{Expr, literal, name, wildcard, array, object, other, Exprs, item, Fields, done, field, nodeOf}
+use Rattle.table.specs.Decode.{expr}
+use Rattle.table.specs.Rules.{elem}
+use Rattle.table.specs.Check.{checked}
+use Rattle.table.specs.Sound.{Node, Named, WellFormed}
+use Rattle.table.proofs.Bools.{told-no, told-yes}
+use Rattle.table.proofs.Lists.{elem-nil, elem-cons, elem-append}
+use Rattle.planner.specs.Plan.{DestructuringPlan, var, equalityExpr, fresh, plan, plans, fieldPlans, after}
+use Rattle.planner.specs.Layout.{Entry, entry, literalKey, FieldOrder, noFields, addField, inOrder, concat, entries, entriesAll, fieldOrder}
+use Rattle.planner.specs.Operations.{isSound, planOf}
+use Rattle.planner.specs.Post.{NameNumber, GoodRoot, PatternAsks, PatternPlanned, tabulate}
+use Rattle.planner.specs.Simple.{mentions, mentionsAny, mentionsFields}
+use Rattle.planner.proofs.Binders.{AllNames, AllNamesAll, AllNamesFields, names-all}
+use Rattle.planner.proofs.Filling.{length-tabulate, getD-tabulate}
+use Rattle.planner.proofs.Operations.{table-passes, sound-well, root-node}
+use Rattle.value.proofs.Keys.{or-left, or-right, true-is}
+use Rattle.run.specs.declared.ReportAnswer.{ReportAnswer}
+use Rattle.run.specs.declared.ReportAnswer.the-variants.{Reported, TableRefused, RootOutside, ListTooShort}
+use Rattle.run.specs.Report.{boundIn, namesMet, namesMetAll, namesMetFields, reportedBy, reported, answerAfter, reportAnswer, reportList, ReportedBy}
+use Rattle.run.specs.NamesPost.{MetBy}
+use Rattle.run.specs.ReportPost.{metMark, EntryBound, markedBy, boundFrom, BoundAsks, BoundMarked, ReportAsks, PlannedMarked, ReportMarked}
+use Rattle.run.proofs.EntryLists.{AllE, all-append, all-at, AllOrder, all-none, all-add, all-order, blank, scratch-kind, scratch-node}
+use Rattle.run.proofs.Running.{mentioned-named}
+
+-- the mark of a name that is met
+module _ (met : List ℕ) (i : ℕ) where
+  pub met-past : 128 ≤ i → 0 ≡ metMark met i
+  met-past le = let e = le-ltb i 128 le in rw e
+
+  pub met-none : i < 128 → getD met i 0 ≡ 0 → 0 ≡ metMark met i
+  met-none lt z = let e = lt-ltb i 128 lt in let f = eq-eqb (getD met i 0) 0 z in rw (e, f)
+
+  pub met-some : i < 128 → (getD met i 0 ≡ 0 → ⊥) → 2 ≡ metMark met i
+  met-some lt nz = let e = lt-ltb i 128 lt in let f = ne-eqb (getD met i 0) 0 nz in rw (e, f)
+
+-- the mark of an entry that binds
+module _ {nodes : List ℕ} {kind node : ℕ} {list : List ℕ} (a : EntryBound nodes kind node list) (one : kind ≡ 1) {first : ℕ} (is : first ≡ firstOf nodes node) where
+  pub bound-low : 1 ≤ first
+  bound-low = rw is (a .inside one .0)
+
+  pub bound-place : first - 1 < length list
+  bound-place = let l = bound-low in let h : first ≤ length list = rw is (a .inside one .1) in omega arith
+
+module _ (nodes : List ℕ) (kind node : ℕ) (list : List ℕ) where
+  pub marked-one : {first : ℕ} → kind ≡ 1 → first ≡ firstOf nodes node → set list (first - 1) 1 ≡ markedBy nodes kind node list
+  marked-one one is = let e = eq-eqb kind 1 one in rw (e, is)
+
+  pub marked-none : (kind ≡ 1 → ⊥) → list ≡ markedBy nodes kind node list
+  marked-none unlike = let e = ne-eqb kind 1 unlike in rw e
+
+-- the entries in turn
+pub record MarkingBound (nodes scratch : List ℕ) (count : ℕ) (before : List ℕ) (i : ℕ) (here : List ℕ) : Type 0 where
+  pub asks : BoundAsks nodes scratch count before
+  pub inside : i ≤ count
+  pub long : length here ≡ length before
+  pub same : (k : ℕ) → cond (elem (k + 1) (boundFrom nodes scratch i (count - i))) 1 (getD here k 0) ≡ cond (elem (k + 1) (boundFrom nodes scratch 0 count)) 1 (getD before k 0)
+
+pub bound-start : {nodes scratch : List ℕ} {count : ℕ} {before : List ℕ} → BoundAsks nodes scratch count before → MarkingBound nodes scratch count before 0 before
+bound-start {nodes} {scratch} {count} {before} a = let z : count - 0 ≡ count = omega arith in record { asks = a; inside = omega arith; long = refl; same = λ k. rw z }
+
+module _ {nodes scratch : List ℕ} {count : ℕ} {before : List ℕ} {i : ℕ} {here : List ℕ} (go : MarkingBound nodes scratch count before i here) where
+  module _ (more : i < count) where
+    pub bound-kind : i * 4 < 2048
+    bound-kind = let f = go .asks .few in omega arith
+
+    pub bound-node : i * 4 + 1 < 2048
+    bound-node = let f = go .asks .few in omega arith
+
+    pub bound-entry : EntryBound nodes (getD scratch (i * 4) 0) (getD scratch (i * 4 + 1) 0) here
+    bound-entry = record { inside = λ one. let p = go .asks .each i more .inside one in let l = go .long in (p .0, rw l (p .1)) }
+
+    pub bound-on : {after : List ℕ} → after ≡ markedBy nodes (getD scratch (i * 4) 0) (getD scratch (i * 4 + 1) 0) here → MarkingBound nodes scratch count before (i + 1) after
+    unfolding boundFrom elem
+    bound-on {after} e = by (eqb (getD scratch (i * 4) 0) 1) refl
+      where
+        rest : ℕ → Bool
+        rest k = elem (k + 1) (boundFrom nodes scratch (i + 1) (count - (i + 1)))
+
+        x : ℕ
+        x = firstOf nodes (getD scratch (i * 4 + 1) 0)
+
+        unrolled : (b : Bool) → eqb (getD scratch (i * 4) 0) 1 ≡ b → boundFrom nodes scratch i (count - i) ≡ cond b (x ∷ boundFrom nodes scratch (i + 1) (count - (i + 1))) (boundFrom nodes scratch (i + 1) (count - (i + 1)))
+        unrolled b p =
+            let s : count - i ≡ suc (count - (i + 1)) = omega arith in
+            ap (boundFrom nodes scratch i) s ∙ ap (λ (c : Bool). cond c (x ∷ boundFrom nodes scratch (i + 1) (count - (i + 1))) (boundFrom nodes scratch (i + 1) (count - (i + 1)))) p
+
+        either : (c : Bool) → _≡_ {A = ℕ} (cond c 1 1) 1
+        either true = refl
+        either false = refl
+
+        by : (b : Bool) → eqb (getD scratch (i * 4) 0) 1 ≡ b → MarkingBound nodes scratch count before (i + 1) after
+        by true p =
+            let f : after ≡ set here (x - 1) 1 = e ∙ rw p in
+            let one = eqb-true (getD scratch (i * 4) 0) 1 p in
+            let r = go .asks .each i more .inside one in
+            let long = go .long in
+            record {
+              asks = go .asks;
+              inside = omega arith;
+              long = ap length f ∙ (length-set here (x - 1) 1 ∙ go .long);
+              same = λ k. at k f (r .0) (r .1) (eqb (k + 1) x) refl ∙ (sym (ap (λ (l : List ℕ). cond (elem (k + 1) l) 1 (getD here k 0)) (unrolled true p)) ∙ go .same k);
+            }
+          where
+            at : (k : ℕ) → after ≡ set here (x - 1) 1 → 1 ≤ x → x ≤ length before → (c : Bool) → eqb (k + 1) x ≡ c → cond (rest k) 1 (getD after k 0) ≡ cond (eqb (k + 1) x || rest k) 1 (getD here k 0)
+            at k f low high true q =
+                let y = eqb-true (k + 1) x q in
+                let z : k ≡ x - 1 = omega arith in
+                let long = go .long in
+                let g : getD after k 0 ≡ 1 = ap (λ (l : List ℕ). getD l k 0) f ∙ (ap (λ (j : ℕ). getD (set here (x - 1) 1) j 0) z ∙ getD-set-same here (x - 1) 1 0 (omega arith)) in
+                rw (q, g) (either (rest k))
+            at k f low high false q =
+                let y = eqb-false (k + 1) x q in
+                let g : getD after k 0 ≡ getD here k 0 = ap (λ (l : List ℕ). getD l k 0) f ∙ getD-set-other here (x - 1) k 1 0 (λ z. y (omega arith)) in
+                rw (q, g)
+        by false p =
+            let f : after ≡ here = e ∙ rw p in
+            record {
+              asks = go .asks;
+              inside = omega arith;
+              long = ap length f ∙ go .long;
+              same = λ k. ap (λ (l : List ℕ). cond (rest k) 1 (getD l k 0)) f ∙ (sym (ap (λ (l : List ℕ). cond (elem (k + 1) l) 1 (getD here k 0)) (unrolled false p)) ∙ go .same k);
+            }
+
+  pub bound-long : length here ≡ length before
+  bound-long = go .long
+
+  pub bound-ends : count ≤ i → BoundMarked nodes scratch count before here
+  unfolding boundFrom elem
+  bound-ends le = let z : count - i ≡ 0 = omega arith in record { long = go .long; each = λ k. rw z at (go .same k) }
+
+-- a bind entry's node is that of a name
+module _ (T : Tables) (u : ℕ → Bool) where
+  abbrev BindsName : Entry → Type 0
+  BindsName e = e .kind ≡ 1 → Named T (firstOf (T .nodes) (e .node))
+
+  abbrev NamedNode : ℕ → ℕ → Type 0
+  NamedNode n x = Named T (firstOf (T .nodes) n)
+
+  mutual
+    unfolding plan entries AllE AllNames concat
+
+    binds-names : (e : Expr) → AllNames NamedNode e → (seen : List ℕ) (key : ℕ) → AllE BindsName (entries (plan u e seen) key)
+    binds-names (literal n l) all seen key = (λ k. absurd (omega arith), tt)
+    binds-names (name n x) all seen key = go (fresh u seen x)
+      where
+        go : (c : Bool) → AllE BindsName (entries (cond c (var n x) (equalityExpr (name n x))) key)
+        go true = (λ k. all, tt)
+        go false = (λ k. absurd (omega arith), tt)
+    binds-names (wildcard n) all seen key = (λ k. absurd (omega arith), tt)
+    binds-names (array n es) all seen key = (λ k. absurd (omega arith), binds-names-all es all seen)
+    binds-names (Expr.set n es) all seen key = (λ k. absurd (omega arith), tt)
+    binds-names (object n fs) all seen key = (λ k. absurd (omega arith), all-order BindsName (fieldOrder (fieldPlans u fs seen) noFields) (binds-names-fields fs all seen noFields (all-none BindsName)))
+    binds-names (other n) all seen key = (λ k. absurd (omega arith), tt)
+
+    binds-names-all : (es : Exprs) → AllNamesAll NamedNode es → (seen : List ℕ) → AllE BindsName (entriesAll (plans u es seen))
+    binds-names-all Expr.none all seen = tt
+    binds-names-all (item e es) all seen = all-append BindsName (entries (plan u e seen) 0) (entriesAll (plans u es (after u e seen))) (binds-names e (all .0) seen 0) (binds-names-all es (all .1) (after u e seen))
+
+    binds-names-fields : (fs : Fields) → AllNamesFields NamedNode fs → (seen : List ℕ) (o : FieldOrder (List Entry)) → AllOrder BindsName o → AllOrder BindsName (fieldOrder (fieldPlans u fs seen) o)
+    binds-names-fields done all seen o a = a
+    binds-names-fields (field k v fs) all seen o a =
+        binds-names-fields fs (all .2) (after u v seen) (addField (literalKey k) (entries (plan u v seen) (nodeOf k)) o)
+        (all-add BindsName (literalKey k) (entries (plan u v seen) (nodeOf k)) o (binds-names v (all .1) seen (nodeOf k)) a)
+
+-- the names of the bind entries, as the scratch has them
+bound-entries : (nodes scratch : List ℕ) (i : ℕ) (es : List Entry) → ((j : ℕ) → j < length es → (getD scratch ((i + j) * 4) 0 ≡ getD es j blank .kind) × (getD scratch ((i + j) * 4 + 1) 0 ≡ getD es j blank .node))
+    → boundFrom nodes scratch i (length es) ≡ boundIn nodes es
+unfolding boundFrom boundIn
+bound-entries nodes scratch i [] each = refl
+bound-entries nodes scratch i (e ∷ es) each =
+    let z : i + 0 ≡ i = omega arith in
+    let p = rw z at (each 0 (omega arith)) in
+    let r = bound-entries nodes scratch (i + 1) es (λ j lt. let q : i + (j + 1) ≡ i + 1 + j = omega arith in let s : j + 1 ≡ suc j = omega arith in rw s at (rw q at (each (j + 1) (omega arith)))) in
+    ap₂ (λ (k n : ℕ). cond (eqb k 1) (firstOf nodes n ∷ boundFrom nodes scratch (i + 1) (length es)) (boundFrom nodes scratch (i + 1) (length es))) (p .0) (p .1)
+    ∙ ap (λ (l : List ℕ). cond (eqb (e .kind) 1) (firstOf nodes (e .node) ∷ l) l) r
+
+module _ (T : Tables) (s : Scope) (mode : ScopingMode) (pattern : ℕ) {list : List ℕ} (a : ReportAsks T pattern list) where
+  pub ask-planned : PatternAsks T pattern (replicate 128 0)
+  ask-planned = record { table = a .good .table; node = a .good .node; none-bound = refl }
+
+  module _ {binders scratch : List ℕ} {count : ℕ} (p : PatternPlanned T s mode pattern (replicate 2048 0) binders scratch count) where
+    abbrev es : List Entry
+    es = entries (planOf T s mode pattern) 0
+
+    size : count ≡ length es
+    size = let e = p .laid .end in omega arith
+
+    few : length es ≤ 512
+    few = let f = p .few in let z = size in omega arith
+
+    named : (i : ℕ) → i < count → getD scratch (i * 4) 0 ≡ 1 → Named T (firstOf (T .nodes) (getD scratch (i * 4 + 1) 0))
+    named i lt one =
+        let z = size in
+        let inside : i < length es = omega arith in
+        let k = scratch-kind es few (p .laid .stored) i inside in
+        let n = scratch-node es few (p .laid .stored) i inside in
+        let w = a .good .table in
+        let all = names-all T w (λ m x. Named T (firstOf (T .nodes) m)) (λ m v h named. w .named m v h) pattern (a .good .node) in
+        rw n (all-at (BindsName T (isUnbound s mode)) blank es i inside (binds-names T (isUnbound s mode) (expr T pattern) all [] 0) (sym k ∙ one))
+
+    pub ask-bound : BoundAsks (T .nodes) scratch count list
+    ask-bound = record {
+      few = p .few;
+      each = λ i lt. record { inside = λ one. let v = named i lt one in let l = v .low in let h = v .high in let long = a .long in (omega arith, omega arith) };
+    }
+
+    pub planned-marked : {after : List ℕ} → BoundMarked (T .nodes) scratch count list after → PlannedMarked T s mode pattern list after
+    planned-marked m =
+        let z = size in
+        let e = bound-entries (T .nodes) scratch 0 es (λ j lt. let y : 0 + j ≡ j = omega arith in rw y (scratch-kind es few (p .laid .stored) j lt, scratch-node es few (p .laid .stored) j lt)) in
+        let q : boundFrom (T .nodes) scratch 0 count ≡ boundIn (T .nodes) es = ap (boundFrom (T .nodes) scratch 0) z ∙ e in
+        record { long = m .long; each = λ k. m .each k ∙ ap (λ (l : List ℕ). cond (elem (k + 1) l) 1 (getD list k 0)) q }
+
+-- a name that is met stands in the pattern
+module _ (x : ℕ) where
+  mutual
+    unfolding namesMet mentions elem
+
+    met-mentioned : (e : Expr) → elem x (namesMet e) ≡ true → True (mentions x e)
+    met-mentioned (literal n l) h = absurd (elem-nil x h)
+    met-mentioned (name n y) h = ⊎-elim (λ q. true-is (eq-eqb x y q)) (λ q. absurd (elem-nil x q)) (elem-cons x y [] h)
+    met-mentioned (wildcard n) h = absurd (elem-nil x h)
+    met-mentioned (array n es) h = met-mentioned-all es h
+    met-mentioned (Expr.set n es) h = absurd (elem-nil x h)
+    met-mentioned (object n fs) h = met-mentioned-fields fs h
+    met-mentioned (other n) h = absurd (elem-nil x h)
+
+    met-mentioned-all : (es : Exprs) → elem x (namesMetAll es) ≡ true → True (mentionsAny x es)
+    met-mentioned-all Expr.none h = absurd (elem-nil x h)
+    met-mentioned-all (item e es) h =
+        ⊎-elim (λ q. or-left (mentions x e) (mentionsAny x es) (met-mentioned e q)) (λ q. or-right (mentions x e) (mentionsAny x es) (met-mentioned-all es q)) (elem-append x (namesMet e) (namesMetAll es) h)
+
+    met-mentioned-fields : (fs : Fields) → elem x (namesMetFields fs) ≡ true → True (mentionsFields x fs)
+    met-mentioned-fields done h = absurd (elem-nil x h)
+    met-mentioned-fields (field k v fs) h =
+        or-right (mentions x k) (mentions x v || mentionsFields x fs)
+        (⊎-elim (λ q. or-left (mentions x v) (mentionsFields x fs) (met-mentioned v q)) (λ q. or-right (mentions x v) (mentionsFields x fs) (met-mentioned-fields fs q)) (elem-append x (namesMet v) (namesMetFields fs) h))
+
+-- met, then bound
+module _ (T : Tables) (s : Scope) (mode : ScopingMode) (pattern : ℕ) {before : List ℕ} (a : ReportAsks T pattern before) {met : List ℕ} (by : MetBy (expr T pattern) met) where
+  module _ {mid : List ℕ} (is : mid ≡ tabulate (metMark met) 0 (length before)) where
+    mid-long : length mid ≡ length before
+    mid-long = ap length is ∙ length-tabulate (metMark met) 0 (length before)
+
+    pub ask-marks : ReportAsks T pattern mid
+    ask-marks = record { good = a .good; long = let l = a .long in let e = mid-long in omega arith }
+
+    met-is : (k : ℕ) → metMark met k ≡ cond (elem (k + 1) (namesMet (expr T pattern))) 2 0
+    met-is k = go (ltb k 128) refl
+      where
+        none-met : (c : Bool) → elem (k + 1) (namesMet (expr T pattern)) ≡ c → 128 ≤ k → _≡_ {A = ℕ} 0 (cond c 2 0)
+        none-met true e le =
+            let v = mentioned-named T (a .good .table) pattern (a .good .node) (k + 1) (met-mentioned (k + 1) (expr T pattern) e) in
+            let h = v .high in
+            let few = a .good .table .limits .names in
+            absurd (omega arith)
+        none-met false e le = refl
+
+        pick : (c : Bool) → _≡_ {A = ℕ} (cond c 0 2) (cond (not c) 2 0)
+        pick true = refl
+        pick false = refl
+
+        go : (b : Bool) → ltb k 128 ≡ b → _≡_ {A = ℕ} (cond b (cond (eqb (getD met k 0) 0) 0 2) 0) (cond (elem (k + 1) (namesMet (expr T pattern))) 2 0)
+        go true e =
+            let lt = ltb-true k 128 e in
+            let q : k + 1 - 1 ≡ k = omega arith in
+            let m : elem (k + 1) (namesMet (expr T pattern)) ≡ not (eqb (getD met k 0) 0) = rw q at (by .each (k + 1) (record { low = omega arith; high = omega arith })) in
+            pick (eqb (getD met k 0) 0) ∙ sym (ap (λ (c : Bool). cond c 2 0) m)
+        go false e = none-met (elem (k + 1) (namesMet (expr T pattern))) refl (ltb-false k 128 e)
+
+    pub report-marked : {after : List ℕ} → PlannedMarked T s mode pattern mid after → ReportMarked T s mode pattern before after
+    report-marked {after} m = record {
+      list = ext-getD 0 after (tabulate (λ i. reported T s mode pattern (i + 1)) 0 (length before))
+          (m .long ∙ (mid-long ∙ sym (length-tabulate (λ i. reported T s mode pattern (i + 1)) 0 (length before))))
+          (λ k lt.
+          let e = m .long in
+          let f = mid-long in
+          let inside : k < length before = omega arith in
+          let z : 0 + k ≡ k = omega arith in
+          let here : getD mid k 0 ≡ cond (elem (k + 1) (namesMet (expr T pattern))) 2 0 = ap (λ (l : List ℕ). getD l k 0) is ∙ (getD-tabulate (metMark met) 0 (length before) k inside ∙ (ap (metMark met) z ∙ met-is k)) in
+          m .each k
+          ∙ (ap (λ (v : ℕ). cond (elem (k + 1) (boundIn (T .nodes) (entries (planOf T s mode pattern) 0))) 1 v) here
+          ∙ sym (getD-tabulate (λ i. reported T s mode pattern (i + 1)) 0 (length before) k inside ∙ ap (λ (j : ℕ). reported T s mode pattern (j + 1)) z)));
+    }
+
+-- the refusals
+module _ (T : Tables) (s : Scope) (mode : ScopingMode) (pattern : ℕ) (before : List ℕ) {c : TableAnswer} (is : c ≡ checked T s) {ok : Bool} (of : ok ≡ isSound c) where
+  reports : {after : List ℕ} (r : ReportAnswer) → reportAnswer T s pattern before ≡ r → after ≡ reportList r T s mode pattern before → ReportedBy T s mode pattern before after r
+  reports r e f = record { answer = sym e; list = f ∙ sym (ap (λ (x : ReportAnswer). reportList x T s mode pattern before) e) }
+
+  pub report-table : {after : List ℕ} → not ok ≡ true → after ≡ replicate (length before) 0 → ReportedBy T s mode pattern before after (TableRefused c)
+  report-table {after} t z = go c refl
+    where
+      after-check : TableAnswer → ReportAnswer
+      after-check d = answerAfter d (cond (isNode T pattern) (cond (leb (nameCount T) (length before)) Reported ListTooShort) RootOutside)
+
+      at : (d : TableAnswer) → c ≡ d → after-check d ≡ TableRefused d → ReportedBy T s mode pattern before after (TableRefused c)
+      at d p e = reports (TableRefused c) (ap after-check (sym is ∙ p) ∙ (e ∙ ap TableRefused (sym p))) z
+
+      go : (d : TableAnswer) → c ≡ d → ReportedBy T s mode pattern before after (TableRefused c)
+      go Sound p = absurd (false≢true (sym (not-true ok t) ∙ (of ∙ ap isSound p)))
+      go OverLimit p = at OverLimit p refl
+      go BreaksRules p = at BreaksRules p refl
+      go TooDeep p = at TooDeep p refl
+      go EqualNames p = at EqualNames p refl
+
+  module _ (passes : not ok ≡ false) {inside : Bool} (told : inside ≡ isNode T pattern) where
+    passed : reportAnswer T s pattern before ≡ cond (isNode T pattern) (cond (leb (nameCount T) (length before)) Reported ListTooShort) RootOutside
+    passed = ap (λ (d : TableAnswer). answerAfter d (cond (isNode T pattern) (cond (leb (nameCount T) (length before)) Reported ListTooShort) RootOutside)) (sym is ∙ table-passes of passes)
+
+    pub report-root : {after : List ℕ} → not inside ≡ true → after ≡ replicate (length before) 0 → ReportedBy T s mode pattern before after RootOutside
+    report-root t z = let e = told-no told t in reports RootOutside (passed ∙ rw e) z
+
+    module _ (in-table : not inside ≡ false) where
+      pub report-short : {after : List ℕ} → length before < length (T .names) / 2 → after ≡ replicate (length before) 0 → ReportedBy T s mode pattern before after ListTooShort
+      report-short lt z = let e = told-yes told in-table in let f = lt-leb (nameCount T) (length before) lt in reports ListTooShort (passed ∙ rw (e, f)) z
+
+      module _ (long : length (T .names) / 2 ≤ length before) where
+        pub ask-report : ReportAsks T pattern before
+        ask-report = record { good = record { table = sound-well T s is of passes; node = root-node T pattern told in-table }; long = long }
+
+        pub report-done : {after : List ℕ} → ReportMarked T s mode pattern before after → ReportedBy T s mode pattern before after Reported
+        report-done m = let e = told-yes told in-table in let f = le-leb (nameCount T) (length before) long in reports Reported (passed ∙ rw (e, f)) (m .list)

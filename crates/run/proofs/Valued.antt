@@ -1,0 +1,361 @@
+-- The values of names: at the start, after a match, and whether each that is needed is there.
+use Prim.Native.Nat.{ℕ, zero, suc, _+_, _-_, _*_, _/_, _≤_, _<_}
+use mathlib.Core.Path.{_≡_, refl, sym, ap, ap₂, subst, _∙_}
+use mathlib.Core.List.{List, [], _∷_, _++_}
+use mathlib.Core.Bool.{Bool, true, false, cond, _&&_, _||_, not, false≢true, and-false}
+use native.Mathlib.Omega.{arith}
+use borrow.Author.Tests.{eqb-true, eqb-false, eq-eqb, ne-eqb, not-true, not-false}
+use lib.Dec.{T as True, eqb, leb}
+use lib.ListN.{length, getD, set, replicate, length-set, length-replicate}
+use lib.Seq.{getD-set-same, getD-set-other}
+use Rattle.scope.specs.declared.Scope.{Scope}
+use Rattle.scope.specs.declared.ScopingMode.{ScopingMode}
+use Rattle.scope.specs.declared.ScopingMode.the-variants.{AllowShadowing}
+use Rattle.scope.specs.declared.Binding.{Binding}
+use Rattle.scope.specs.declared.Binding.the-variants as Binding
+use Rattle.scope.specs.Scope.{isUnderscore, isUnbound, bindingOf, newScope}
+use Rattle.scope.proofs.Laws.{answer-promise, new-promise}
+use Rattle.table.specs.Tables.{Tables, nameCount}
+use Rattle.table.specs.Expr as Expr
+use Rattle.table.specs.Expr.{Expr, literal, name, wildcard, array, object, other, Exprs, item, Fields, done, field}
+use Rattle.table.specs.Decode.{expr}
+use Rattle.table.specs.Rules.{allFrom, elem}
+use Rattle.table.specs.Sound.{WellFormed}
+use Rattle.table.proofs.Scan.{Scan, scan-start, scan-on, scan-fails, scan-ends}
+use Rattle.planner.specs.Plan.{fresh, after, afterAll, afterFields}
+use Rattle.planner.specs.Layout.{literalKey}
+use Rattle.planner.specs.Passes.{unboundMark}
+use Rattle.planner.specs.Post.{NameNumber, GoodRoot, PatternPlanned}
+use Rattle.planner.specs.Simple.{isLiteral, keysOf, differing, simple, simpleAll, simpleFields, mentions, mentionsAny, mentionsFields}
+use Rattle.planner.proofs.States.{mark-never}
+use Rattle.table.proofs.Bools.{and-true}
+use Rattle.value.proofs.Keys.{true-is}
+use Rattle.run.specs.Report.{namesMet, namesMetAll, namesMetFields}
+use Rattle.run.specs.Operations.{listedNode, allNames, knownListed}
+use Rattle.run.specs.NamesPost.{ListAsks, StartOf, NamesSet, MetBy, hasValue, allHaveValues, KnownAsks}
+use Rattle.run.proofs.Fits.{silent}
+
+-- what a scope says of a name
+module _ (x : ℕ) (u : Bool) {b : Binding} (is : b ≡ bindingOf x u) where
+  pub unbound-yes : b ≡ Binding.Yes → true ≡ u
+  unbound-yes e = sym (answer-promise x u .is-yes (sym is ∙ e))
+
+  pub unbound-no : b ≡ Binding.No → false ≡ u
+  unbound-no e = sym (answer-promise x u .is-no (sym is ∙ e))
+
+  pub unbound-never : NameNumber x → b ≡ Binding.NameOutside → false ≡ u
+  unbound-never v e = go u (mark-never x u is v e)
+    where
+      go : (u : Bool) → 0 ≡ unboundMark u → false ≡ u
+      go true z = absurd (omega arith)
+      go false z = refl
+
+pub starts-none : (u : Bool) (listed : ℕ) {r : Bool} → r ≡ u → r ≡ true → 0 ≡ cond u 0 listed
+starts-none u listed is t = let e : u ≡ true = sym is ∙ t in rw e
+
+pub starts-listed : (u : Bool) (listed : ℕ) {r : Bool} → r ≡ u → r ≡ false → listed ≡ cond u 0 listed
+starts-listed u listed is t = let e : u ≡ false = sym is ∙ t in rw e
+
+pub old-value : (binder old new : ℕ) → binder ≡ 0 → old ≡ cond (eqb binder 0) old new
+old-value binder old new z = let e = eq-eqb binder 0 z in rw e
+
+pub set-value : (binder old new : ℕ) → (binder ≡ 0 → ⊥) → new ≡ cond (eqb binder 0) old new
+set-value binder old new nz = let e = ne-eqb binder 0 nz in rw e
+
+-- a list whose first places are f's, the others still g's
+pub record Changing (f g : ℕ → ℕ) (size i : ℕ) (here : List ℕ) : Type 0 where
+  pub long : length here ≡ size
+  pub each : (k : ℕ) → k < i → getD here k 0 ≡ f k
+  pub rest : (k : ℕ) → i ≤ k → getD here k 0 ≡ g k
+
+changing-on : {f g : ℕ → ℕ} {size i : ℕ} {here : List ℕ} {v : ℕ} → Changing f g size i here → i < size → v ≡ f i → Changing f g size (i + 1) (set here i v)
+changing-on {f} {g} {size} {i} {here} {v} go lt e = record {
+  long = length-set here i v ∙ go .long;
+  each = λ k below. at k below (eqb k i) refl;
+  rest = λ k le. getD-set-other here i k v 0 (λ q. omega arith) ∙ go .rest k (omega arith);
+}
+  where
+    at : (k : ℕ) → k < i + 1 → (b : Bool) → eqb k i ≡ b → getD (set here i v) k 0 ≡ f k
+    at k below true p =
+        let k-is = eqb-true k i p in
+        let long = go .long in
+        rw k-is (getD-set-same here i v 0 (omega arith) ∙ e)
+    at k below false p =
+        let differs = eqb-false k i p in
+        getD-set-other here i k v 0 differs ∙ go .each k (omega (arith, differs))
+
+zero-at : (n k : ℕ) → _≡_ {A = ℕ} (getD (replicate n 0) k 0) 0
+zero-at zero k = refl
+zero-at (suc n) zero = refl
+zero-at (suc n) (suc k) = zero-at n k
+
+-- the values at the start
+pub record Starting (names : List ℕ) (s : Scope) (mode : ScopingMode) (values : List ℕ) (count i : ℕ) (list : List ℕ) : Type 0 where
+  pub asks : ListAsks names values
+  pub counted : count ≡ length names / 2
+  pub inside : i ≤ count
+  pub going : Changing (λ k. cond (isUnbound s mode (k + 1)) 0 (getD values k 0)) (λ k. 0) 128 i list
+
+pub starting : {names : List ℕ} (s : Scope) (mode : ScopingMode) {values : List ℕ} {count : ℕ} → ListAsks names values → count ≡ length names / 2 → Starting names s mode values count 0 (replicate 128 0)
+starting s mode a is = record { asks = a; counted = is; inside = omega arith; going = record { long = length-replicate {A = ℕ} 128 0; each = λ k lt. absurd (omega arith); rest = λ k le. zero-at 128 k } }
+
+module _ {names : List ℕ} {s : Scope} {mode : ScopingMode} {values : List ℕ} {count i : ℕ} {list : List ℕ} (go : Starting names s mode values count i list) where
+  module _ (more : i < count) where
+    pub starting-name : NameNumber (i + 1)
+    starting-name = let few = go .asks .few in let e = go .counted in record { low = omega arith; high = omega arith }
+
+    pub starting-small : i < 128
+    starting-small = let few = go .asks .few in let e = go .counted in omega arith
+
+    pub starting-listed : i < length values
+    starting-listed = let l = go .asks .long in let e = go .counted in omega arith
+
+    pub starting-on : {v : ℕ} → v ≡ cond (isUnbound s mode (i + 1)) 0 (getD values i 0) → Starting names s mode values count (i + 1) (set list i v)
+    starting-on e = record { asks = go .asks; counted = go .counted; inside = omega arith; going = changing-on (go .going) starting-small e }
+
+  pub starting-ends : count ≤ i → StartOf (length names / 2) s mode values list
+  starting-ends le = record {
+    long = go .going .long;
+    each = λ x low high.
+        let c = go .counted in
+        let e : x - 1 + 1 ≡ x = omega arith in
+        go .going .each (x - 1) (omega arith) ∙ ap (λ (y : ℕ). cond (isUnbound s mode y) 0 (getD values (x - 1) 0)) e;
+    rest = λ k h. let c = go .counted in let n = go .inside in go .going .rest k (omega arith);
+  }
+
+-- the values after a match
+pub record Setting (names binders list before : List ℕ) (count i : ℕ) (here : List ℕ) : Type 0 where
+  pub asks : ListAsks names before
+  pub counted : count ≡ length names / 2
+  pub inside : i ≤ count
+  pub going : Changing (λ k. cond (eqb (getD binders k 0) 0) (getD before k 0) (getD list k 0)) (λ k. getD before k 0) (length before) i here
+
+pub setting-start : {names : List ℕ} (binders list : List ℕ) {before : List ℕ} {count : ℕ} → ListAsks names before → count ≡ length names / 2 → Setting names binders list before count 0 before
+setting-start binders list a is = record { asks = a; counted = is; inside = omega arith; going = record { long = refl; each = λ k lt. absurd (omega arith); rest = λ k le. refl } }
+
+module _ {names binders list before : List ℕ} {count i : ℕ} {here : List ℕ} (go : Setting names binders list before count i here) where
+  module _ (more : i < count) where
+    pub setting-small : i < 128
+    setting-small = let few = go .asks .few in let e = go .counted in omega arith
+
+    pub setting-inside : i < length here
+    setting-inside = let l = go .asks .long in let e = go .counted in let long = go .going .long in omega arith
+
+    pub setting-on : {v : ℕ} → v ≡ cond (eqb (getD binders i 0) 0) (getD here i 0) (getD list i 0) → Setting names binders list before count (i + 1) (set here i v)
+    setting-on e =
+        let l = go .asks .long in
+        let c = go .counted in
+        let old = go .going .rest i (omega arith) in
+        record { asks = go .asks; counted = go .counted; inside = omega arith; going = changing-on (go .going) (omega arith) (rw old at e) }
+
+  pub setting-long : length here ≡ length before
+  setting-long = go .going .long
+
+  pub setting-ends : count ≤ i → NamesSet (length names / 2) binders list before here
+  setting-ends le = record {
+    long = go .going .long;
+    each = λ k lt. let c = go .counted in go .going .each k (omega arith);
+    rest = λ k h. let c = go .counted in let n = go .inside in go .going .rest k (omega arith);
+  }
+
+-- the names that a pattern meets
+
+elem-or : (x : ℕ) (xs ys : List ℕ) → elem x (xs ++ ys) ≡ (elem x xs || elem x ys)
+unfolding elem
+elem-or x [] ys = refl
+elem-or x (y ∷ xs) ys = ap (λ (b : Bool). eqb x y || b) (elem-or x xs ys) ∙ assoc (eqb x y) (elem x xs) (elem x ys)
+  where
+    assoc : (a b c : Bool) → (a || (b || c)) ≡ ((a || b) || c)
+    assoc true b c = refl
+    assoc false b c = refl
+
+module _ (u : ℕ → Bool) (x : ℕ) where
+  two : (a b c d : Bool) → ((b && c) || ((a && c) || d)) ≡ (((a || b) && c) || d)
+  two true true true d = refl
+  two true true false d = refl
+  two true false true d = refl
+  two true false false d = refl
+  two false true true d = refl
+  two false true false d = refl
+  two false false c d = refl
+
+  mutual
+    unfolding after namesMet elem
+
+    -- the names planned once a pattern is: those that it meets and the scope doesn't know, and those of before
+    pub after-met : (e : Expr) (seen : List ℕ) → elem x (after u e seen) ≡ ((elem x (namesMet e) && u x) || elem x seen)
+    after-met (literal n l) seen = refl
+    after-met (name n y) seen = go (eqb x y) refl (u y) refl (elem y seen) refl
+      where
+        go : (a : Bool) → eqb x y ≡ a → (b : Bool) → u y ≡ b → (c : Bool) → elem y seen ≡ c → elem x (cond (u y && not (elem y seen)) (y ∷ seen) seen) ≡ (((eqb x y || false) && u x) || elem x seen)
+        go true p true q true r = let e = eqb-true x y p in let h : elem x seen ≡ true = ap (λ (z : ℕ). elem z seen) e ∙ r in let g : u x ≡ true = ap u e ∙ q in simp (p, q, r, g, h)
+        go true p true q false r = let e = eqb-true x y p in let g : u x ≡ true = ap u e ∙ q in simp (p, q, r, g)
+        go true p false q c r = let e = eqb-true x y p in let g : u x ≡ false = ap u e ∙ q in simp (p, q, g)
+        go false p true q true r = simp (p, q, r)
+        go false p true q false r = simp (p, q, r)
+        go false p false q c r = simp (p, q)
+    after-met (wildcard n) seen = refl
+    after-met (array n es) seen = after-met-all es seen
+    after-met (Expr.set n es) seen = refl
+    after-met (object n fs) seen = after-met-fields fs seen
+    after-met (other n) seen = refl
+
+    after-met-all : (es : Exprs) (seen : List ℕ) → elem x (afterAll u es seen) ≡ ((elem x (namesMetAll es) && u x) || elem x seen)
+    after-met-all Expr.none seen = refl
+    after-met-all (item e es) seen =
+        after-met-all es (after u e seen)
+        ∙ (ap (λ (b : Bool). (elem x (namesMetAll es) && u x) || b) (after-met e seen)
+        ∙ (two (elem x (namesMet e)) (elem x (namesMetAll es)) (u x) (elem x seen) ∙ ap (λ (b : Bool). (b && u x) || elem x seen) (sym (elem-or x (namesMet e) (namesMetAll es)))))
+
+    after-met-fields : (fs : Fields) (seen : List ℕ) → elem x (afterFields u fs seen) ≡ ((elem x (namesMetFields fs) && u x) || elem x seen)
+    after-met-fields done seen = refl
+    after-met-fields (field k v fs) seen =
+        after-met-fields fs (after u v seen)
+        ∙ (ap (λ (b : Bool). (elem x (namesMetFields fs) && u x) || b) (after-met v seen)
+        ∙ (two (elem x (namesMet v)) (elem x (namesMetFields fs)) (u x) (elem x seen) ∙ ap (λ (b : Bool). (b && u x) || elem x seen) (sym (elem-or x (namesMet v) (namesMetFields fs)))))
+
+module _ (x : ℕ) where
+  mutual
+    unfolding mentions namesMet simple elem
+
+    -- a simple pattern meets every name in it
+    pub mentions-met : (e : Expr) → simple e ≡ true → mentions x e ≡ elem x (namesMet e)
+    mentions-met (literal n l) is = refl
+    mentions-met (name n y) is = go (eqb x y)
+      where
+        go : (b : Bool) → b ≡ (b || false)
+        go true = refl
+        go false = refl
+    mentions-met (wildcard n) is = refl
+    mentions-met (array n es) is = mentions-met-all es is
+    mentions-met (Expr.set n es) is = absurd (false≢true is)
+    mentions-met (object n fs) is = mentions-met-fields fs (and-true (differing (keysOf fs)) (simpleFields fs) is .1)
+    mentions-met (other n) is = refl
+
+    mentions-met-all : (es : Exprs) → simpleAll es ≡ true → mentionsAny x es ≡ elem x (namesMetAll es)
+    mentions-met-all Expr.none is = refl
+    mentions-met-all (item e es) is =
+        let p = and-true (simple e) (simpleAll es) is in
+        ap₂ (λ (a b : Bool). a || b) (mentions-met e (p .0)) (mentions-met-all es (p .1)) ∙ sym (elem-or x (namesMet e) (namesMetAll es))
+
+    mentions-met-fields : (fs : Fields) → simpleFields fs ≡ true → mentionsFields x fs ≡ elem x (namesMetFields fs)
+    mentions-met-fields done is = refl
+    mentions-met-fields (field k v fs) is =
+        let p = and-true (isLiteral (literalKey k)) (simple v && simpleFields fs) is in
+        let q = and-true (simple v) (simpleFields fs) (p .1) in
+        let s = silent x k (true-is (p .0)) in
+        ap (λ (b : Bool). b || (mentions x v || mentionsFields x fs)) s
+        ∙ (ap₂ (λ (a b : Bool). a || b) (mentions-met v (q .0)) (mentions-met-fields fs (q .1)) ∙ sym (elem-or x (namesMet v) (namesMetFields fs)))
+
+-- where no name is known
+pub met-by : (T : Tables) (root : ℕ) {s : Scope} {before met scratch : List ℕ} {r : ℕ} → s ≡ newScope 0 false → PatternPlanned T s AllowShadowing root before met scratch r → MetBy (expr T root) met
+unfolding isUnderscore newScope elem
+met-by T root {s} {before} {met} {scratch} {r} is p = record {
+  each = λ x v.
+      let low = v .low in
+      let z : eqb x 0 ≡ false = ne-eqb x 0 (λ e. omega arith) in
+      let free : isUnbound s AllowShadowing x ≡ true = ap (λ (t : Scope). isUnbound t AllowShadowing x) is ∙ (new-promise 0 false .is-unbound AllowShadowing x ∙ ap not z) in
+      sym (after-met (isUnbound s AllowShadowing) x (expr T root) [] ∙ (ap (λ (b : Bool). (elem x (namesMet (expr T root)) && b) || false) free ∙ plain (elem x (namesMet (expr T root))))) ∙ p .tracked x v;
+}
+  where
+    plain : (b : Bool) → ((b && true) || false) ≡ b
+    plain true = refl
+    plain false = refl
+
+-- a name that is met has a value unless it is unbound
+module _ (unbound : ℕ → Bool) (x met listed : ℕ) where
+  pub value-unmet : met ≡ 0 → true ≡ hasValue unbound x met listed
+  value-unmet z = let e = eq-eqb met 0 z in rw e
+
+  pub value-unbound : {r : Bool} → (met ≡ 0 → ⊥) → listed ≡ 0 → r ≡ unbound x → r ≡ hasValue unbound x met listed
+  value-unbound nz z is = let e = ne-eqb met 0 nz in let f = eq-eqb listed 0 z in rw (e, f) is
+
+  pub value-listed : (met ≡ 0 → ⊥) → (listed ≡ 0 → ⊥) → true ≡ hasValue unbound x met listed
+  value-listed nz nl = let e = ne-eqb met 0 nz in let f = ne-eqb listed 0 nl in rw (e, f)
+
+-- all names in turn; p of the names' numbers
+pub record Naming (names values : List ℕ) (p : ℕ → Bool) (count i : ℕ) : Type 0 where
+  pub asks : ListAsks names values
+  pub counted : count ≡ length names / 2
+  pub scan : Scan p 1 count i
+
+pub naming-start : {names values : List ℕ} (p : ℕ → Bool) {count : ℕ} → ListAsks names values → count ≡ length names / 2 → Naming names values p count 0
+naming-start p {count} a is = record { asks = a; counted = is; scan = scan-start p 1 count }
+
+module _ {names values : List ℕ} {p : ℕ → Bool} {count i : ℕ} (go : Naming names values p count i) where
+  module _ (more : i < count) where
+    pub naming-name : NameNumber (i + 1)
+    naming-name = let few = go .asks .few in let e = go .counted in record { low = omega arith; high = omega arith }
+
+    pub naming-small : i < 128
+    naming-small = let few = go .asks .few in let e = go .counted in omega arith
+
+    pub naming-listed : i < length values
+    naming-listed = let l = go .asks .long in let e = go .counted in omega arith
+
+    module _ {r : Bool} (is : r ≡ p (i + 1)) where
+      next-name : p (1 + i) ≡ r
+      next-name = let e : 1 + i ≡ i + 1 = omega arith in ap p e ∙ sym is
+
+      pub naming-on : not r ≡ false → Naming names values p count (i + 1)
+      naming-on t = record { asks = go .asks; counted = go .counted; scan = scan-on (go .scan) more (next-name ∙ not-false r t) }
+
+      pub naming-fails : not r ≡ true → false ≡ allFrom p 1 (length names / 2)
+      naming-fails t = rw (go .counted) at (scan-fails (go .scan) more (next-name ∙ not-true r t))
+
+  pub naming-ends : count ≤ i → true ≡ allFrom p 1 (length names / 2)
+  naming-ends le = rw (go .counted) at (scan-ends (go .scan) le)
+
+all-same : (p q : ℕ → Bool) (from k : ℕ) → ((j : ℕ) → from ≤ j → j < from + k → p j ≡ q j) → allFrom p from k ≡ allFrom q from k
+unfolding allFrom
+all-same p q from zero same = refl
+all-same p q from (suc k) same = ap₂ (λ (a b : Bool). a && b) (same from (omega arith) (omega arith)) (all-same p q (from + 1) k (λ j le lt. same j (omega arith) (omega arith)))
+
+-- the known names of a simple pattern
+pub known-told : (T : Tables) (unbound : ℕ → Bool) (pattern : ℕ) (values : List ℕ) {met : List ℕ} {r : Bool} → KnownAsks T pattern values → MetBy (expr T pattern) met → r ≡ allHaveValues (length (T .names) / 2) unbound met values → r ≡ knownListed T unbound (expr T pattern) values
+unfolding allHaveValues knownListed
+known-told T unbound pattern values {met} {r} a m e =
+    e ∙ all-same (λ x. hasValue unbound x (getD met (x - 1) 0) (getD values (x - 1) 0)) (λ x. not (mentions x (expr T pattern) && not (unbound x)) || not (eqb (listedNode values x) 0)) 1 (nameCount T) (λ x low lt.
+    let few = a .list-ok .few in
+    let w : mentions x (expr T pattern) ≡ not (eqb (getD met (x - 1) 0) 0) = mentions-met x (expr T pattern) (a .isSimple) ∙ m .each x (record { low = low; high = omega arith }) in
+    sym (ap (λ (b : Bool). not (b && not (unbound x)) || not (eqb (listedNode values x) 0)) w ∙ shuffle (eqb (getD met (x - 1) 0) 0) (unbound x) (eqb (getD values (x - 1) 0) 0)))
+  where
+    shuffle : (m u l : Bool) → (not (not m && not u) || not l) ≡ (m || (not l || u))
+    shuffle true u l = refl
+    shuffle false true true = refl
+    shuffle false true false = refl
+    shuffle false false true = refl
+    shuffle false false false = refl
+
+-- every name that is met, in turn
+pub record Having (names values met : List ℕ) (unbound : ℕ → Bool) (count i : ℕ) : Type 0 where
+  pub naming : Naming names values (λ x. hasValue unbound x (getD met (x - 1) 0) (getD values (x - 1) 0)) count i
+
+pub having-start : {names values : List ℕ} (met : List ℕ) (unbound : ℕ → Bool) {count : ℕ} → ListAsks names values → count ≡ length names / 2 → Having names values met unbound count 0
+having-start {names} {values} met unbound a is = record { naming = naming-start (λ x. hasValue unbound x (getD met (x - 1) 0) (getD values (x - 1) 0)) a is }
+
+module _ {names values met : List ℕ} {unbound : ℕ → Bool} {count i : ℕ} (go : Having names values met unbound count i) where
+  module _ (more : i < count) where
+    pub having-name : NameNumber (i + 1)
+    having-name = naming-name (go .naming) more
+
+    pub having-small : i < 128
+    having-small = naming-small (go .naming) more
+
+    pub having-listed : i < length values
+    having-listed = naming-listed (go .naming) more
+
+    module _ {r : Bool} (is : r ≡ hasValue unbound (i + 1) (getD met i 0) (getD values i 0)) where
+      at-name : r ≡ hasValue unbound (i + 1) (getD met (i + 1 - 1) 0) (getD values (i + 1 - 1) 0)
+      at-name = let e : i + 1 - 1 ≡ i = omega arith in rw e is
+
+      pub having-on : not r ≡ false → Having names values met unbound count (i + 1)
+      having-on t = record { naming = naming-on (go .naming) more at-name t }
+
+      pub having-fails : not r ≡ true → false ≡ allHaveValues (length names / 2) unbound met values
+      unfolding allHaveValues
+      having-fails t = naming-fails (go .naming) more at-name t
+
+  pub having-ends : count ≤ i → true ≡ allHaveValues (length names / 2) unbound met values
+  unfolding allHaveValues
+  having-ends le = naming-ends (go .naming) le

@@ -1,0 +1,22 @@
+use Rattle.run.proofs.Checking.{listed-none, listed-some}
+use borrow.Author.Needs.{needs}
+use Rattle.run.proofs.checks.is_listed_value.Statement.{statement}
+use Rattle.run.proofs.checks.is_listed_value.Tie as tie
+use Rattle.run.proofs.checks.is_listed_value.Reads as reads
+use Rattle.run.proofs.checks.is_listed_value.Lts as lts
+use Rattle.run.proofs.checks.is_value.Reads as is-value-reads
+
+-- src/checks.rt:66:9
+returns : tie.Need-returns
+returns c = search (listed-none, needs)
+
+-- src/checks.rt:68:5
+is-value-requires : tie.Need-is-value-requires
+is-value-requires c κs = search needs
+
+-- src/checks.rt:52:1
+returns-2 : tie.Need-returns-2
+returns-2 c = search (listed-some, needs)
+
+pub is-listed-value-spec : {M : Type 1} → statement M
+is-listed-value-spec = tie.close (tie.spec returns is-value-requires returns-2)

@@ -1,0 +1,31 @@
+use Rattle.run.proofs.Checking.{marked-low, marked-place, value-told, value-outside}
+use borrow.Author.Needs.{needs}
+use Rattle.run.proofs.checks.is_value.Statement.{statement}
+use Rattle.run.proofs.checks.is_value.Tie as tie
+use Rattle.run.proofs.checks.is_value.Reads as reads
+use Rattle.run.proofs.checks.is_value.Lts as lts
+use Rattle.table.proofs.reading.is_node.Reads as is-node-reads
+
+-- src/checks.rt:45:8
+is-node-requires : tie.Need-is-node-requires
+is-node-requires c κs = search needs
+
+-- src/checks.rt:46:22
+sub-result : tie.Need-sub-result
+sub-result c = search (marked-low, needs)
+
+-- src/checks.rt:46:16
+element-copy-out-result : tie.Need-element-copy-out-result
+element-copy-out-result c = search (marked-place, needs)
+
+-- src/checks.rt:46:9
+returns : tie.Need-returns
+returns c = search (value-told, needs)
+
+-- src/checks.rt:32:1
+returns-2 : tie.Need-returns-2
+returns-2 c = search (value-outside, needs)
+
+pub is-value-spec : {M : Type 1} → statement M
+is-value-spec =
+    tie.close (tie.spec is-node-requires sub-result element-copy-out-result returns returns-2)

@@ -1,0 +1,87 @@
+use Prim.Native.Nat.{_-_}
+use Rattle.scope.specs.Scope.{isUnbound}
+use Rattle.run.proofs.Valued.{Having, having-start, having-name, having-small, having-listed, having-on, having-fails, having-ends}
+use borrow.Author.Needs.{needs}
+use Rattle.run.proofs.names.all_have_values.Statement.{statement}
+use Rattle.run.proofs.names.all_have_values.Tie as tie
+use Rattle.run.proofs.names.all_have_values.Reads as reads
+use Rattle.run.proofs.names.all_have_values.Lts as lts
+use Rattle.run.proofs.names.has_value.Reads as has-value-reads
+
+abbrev Inv-loop : tie.InvT-loop
+Inv-loop names scope scoping met values count i₀ i = Having names values met (isUnbound scope scoping) count i
+
+abbrev μ-loop : tie.MeasureT-loop
+μ-loop names scope scoping met values count i₀ i = count - i
+
+-- src/names.rt:141:5
+loop-holds : tie.Need-loop-holds Inv-loop μ-loop
+loop-holds c = search (having-start, needs)
+
+-- src/names.rt:142:40
+add-has-value : tie.Need-add-has-value Inv-loop μ-loop
+add-has-value c = search needs
+
+-- src/names.rt:142:39
+cast-has-value : tie.Need-cast-has-value Inv-loop μ-loop
+cast-has-value c = search (having-small, needs)
+
+-- src/names.rt:142:55
+mul-has-value : tie.Need-mul-has-value Inv-loop μ-loop
+mul-has-value c = search needs
+
+-- src/names.rt:142:55
+element-copy-out-has-value : tie.Need-element-copy-out-has-value Inv-loop μ-loop
+element-copy-out-has-value c = search (having-small, needs)
+
+-- src/names.rt:142:63
+mul-has-value-2 : tie.Need-mul-has-value-2 Inv-loop μ-loop
+mul-has-value-2 c = search needs
+
+-- src/names.rt:142:63
+shared-slice-read-has-value : tie.Need-shared-slice-read-has-value Inv-loop μ-loop
+shared-slice-read-has-value c = search (having-listed, needs)
+
+-- src/names.rt:142:13
+has-value-requires : tie.Need-has-value-requires Inv-loop μ-loop
+has-value-requires c κs = search (having-name, needs)
+
+-- src/names.rt:143:13
+returns : tie.Need-returns Inv-loop μ-loop
+returns c = search (having-fails, needs)
+
+-- src/names.rt:145:9
+add-i : tie.Need-add-i Inv-loop μ-loop
+add-i c = search needs
+
+-- src/names.rt:141:5
+loop-less : tie.Need-loop-less Inv-loop μ-loop
+loop-less c = search needs
+
+-- src/names.rt:141:5
+loop-again : tie.Need-loop-again Inv-loop μ-loop
+loop-again c = search (having-on, needs)
+
+-- src/names.rt:129:1
+returns-2 : tie.Need-returns-2 Inv-loop μ-loop
+returns-2 c = search (having-ends, needs)
+
+pub all-have-values-spec : {M : Type 1} → statement M
+all-have-values-spec =
+    tie.close
+    (tie.spec
+    Inv-loop
+    μ-loop
+    loop-holds
+    add-has-value
+    cast-has-value
+    mul-has-value
+    element-copy-out-has-value
+    mul-has-value-2
+    shared-slice-read-has-value
+    has-value-requires
+    returns
+    add-i
+    loop-less
+    loop-again
+    returns-2)

@@ -1,0 +1,23 @@
+use Rattle.run.proofs.Valued.{known-told}
+use borrow.Author.Needs.{needs}
+use Rattle.run.proofs.names.known_listed.Statement.{statement}
+use Rattle.run.proofs.names.known_listed.Tie as tie
+use Rattle.run.proofs.names.known_listed.Reads as reads
+use Rattle.run.proofs.names.known_listed.Lts as lts
+use Rattle.run.proofs.names.all_have_values.Reads as all-have-values-reads
+use Rattle.run.proofs.names.names_met.Reads as names-met-reads
+
+-- src/names.rt:166:15
+names-met-requires : tie.Need-names-met-requires
+names-met-requires c κs = search needs
+
+-- src/names.rt:167:5
+all-have-values-requires : tie.Need-all-have-values-requires
+all-have-values-requires c κs = search needs
+
+-- src/names.rt:151:1
+returns : tie.Need-returns
+returns c = search (known-told, needs)
+
+pub known-listed-spec : {M : Type 1} → statement M
+known-listed-spec = tie.close (tie.spec names-met-requires all-have-values-requires returns)

@@ -1,0 +1,9 @@
+pub mod Matching
+pub mod Answer
+pub mod Operations
+pub mod Report
+pub mod Post
+pub mod NamesPost
+pub mod ChecksPost
+pub mod ReportPost
+pub mod Demand

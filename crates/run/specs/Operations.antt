@@ -1,0 +1,128 @@
+-- Run: its refusals in their order; its answer, the plan buffer and the list of value nodes afterwards.
+use Prim.Native.Nat.{ℕ, _+_, _-_}
+use mathlib.Core.Path.{_≡_}
+use mathlib.Core.Bool.{Bool, cond, _&&_, _||_, not}
+use mathlib.Core.List.{List}
+use mathlib.Core.Option.{Option, none, some}
+use lib.Dec.{eqb, leb}
+use lib.ListN.{length, getD}
+use Rattle.scope.specs.declared.Scope.{Scope}
+use Rattle.scope.specs.declared.ScopingMode.{ScopingMode}
+use Rattle.scope.specs.Scope.{isUnbound}
+use Rattle.table.specs.declared.TableAnswer.{TableAnswer}
+use Rattle.table.specs.declared.TableAnswer.the-variants.{Sound, OverLimit, BreaksRules, TooDeep, EqualNames}
+use Rattle.table.specs.Tables.{Tables, nameCount, isNode}
+use Rattle.table.specs.Expr.{Expr}
+use Rattle.table.specs.Decode.{expr}
+use Rattle.table.specs.Rules.{allFrom}
+use Rattle.table.specs.Check.{checked}
+use Rattle.planner.specs.Layout.{Entry, entries}
+use Rattle.planner.specs.Operations.{planOf, planned, fits, zeros, written}
+use Rattle.planner.specs.Post.{tabulate}
+use Rattle.planner.specs.Simple.{simple, mentions}
+use Rattle.run.specs.declared.RunAnswer.{RunAnswer}
+use Rattle.run.specs.declared.RunAnswer.the-variants.{Match, NoMatch, TableRefused, RootOutside, ListTooShort, PatternNotSimple, NotAValue, NameWithoutValue, PlanTooLarge}
+use Rattle.value.specs.Value.{Value, isValue, valueOf, valueAt, nodeᵛ}
+use Rattle.run.specs.Matching.{Env, Outcome, matched, missed, fault, outcome}
+
+-- The list has at place x - 1 the node of name x's value, or 0.
+abbrev pub listedNode : List ℕ → ℕ → ℕ
+listedNode values x = getD values (x - 1) 0
+
+abbrev pub isName : Tables → ℕ → Bool
+isName T x = leb 1 x && leb x (nameCount T)
+
+abbrev pub allNames : Tables → (ℕ → Bool) → Bool
+allNames T p = allFrom p 1 (nameCount T)
+
+-- a number outside the nodes is no value
+abbrev pub isValueNode : Tables → ℕ → Bool
+isValueNode T n = isNode T n && isValue (expr T n)
+
+abbrev pub listed : Tables → List ℕ → Env
+listed T values x = cond (isName T x) (valueAt T (listedNode values x)) none
+
+-- 22: each listed node is a value
+unfoldable pub valuesListed : Tables → List ℕ → Bool
+valuesListed T values = allNames T (λ x. eqb (listedNode values x) 0 || isValueNode T (listedNode values x))
+
+-- 23: each known name of the pattern is listed
+unfoldable pub knownListed : Tables → (ℕ → Bool) → Expr → List ℕ → Bool
+knownListed T unbound e values = allNames T (λ x. not (mentions x e && not (unbound x)) || not (eqb (listedNode values x) 0))
+
+-- What a run comes to before the buffer is looked at: a refusal, or the plan's entries and what carrying it out came to.
+pub data RunOutcome : Type 0 where
+  refused : RunAnswer → RunOutcome
+  carriedOut : List Entry → Outcome → RunOutcome
+
+-- the table check first
+abbrev pub tableFirst : TableAnswer → RunOutcome → RunOutcome
+tableFirst Sound o = o
+tableFirst OverLimit o = refused (TableRefused OverLimit)
+tableFirst BreaksRules o = refused (TableRefused BreaksRules)
+tableFirst TooDeep o = refused (TableRefused TooDeep)
+tableFirst EqualNames o = refused (TableRefused EqualNames)
+
+module _ (T : Tables) (s : Scope) (mode : ScopingMode) (pattern value : ℕ) (values : List ℕ) where
+  -- the pattern's plan, run on the value from the listed values of the known names
+  abbrev pub ran : Outcome
+  ran = outcome (isUnbound s mode) (listed T values) (expr T pattern) (valueOf (expr T value))
+
+  -- of a table that passed the check
+  abbrev pub runChecked : RunOutcome
+  runChecked =
+      cond (isNode T pattern && isNode T value)
+      (cond (leb (nameCount T) (length values))
+      (cond (simple (expr T pattern))
+      (cond (isValue (expr T value) && valuesListed T values)
+      (cond (knownListed T (isUnbound s mode) (expr T pattern) values)
+      (carriedOut (entries (planOf T s mode pattern) 0) ran)
+      (refused NameWithoutValue))
+      (refused NotAValue))
+      (refused PatternNotSimple))
+      (refused ListTooShort))
+      (refused RootOutside)
+
+  abbrev pub runOutcome : RunOutcome
+  runOutcome = tableFirst (checked T s) runChecked
+
+-- A fault never comes up (demand 3).
+abbrev pub answerOf : Outcome → RunAnswer
+answerOf (matched env) = Match
+answerOf missed = NoMatch
+answerOf fault = NoMatch
+
+-- the last refusal: a plan larger than the buffer
+unfoldable pub runAnswer : RunOutcome → List ℕ → RunAnswer
+runAnswer (refused a) buffer = a
+runAnswer (carriedOut es o) buffer = cond (fits es buffer) (answerOf o) (PlanTooLarge (length es))
+
+-- the plan, then zeros; of a refusal, all zeros
+unfoldable pub planAfter : RunOutcome → List ℕ → List ℕ
+planAfter (refused a) buffer = zeros buffer
+planAfter (carriedOut es o) buffer = written (planned 0 0 es) buffer
+
+abbrev pub nodeIn : Option Value → ℕ
+nodeIn none = 0
+nodeIn (some v) = nodeᵛ v
+
+-- The names to be set have the nodes of their values, the others what stood there.
+abbrev pub setNames : (ℕ → Bool) → Outcome → List ℕ → List ℕ
+setNames toSet (matched env) values = tabulate (λ i. cond (toSet (i + 1)) (nodeIn (env (i + 1))) (getD values i 0)) 0 (length values)
+setNames toSet missed values = values
+setNames toSet fault values = values
+
+-- the pattern's names, `_` aside, that are not known
+abbrev pub plannedName : (ℕ → Bool) → Expr → ℕ → Bool
+plannedName unbound e x = mentions x e && unbound x
+
+-- a match sets the names given, and nothing else does
+unfoldable pub valuesAfter : (ℕ → Bool) → RunOutcome → List ℕ → List ℕ → List ℕ
+valuesAfter toSet (refused a) buffer values = values
+valuesAfter toSet (carriedOut es o) buffer values = cond (fits es buffer) (setNames toSet o values) values
+
+-- the answer, the plan buffer and the list at exit
+pub record Ran (names : ℕ → Bool) (o : RunOutcome) (values buffer valuesExit bufferExit : List ℕ) (r : RunAnswer) : Type 0 where
+  pub answer : r ≡ runAnswer o buffer
+  pub plan : bufferExit ≡ planAfter o buffer
+  pub list : valuesExit ≡ valuesAfter names o buffer values

@@ -1,0 +1,168 @@
+// The values of names by their numbers: at the start, and after a match.
+ghost use Prim.Native.Nat.{_+_, _-_, _/_, _≤_};
+ghost use mathlib.Core.Path.{_≡_};
+ghost use mathlib.Core.Bool.{cond};
+ghost use lib.Dec.{eqb};
+ghost use lib.ListN.{length, getD};
+ghost use Rattle.scope.specs.Scope.{isUnbound};
+ghost use Rattle.table.specs.Tables.{tables};
+ghost use Rattle.table.specs.Decode.{expr};
+ghost use Rattle.planner.specs.Post.{NameNumber, GoodRoot};
+ghost use Rattle.run.specs.Operations.{knownListed};
+ghost use Rattle.run.specs.NamesPost.{ListAsks, StartOf, NamesSet, MetBy, hasValue, allHaveValues, KnownAsks};
+use planner::destructuring::plan_pattern;
+use scope::Binding;
+use scope::Scope;
+use scope::ScopingMode;
+
+fn is_unbound(scope: Scope, scoping: ScopingMode, name: u32) -> bool
+    requires { ⌜ NameNumber name ⌝ }
+    ensures { λ r. ⌜ r ≡ isUnbound scope scoping name ⌝ }
+{
+    let binding = scope.is_var_unbound(name, scoping);
+    match binding {
+        Binding::Yes => true,
+        Binding::No => false,
+        Binding::NameOutside => false,
+    }
+}
+
+// A known name has its listed value at the start, another name none.
+fn start_value(scope: Scope, scoping: ScopingMode, name: u32, listed: u32) -> u32
+    requires { ⌜ NameNumber name ⌝ }
+    ensures { λ r. ⌜ r ≡ cond (isUnbound scope scoping name) 0 listed ⌝ }
+{
+    if is_unbound(scope, scoping, name) {
+        return 0;
+    }
+    listed
+}
+
+pub(crate) fn start_list(
+    names: &[u32],
+    scope: Scope,
+    scoping: ScopingMode,
+    values: &[u32],
+) -> [u32; 128]
+    requires { ⌜ ListAsks (now names) (now values) ⌝ }
+    ensures { λ r. ⌜ StartOf (length (now (names .entry)) / 2) scope scoping (now (values .entry)) r ⌝ }
+{
+    let mut list = [0u32; 128];
+    let count = names.len() / 2;
+    let mut i: usize = 0;
+    while i < count {
+        list[i] = start_value(scope, scoping, (i + 1) as u32, values[i]);
+        i += 1;
+    }
+    list
+}
+
+fn new_value(binder: u32, old: u32, new: u32) -> u32
+    ensures { λ r. ⌜ r ≡ cond (eqb binder 0) old new ⌝ }
+{
+    if binder == 0 {
+        return old;
+    }
+    new
+}
+
+// The names with a binder are set.
+pub(crate) fn set_names(names: &[u32], binders: &[u32; 128], list: &[u32; 128], values: &mut [u32])
+    requires { ⌜ ListAsks (now names) (now values) ⌝ }
+    ensures { λ _. ⌜ NamesSet (length (now (names .entry)) / 2) (now (binders .entry)) (now (list .entry)) (now (values .entry)) (now (values .exit)) ⌝ }
+{
+    let count = names.len() / 2;
+    let mut i: usize = 0;
+    while i < count {
+        let old = values[i];
+        values[i] = new_value(binders[i], old, list[i]);
+        i += 1;
+    }
+}
+
+// The names that a pattern meets are those that it would plan if none were known.
+pub(crate) fn names_met(
+    nodes: &[u32],
+    children: &[u32],
+    numbers: &[u64],
+    names: &[u32],
+    strings: &[u8],
+    text: &[u8],
+    pattern: u32,
+) -> [u32; 128]
+    requires { ⌜ GoodRoot (tables (now nodes) (now children) (now numbers) (now names) (now strings) (now text)) pattern ⌝ }
+    ensures { λ r. ⌜ MetBy (expr (tables (now (nodes .entry)) (now (children .entry)) (now (numbers .entry)) (now (names .entry)) (now (strings .entry)) (now (text .entry))) pattern) r ⌝ }
+{
+    let mut met = [0u32; 128];
+    let mut scratch = [0u32; 2048];
+    let none_known = Scope::new(0, false);
+    plan_pattern(
+        nodes,
+        children,
+        numbers,
+        names,
+        strings,
+        text,
+        none_known,
+        ScopingMode::AllowShadowing,
+        pattern,
+        &mut met,
+        &mut scratch,
+    );
+    met
+}
+
+// A name that is met has a value unless it is unbound.
+fn has_value(scope: Scope, scoping: ScopingMode, name: u32, met: u32, listed: u32) -> bool
+    requires { ⌜ NameNumber name ⌝ }
+    ensures { λ r. ⌜ r ≡ hasValue (isUnbound scope scoping) name met listed ⌝ }
+{
+    if met == 0 {
+        return true;
+    }
+    if listed == 0 {
+        return is_unbound(scope, scoping, name);
+    }
+    true
+}
+
+fn all_have_values(
+    names: &[u32],
+    scope: Scope,
+    scoping: ScopingMode,
+    met: &[u32; 128],
+    values: &[u32],
+) -> bool
+    requires { ⌜ ListAsks (now names) (now values) ⌝ }
+    ensures { λ r. ⌜ r ≡ allHaveValues (length (now (names .entry)) / 2) (isUnbound scope scoping) (now (met .entry)) (now (values .entry)) ⌝ }
+{
+    let count = names.len() / 2;
+    let mut i: usize = 0;
+    while i < count {
+        if !has_value(scope, scoping, (i + 1) as u32, met[i], values[i]) {
+            return false;
+        }
+        i += 1;
+    }
+    true
+}
+
+// Has each known name of the pattern a value?
+pub(crate) fn known_listed(
+    nodes: &[u32],
+    children: &[u32],
+    numbers: &[u64],
+    names: &[u32],
+    strings: &[u8],
+    text: &[u8],
+    scope: Scope,
+    scoping: ScopingMode,
+    pattern: u32,
+    values: &[u32],
+) -> bool
+    requires { ⌜ KnownAsks (tables (now nodes) (now children) (now numbers) (now names) (now strings) (now text)) pattern (now values) ⌝ }
+    ensures { λ r. ⌜ r ≡ knownListed (tables (now (nodes .entry)) (now (children .entry)) (now (numbers .entry)) (now (names .entry)) (now (strings .entry)) (now (text .entry))) (isUnbound scope scoping) (expr (tables (now (nodes .entry)) (now (children .entry)) (now (numbers .entry)) (now (names .entry)) (now (strings .entry)) (now (text .entry))) pattern) (now (values .entry)) ⌝ }
+{
+    let met = names_met(nodes, children, numbers, names, strings, text, pattern);
+    all_have_values(names, scope, scoping, &met, values)
+}

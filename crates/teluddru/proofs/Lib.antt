@@ -1,0 +1,4 @@
+pub mod Copying
+pub mod Limits
+pub mod Cases
+pub mod LocalArray

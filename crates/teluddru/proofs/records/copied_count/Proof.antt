@@ -1,0 +1,16 @@
+use native.Mathlib.Omega.{arith}
+use Rattle.teluddru.proofs.records.copied_count.Statement.{statement}
+use Rattle.teluddru.proofs.records.copied_count.Tie as tie
+use Rattle.teluddru.proofs.records.copied_count.Reads as reads
+use Rattle.teluddru.proofs.records.copied_count.Lts as lts
+
+-- src/records.rt:15:1
+returns : tie.Need-returns
+returns c = omega arith
+
+-- src/records.rt:15:1
+returns-2 : tie.Need-returns-2
+returns-2 c = omega arith
+
+pub copied-count-spec : {M : Type 1} → statement M
+copied-count-spec = tie.close (tie.spec returns returns-2)

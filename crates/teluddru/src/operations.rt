@@ -1,0 +1,141 @@
+// An operation over names in pairs of words.
+use crate::Operation;
+use assignment::AssignOp;
+use assignment::assignment::create_assignment_binding_plan;
+use planner::PlanAnswer;
+use planner::destructuring::create_destructuring_plan;
+use planner::parameters::create_loop_index_binding_plan;
+use planner::parameters::create_parameter_binding_plan;
+use scope::Scope;
+use some_in::create_some_in_binding_plan;
+ghost use Prim.Native.Nat.{_*_, _≤_};
+ghost use lib.ListN.{take};
+ghost use Rattle.table.specs.Tables.{tables};
+ghost use Rattle.planner.specs.Operations.{Answered};
+ghost use Rattle.teluddru.specs.Outcome.{operationOutcome};
+
+fn plan_operation(
+    nodes: &[u32],
+    children: &[u32],
+    numbers: &[u64],
+    names: &[u32],
+    strings: &[u8],
+    text: &[u8],
+    scope: Scope,
+    operation: Operation,
+    plan: &mut [u32],
+) -> PlanAnswer
+    ensures { λ r. ⌜ Answered (operationOutcome (tables (now (nodes .entry)) (now (children .entry)) (now (numbers .entry)) (now (names .entry)) (now (strings .entry)) (now (text .entry))) scope operation) (now (plan .entry)) (now (plan .exit)) r ⌝ }
+{
+    match operation {
+        Operation::Pattern { scoping, root } => create_destructuring_plan(
+            nodes,
+            children,
+            numbers,
+            names,
+            strings,
+            text,
+            scope,
+            scoping,
+            root,
+            plan,
+        ),
+        Operation::ColonEquals { left, right } => create_assignment_binding_plan(
+            nodes,
+            children,
+            numbers,
+            names,
+            strings,
+            text,
+            scope,
+            AssignOp::ColEq,
+            left,
+            right,
+            plan,
+        ),
+        Operation::Equals { left, right } => create_assignment_binding_plan(
+            nodes,
+            children,
+            numbers,
+            names,
+            strings,
+            text,
+            scope,
+            AssignOp::Eq,
+            left,
+            right,
+            plan,
+        ),
+        Operation::SomeIn {
+            value,
+            collection,
+            key,
+        } => create_some_in_binding_plan(
+            nodes,
+            children,
+            numbers,
+            names,
+            strings,
+            text,
+            scope,
+            value,
+            collection,
+            key,
+            plan,
+        ),
+        Operation::Index { root } => create_loop_index_binding_plan(
+            nodes,
+            children,
+            numbers,
+            names,
+            strings,
+            text,
+            scope,
+            root,
+            plan,
+        ),
+        Operation::Parameter { scoping, root } => create_parameter_binding_plan(
+            nodes,
+            children,
+            numbers,
+            names,
+            strings,
+            text,
+            scope,
+            scoping,
+            root,
+            plan,
+        ),
+    }
+}
+
+// The first `count` pairs of the words are the names.
+pub(crate) fn plan_words(
+    nodes: &[u32],
+    children: &[u32],
+    numbers: &[u64],
+    words: &[u32; 258],
+    count: usize,
+    strings: &[u8],
+    text: &[u8],
+    scope: Scope,
+    operation: Operation,
+    plan: &mut [u32],
+) -> PlanAnswer
+    requires { ⌜ count ≤ 129 ⌝ }
+    ensures { λ r. ⌜ Answered (operationOutcome (tables (now (nodes .entry)) (now (children .entry)) (now (numbers .entry)) (take (count * 2) (now (words .entry))) (now (strings .entry)) (now (text .entry))) scope operation) (now (plan .entry)) (now (plan .exit)) r ⌝ }
+{
+    let all = &words[..];
+    let end = count * 2;
+    plan_operation(
+        nodes,
+        children,
+        numbers,
+        &all[..end],
+        strings,
+        text,
+        scope,
+        operation,
+        plan,
+    )
+}

@@ -1,0 +1,43 @@
+// Names from records to pairs of words. A function that takes the records is proved by hand.
+use crate::Name;
+ghost use mathlib.Core.Path.{_≡_};
+ghost use Prim.Native.Nat.{_+_, _*_, _<_, min};
+ghost use lib.ListN.{length, set, take};
+ghost use Rattle.teluddru.specs.Records.{nameAt, nameWords, overwrite};
+
+fn name_at(names: &[Name], i: usize) -> Name
+    requires { ⌜ i < length (now names) ⌝ }
+    ensures { λ r. ⌜ r ≡ nameAt (now (names .entry)) i ⌝ }
+{
+    names[i]
+}
+
+// How many of `count` records are copied: one more than the limit of names, so that too many are still too many.
+fn copied_count(count: usize) -> usize
+    ensures { λ r. ⌜ r ≡ min 129 count ⌝ }
+{
+    if count < 129 { count } else { 129 }
+}
+
+fn put_pair(words: &mut [u32; 258], i: usize, start: u32, length: u32)
+    requires { ⌜ i < 129 ⌝ }
+    ensures { λ _. ⌜ now (words .exit) ≡ set (set (now (words .entry)) (i * 2) start) (i * 2 + 1) length ⌝ }
+{
+    let at = i * 2;
+    words[at] = start;
+    words[at + 1] = length;
+}
+
+// Start and length of each record that is copied. How many they are.
+pub(crate) fn copy_names(names: &[Name], words: &mut [u32; 258]) -> usize
+    ensures { λ r. ⌜ (r ≡ min 129 (length (now (names .entry)))) × (now (words .exit) ≡ overwrite (nameWords (take 129 (now (names .entry)))) (now (words .entry))) ⌝ }
+{
+    let count = copied_count(names.len());
+    let mut i: usize = 0;
+    while i < count {
+        let name = name_at(names, i);
+        put_pair(&mut *words, i, name.start, name.length);
+        i += 1;
+    }
+    count
+}

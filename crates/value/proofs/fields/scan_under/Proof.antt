@@ -1,0 +1,78 @@
+use Rattle.table.specs.Tables.{tables}
+use Rattle.table.specs.Decode.{literalAt}
+use Rattle.value.proofs.Under.{Seeking, seeking-start, seeking-value-fits, seeking-next-fits, seeking-found, seeking-on, seeking-ends}
+use borrow.Author.Needs.{needs}
+use Rattle.value.proofs.fields.scan_under.Statement.{statement}
+use Rattle.value.proofs.fields.scan_under.Tie as tie
+use Rattle.value.proofs.fields.scan_under.Reads as reads
+use Rattle.value.proofs.fields.scan_under.Lts as lts
+use Rattle.table.proofs.reading.child_at.Reads as child-at-reads
+use Rattle.value.proofs.fields.same_literals.Reads as same-literals-reads
+
+abbrev Inv-loop : tie.InvT-loop
+Inv-loop nodes children numbers names strings text at left key place₀ more₀ place more = Seeking (tables nodes children numbers names strings text) (literalAt (tables nodes children numbers names strings text) key) at left place more
+
+abbrev μ-loop : tie.MeasureT-loop
+μ-loop nodes children numbers names strings text at left key place₀ more₀ place more = more
+
+-- src/fields.rt:51:5
+loop-holds : tie.Need-loop-holds Inv-loop μ-loop
+loop-holds c = search (seeking-start, needs)
+
+-- src/fields.rt:52:13
+child-at-requires : tie.Need-child-at-requires Inv-loop μ-loop
+child-at-requires c κs = search needs
+
+-- src/fields.rt:53:12
+same-literals-requires : tie.Need-same-literals-requires Inv-loop μ-loop
+same-literals-requires c κs = search needs
+
+-- src/fields.rt:54:39
+add-child-at : tie.Need-add-child-at Inv-loop μ-loop
+add-child-at c = search (seeking-value-fits, needs)
+
+-- src/fields.rt:54:13
+child-at-requires-2 : tie.Need-child-at-requires-2 Inv-loop μ-loop
+child-at-requires-2 c κs = search needs
+
+-- src/fields.rt:54:13
+returns : tie.Need-returns Inv-loop μ-loop
+returns c = search (seeking-found, needs)
+
+-- src/fields.rt:56:9
+add-place : tie.Need-add-place Inv-loop μ-loop
+add-place c = search (seeking-next-fits, needs)
+
+-- src/fields.rt:57:9
+sub-more : tie.Need-sub-more Inv-loop μ-loop
+sub-more c = search needs
+
+-- src/fields.rt:51:5
+loop-less : tie.Need-loop-less Inv-loop μ-loop
+loop-less c = search needs
+
+-- src/fields.rt:51:5
+loop-again : tie.Need-loop-again Inv-loop μ-loop
+loop-again c = search (seeking-on, needs)
+
+-- src/fields.rt:35:1
+returns-2 : tie.Need-returns-2 Inv-loop μ-loop
+returns-2 c = search (seeking-ends, needs)
+
+pub scan-under-spec : {M : Type 1} → statement M
+scan-under-spec =
+    tie.close
+    (tie.spec
+    Inv-loop
+    μ-loop
+    loop-holds
+    child-at-requires
+    same-literals-requires
+    add-child-at
+    child-at-requires-2
+    returns
+    add-place
+    sub-more
+    loop-less
+    loop-again
+    returns-2)

@@ -1,0 +1,4 @@
+// Values in a table: which nodes are values, the value under a key, equality.
+pub mod equality;
+pub mod fields;
+pub mod marks;

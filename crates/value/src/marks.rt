@@ -1,0 +1,201 @@
+// Which nodes are simple patterns, and which are values. Children have lower numbers than their parents, so one pass over the nodes is enough.
+ghost use mathlib.Core.Path.{_≡_};
+ghost use Rattle.table.specs.Tables.{tables};
+ghost use Rattle.table.specs.Sound.{WellFormed};
+ghost use Rattle.table.specs.Decode.{expr, fields};
+ghost use Rattle.planner.specs.Simple.{differing, keysOf};
+ghost use Rattle.value.specs.Post.{admitted, markOf, itemsMarked, fieldsMarked, ChildrenAsks, MarkAsks, Marked, KeysAsks};
+use planner::fields::order_fields;
+use table::reading::child_at;
+use table::reading::count_of;
+use table::reading::first_of;
+use table::reading::kind_of;
+
+fn mark_of(admitted: bool) -> u8
+    ensures { λ r. ⌜ r ≡ markOf admitted ⌝ }
+{
+    if admitted {
+        return 1;
+    }
+    0
+}
+
+// Are `left` items from child entry `at` on marked?
+fn items_marked(
+    nodes: &[u32],
+    children: &[u32],
+    numbers: &[u64],
+    names: &[u32],
+    strings: &[u8],
+    text: &[u8],
+    marks: &[u8; 512],
+    at: usize,
+    left: usize,
+) -> bool
+    requires { ⌜ ChildrenAsks (tables (now nodes) (now children) (now numbers) (now names) (now strings) (now text)) at 1 left ⌝ }
+    ensures { λ r. ⌜ r ≡ itemsMarked (tables (now (nodes .entry)) (now (children .entry)) (now (numbers .entry)) (now (names .entry)) (now (strings .entry)) (now (text .entry))) (now (marks .entry)) at left ⌝ }
+{
+    let mut place = at;
+    let mut more = left;
+    while 0 < more {
+        let child = child_at(children, place) as usize;
+        if marks[child - 1] != 1 {
+            return false;
+        }
+        place += 1;
+        more -= 1;
+    }
+    true
+}
+
+// Have `left` fields literal keys, and are their values marked?
+fn fields_marked(
+    nodes: &[u32],
+    children: &[u32],
+    numbers: &[u64],
+    names: &[u32],
+    strings: &[u8],
+    text: &[u8],
+    marks: &[u8; 512],
+    at: usize,
+    left: usize,
+) -> bool
+    requires { ⌜ ChildrenAsks (tables (now nodes) (now children) (now numbers) (now names) (now strings) (now text)) at 2 left ⌝ }
+    ensures { λ r. ⌜ r ≡ fieldsMarked (tables (now (nodes .entry)) (now (children .entry)) (now (numbers .entry)) (now (names .entry)) (now (strings .entry)) (now (text .entry))) (now (marks .entry)) at left ⌝ }
+{
+    let mut place = at;
+    let mut more = left;
+    while 0 < more {
+        let key = child_at(children, place);
+        if 5 < kind_of(nodes, key) {
+            return false;
+        }
+        let value = child_at(children, place + 1) as usize;
+        if marks[value - 1] != 1 {
+            return false;
+        }
+        place += 2;
+        more -= 1;
+    }
+    true
+}
+
+// Do the literal keys of `count` fields differ? In order, equal keys are one.
+fn keys_differ(
+    nodes: &[u32],
+    children: &[u32],
+    numbers: &[u64],
+    names: &[u32],
+    strings: &[u8],
+    text: &[u8],
+    first: usize,
+    count: usize,
+) -> bool
+    requires { ⌜ KeysAsks (tables (now nodes) (now children) (now numbers) (now names) (now strings) (now text)) first count ⌝ }
+    ensures { λ r. ⌜ r ≡ differing (keysOf (fields (expr (tables (now (nodes .entry)) (now (children .entry)) (now (numbers .entry)) (now (names .entry)) (now (strings .entry)) (now (text .entry)))) (now (children .entry)) first count)) ⌝ }
+{
+    let mut order = [0u32; 256];
+    let total = order_fields(
+        nodes,
+        children,
+        numbers,
+        names,
+        strings,
+        text,
+        first,
+        count,
+        &mut order,
+    );
+    total as usize == count
+}
+
+// A node by the marks of those below it; `admit` admits names and underscores.
+fn admits(
+    nodes: &[u32],
+    children: &[u32],
+    numbers: &[u64],
+    names: &[u32],
+    strings: &[u8],
+    text: &[u8],
+    admit: bool,
+    marks: &[u8; 512],
+    node: u32,
+) -> bool
+    requires { ⌜ MarkAsks (tables (now nodes) (now children) (now numbers) (now names) (now strings) (now text)) admit (now marks) node ⌝ }
+    ensures { λ r. ⌜ r ≡ admitted admit (expr (tables (now (nodes .entry)) (now (children .entry)) (now (numbers .entry)) (now (names .entry)) (now (strings .entry)) (now (text .entry))) node) ⌝ }
+{
+    let kind = kind_of(nodes, node);
+    if kind <= 5 {
+        return true;
+    }
+    if kind == 6 {
+        return admit;
+    }
+    let first = first_of(nodes, node) as usize;
+    let count = count_of(nodes, node) as usize;
+    if kind == 7 {
+        return items_marked(
+            nodes,
+            children,
+            numbers,
+            names,
+            strings,
+            text,
+            marks,
+            first,
+            count,
+        );
+    }
+    if kind == 9 {
+        let keyed = fields_marked(
+            nodes,
+            children,
+            numbers,
+            names,
+            strings,
+            text,
+            marks,
+            first,
+            count,
+        );
+        if !keyed {
+            return false;
+        }
+        return keys_differ(nodes, children, numbers, names, strings, text, first, count);
+    }
+    false
+}
+
+// The marks of all nodes.
+pub fn mark_nodes(
+    nodes: &[u32],
+    children: &[u32],
+    numbers: &[u64],
+    names: &[u32],
+    strings: &[u8],
+    text: &[u8],
+    admit: bool,
+) -> [u8; 512]
+    requires { ⌜ WellFormed (tables (now nodes) (now children) (now numbers) (now names) (now strings) (now text)) ⌝ }
+    ensures { λ r. ⌜ Marked (tables (now (nodes .entry)) (now (children .entry)) (now (numbers .entry)) (now (names .entry)) (now (strings .entry)) (now (text .entry))) admit r ⌝ }
+{
+    let mut marks = [0u8; 512];
+    let total = nodes.len() / 5;
+    let mut n: usize = 0;
+    while n < total {
+        let ok = admits(
+            nodes,
+            children,
+            numbers,
+            names,
+            strings,
+            text,
+            admit,
+            &marks,
+            (n + 1) as u32,
+        );
+        marks[n] = mark_of(ok);
+        n += 1;
+    }
+    marks
+}
