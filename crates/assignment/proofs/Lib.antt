@@ -15,4 +15,3 @@ pub mod FlatLoops
 pub mod PairsSimple
 pub mod PairsInOrder
 pub mod PairsPlanned
-pub mod Trials

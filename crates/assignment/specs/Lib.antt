@@ -3,4 +3,3 @@ pub mod Pairs
 pub mod Assignment
 pub mod PairsPost
 pub mod PairsPromise
-pub mod Trial

@@ -1,7 +1,6 @@
 pub mod Good
 pub mod Fits
 pub mod Promise
-pub mod Examples
 pub mod Patterns
 pub mod Lists
 pub mod Entries

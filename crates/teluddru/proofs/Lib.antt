@@ -2,3 +2,4 @@ pub mod Copying
 pub mod Limits
 pub mod Cases
 pub mod LocalArray
+pub mod Trials

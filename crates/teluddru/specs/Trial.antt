@@ -1,20 +1,31 @@
--- Rules on trial, starred: what the definitions list for a rule, and what document 01 says.
+-- Rules on trial, starred: what the definitions show for a rule, and what document 01 says.
 use Prim.Native.Nat.{ℕ, zero, suc, _+_, _-_}
-use mathlib.Core.Bool.{false, cond}
+use mathlib.Core.Bool.{Bool, false, cond}
 use lib.Dec.{eqb}
 use mathlib.Core.List.{List, [], _∷_, _++_}
 use lib.ListN.{length, getD, drop, replicate}
 use Rattle.scope.specs.declared.Scope.{Scope}
 use Rattle.scope.specs.declared.ScopingMode.the-variants.{RespectParent}
-use Rattle.table.specs.Tables.{Tables, tables}
+use Rattle.scope.specs.Scope.{isUnbound}
+use Rattle.table.specs.Tables.{Tables, tables, nameCount}
+use Rattle.table.specs.Decode.{expr}
 use Rattle.planner.specs.Answer.{Line, line, lineOf}
-use Rattle.planner.specs.Operations.{Outcome, answered, written, patternOutcome}
-use Rattle.assignment.specs.declared.AssignOp.the-variants.{ColEq, Eq}
-use Rattle.assignment.specs.Assignment.{assignmentOutcome}
+use Rattle.planner.specs.Operations.{Outcome, answered, written}
+use Rattle.run.specs.declared.RunAnswer.{RunAnswer}
+use Rattle.run.specs.declared.RunAnswer.the-variants.{Match}
+use Rattle.run.specs.Operations.{RunOutcome, runOutcome, runAnswer, valuesAfter, plannedName}
+use Rattle.teluddru.specs.declared.Operation.{Operation}
+use Rattle.teluddru.specs.declared.Operation.the-variants.{Pattern, ColonEquals, Equals}
+use Rattle.teluddru.specs.Outcome.{operationOutcome}
+
+-- an answer's line with its entries, or a run's answer with the list afterwards
+pub data Shown : Type 0 where
+  planned : List Line → Shown
+  ran : RunAnswer → List ℕ → Shown
 
 pub record Trial : Type 0 where
-  pub listed : List Line
-  pub expected : List Line
+  pub shown : Shown
+  pub expected : Shown
 
 -- a buffer of 16 entries
 abbrev pub blank : List ℕ
@@ -74,14 +85,28 @@ positive (n ∷ ns) = 0 ∷ (n ∷ positive ns)
 abbrev pub rule : List ℕ → List ℕ → List ℕ → List ℕ → List ℕ → Tables
 rule names strings numbers children nodes = tables nodes children (positive numbers) (oneByteEach 0 names) strings names
 
-abbrev pub pattern : Tables → ℕ → List Line
-pattern T root = listing (patternOutcome T (marked []) RespectParent root)
+abbrev pub planning : List ℕ → Tables → Operation → Shown
+planning marks T operation = planned (listing (operationOutcome T (marked marks) operation))
 
-abbrev pub colonEquals : List ℕ → Tables → ℕ → ℕ → List Line
-colonEquals marks T left right = listing (assignmentOutcome T (marked marks) ColEq left right)
+abbrev pub pattern : Tables → ℕ → Shown
+pattern T root = planning [] T (Pattern RespectParent root)
 
-abbrev pub equals : Tables → ℕ → ℕ → List Line
-equals T left right = listing (assignmentOutcome T (marked []) Eq left right)
+abbrev pub colonEquals : List ℕ → Tables → ℕ → ℕ → Shown
+colonEquals marks T left right = planning marks T (ColonEquals left right)
+
+abbrev pub equals : Tables → ℕ → ℕ → Shown
+equals T left right = planning [] T (Equals left right)
+
+abbrev pub afterRun : (ℕ → Bool) → RunOutcome → List ℕ → Shown
+afterRun toSet outcome values = ran (runAnswer outcome blank) (valuesAfter toSet outcome blank values)
+
+abbrev pub runFrom : List ℕ → Tables → ℕ → ℕ → Shown
+runFrom values T root value =
+    afterRun (plannedName (isUnbound (marked []) RespectParent) (expr T root)) (runOutcome T (marked []) RespectParent root value values) values
+
+-- from a list in which no name has a value
+abbrev pub running : Tables → ℕ → ℕ → Shown
+running T = runFrom (replicate (nameCount T) 0) T
 
 abbrev pub x : ℕ
 x = 120
@@ -95,82 +120,91 @@ underscore = 95
 abbrev pub trials : List Trial
 trials =
     record {
-      listed = pattern twice 3;
-      expected = line 0 0 0 3 ∷ line 5 3 2 0 ∷ line 1 1 0 0 ∷ line 3 2 0 0 ∷ [];
+      shown = pattern twice 3;
+      expected = planned (line 0 0 0 3 ∷ line 5 3 2 0 ∷ line 1 1 0 0 ∷ line 3 2 0 0 ∷ []);
     }
     -- x := 1, where x is bound in this scope, and where it is bound above
     ∷ record {
-      listed = colonEquals (2 ∷ []) (rule (x ∷ []) [] (1 ∷ []) [] (nameNode 1 (numberNode 0 []))) 1 2;
-      expected = line 17 1 0 0 ∷ [];
+      shown = colonEquals (2 ∷ []) (rule (x ∷ []) [] (1 ∷ []) [] (nameNode 1 (numberNode 0 []))) 1 2;
+      expected = planned (line 17 1 0 0 ∷ []);
     }
     ∷ record {
-      listed = colonEquals (1 ∷ []) (rule (x ∷ []) [] (1 ∷ []) [] (nameNode 1 (numberNode 0 []))) 1 2;
-      expected = line 0 1 0 1 ∷ line 1 1 0 0 ∷ [];
+      shown = colonEquals (1 ∷ []) (rule (x ∷ []) [] (1 ∷ []) [] (nameNode 1 (numberNode 0 []))) 1 2;
+      expected = planned (line 0 1 0 1 ∷ line 1 1 0 0 ∷ []);
     }
     -- 1 := 1
     ∷ record {
-      listed = colonEquals [] (rule [] [] (1 ∷ 1 ∷ []) [] (numberNode 0 (numberNode 1 []))) 1 2;
-      expected = line 11 1 0 0 ∷ [];
+      shown = colonEquals [] (rule [] [] (1 ∷ 1 ∷ []) [] (numberNode 0 (numberNode 1 []))) 1 2;
+      expected = planned (line 11 1 0 0 ∷ []);
     }
     -- _ := 1
     ∷ record {
-      listed = colonEquals [] (rule (underscore ∷ []) [] (1 ∷ []) [] (nameNode 1 (numberNode 0 []))) 1 2;
-      expected = line 0 1 0 1 ∷ line 2 1 0 0 ∷ [];
+      shown = colonEquals [] (rule (underscore ∷ []) [] (1 ∷ []) [] (nameNode 1 (numberNode 0 []))) 1 2;
+      expected = planned (line 0 1 0 1 ∷ line 2 1 0 0 ∷ []);
     }
     -- x = y
     ∷ record {
-      listed = equals (rule (x ∷ y ∷ []) [] [] [] (nameNode 1 (nameNode 2 []))) 1 2;
-      expected = line 18 1 0 0 ∷ [];
+      shown = equals (rule (x ∷ y ∷ []) [] [] [] (nameNode 1 (nameNode 2 []))) 1 2;
+      expected = planned (line 18 1 0 0 ∷ []);
     }
     -- _ = y
     ∷ record {
-      listed = equals (rule (underscore ∷ y ∷ []) [] [] [] (nameNode 1 (nameNode 2 []))) 1 2;
-      expected = line 0 6 1 0 ∷ [];
+      shown = equals (rule (underscore ∷ y ∷ []) [] [] [] (nameNode 1 (nameNode 2 []))) 1 2;
+      expected = planned (line 0 6 1 0 ∷ []);
     }
     -- [_] = [x]
     ∷ record {
-      listed = equals (rule (underscore ∷ x ∷ []) [] [] (1 ∷ 3 ∷ []) (nameNode 1 (arrayNode 0 1 (nameNode 2 (arrayNode 1 1 []))))) 2 4;
-      expected = line 18 1 0 0 ∷ [];
+      shown = equals (rule (underscore ∷ x ∷ []) [] [] (1 ∷ 3 ∷ []) (nameNode 1 (arrayNode 0 1 (nameNode 2 (arrayNode 1 1 []))))) 2 4;
+      expected = planned (line 18 1 0 0 ∷ []);
     }
     -- [x, 1] = [1, x]
     ∷ record {
-      listed =
+      shown =
           equals
           (rule (x ∷ []) [] (1 ∷ 1 ∷ []) (1 ∷ 2 ∷ 4 ∷ 5 ∷ []) (nameNode 1 (numberNode 0 (arrayNode 0 2 (numberNode 1 (nameNode 1 (arrayNode 2 2 [])))))))
           3 6;
-      expected = line 0 4 0 4 ∷ line 7 4 1 0 ∷ line 1 1 0 0 ∷ line 7 5 1 0 ∷ line 3 2 0 0 ∷ [];
+      expected = planned (line 0 4 0 4 ∷ line 7 4 1 0 ∷ line 1 1 0 0 ∷ line 7 5 1 0 ∷ line 3 2 0 0 ∷ []);
     }
     -- [x] := [1, 2]
     ∷ record {
-      listed =
+      shown =
           colonEquals []
           (rule (x ∷ []) [] (1 ∷ 2 ∷ []) (1 ∷ 3 ∷ 4 ∷ []) (nameNode 1 (arrayNode 0 1 (numberNode 0 (numberNode 1 (arrayNode 1 2 []))))))
           2 5;
-      expected = line 13 5 1 2 ∷ [];
+      expected = planned (line 13 5 1 2 ∷ []);
     }
     -- [x, [y]] := [1, [1, 2]]
     ∷ record {
-      listed =
+      shown =
           colonEquals []
           (rule (x ∷ y ∷ []) [] (1 ∷ 1 ∷ 2 ∷ []) (2 ∷ 1 ∷ 3 ∷ 6 ∷ 7 ∷ 5 ∷ 8 ∷ [])
           (nameNode 1 (nameNode 2 (arrayNode 0 1 (arrayNode 1 2 (numberNode 0 (numberNode 1 (numberNode 2 (arrayNode 3 2 (arrayNode 5 2 []))))))))))
           4 9;
-      expected = line 0 1 0 4 ∷ line 5 4 2 0 ∷ line 1 1 0 0 ∷ line 5 3 1 0 ∷ line 1 2 0 0 ∷ [];
+      expected = planned (line 0 1 0 4 ∷ line 5 4 2 0 ∷ line 1 1 0 0 ∷ line 5 3 1 0 ∷ line 1 2 0 0 ∷ []);
     }
     -- {1: x} := {"1": 2}
     ∷ record {
-      listed =
+      shown =
           colonEquals []
           (rule (x ∷ []) (49 ∷ []) (1 ∷ 2 ∷ []) (1 ∷ 2 ∷ 4 ∷ 5 ∷ []) (numberNode 0 (nameNode 1 (objectNode 0 1 (stringNode 0 1 (numberNode 1 (objectNode 2 1 [])))))))
           3 6;
-      expected = line 0 1 0 2 ∷ line 6 3 1 0 ∷ line 1 2 0 1 ∷ [];
+      expected = planned (line 0 1 0 2 ∷ line 6 3 1 0 ∷ line 1 2 0 1 ∷ []);
     }
     -- {"b": x, "a": x}: its plan lists a first
     ∷ record {
-      listed =
+      shown =
           pattern
           (rule (x ∷ []) (98 ∷ 97 ∷ []) [] (1 ∷ 2 ∷ 3 ∷ 4 ∷ []) (stringNode 0 1 (nameNode 1 (stringNode 1 1 (nameNode 1 (objectNode 0 2 []))))))
           5;
-      expected = line 0 0 0 3 ∷ line 6 5 2 0 ∷ line 3 4 0 3 ∷ line 1 2 0 1 ∷ [];
+      expected = planned (line 0 0 0 3 ∷ line 6 5 2 0 ∷ line 3 4 0 3 ∷ line 1 2 0 1 ∷ []);
+    }
+    -- {"b": x, "a": x} on {"a": 1, "b": 1}: x is the 1 under b, the first as written
+    ∷ record {
+      shown =
+          running
+          (rule (x ∷ []) (98 ∷ 97 ∷ []) (1 ∷ 1 ∷ []) (1 ∷ 2 ∷ 3 ∷ 4 ∷ 6 ∷ 7 ∷ 8 ∷ 9 ∷ [])
+          (stringNode 0 1 (nameNode 1 (stringNode 1 1 (nameNode 1 (objectNode 0 2 (stringNode 1 1 (numberNode 0 (stringNode 0 1 (numberNode 1 (objectNode 4 2 [])))))))))))
+          5 10;
+      expected = ran Match (9 ∷ []);
     }
     ∷ []
