@@ -5,6 +5,8 @@ use super::listing::Refusal;
 use super::tables::{kind, Name, Node, Tables};
 use std::collections::BTreeSet;
 
+/// Of nodes, and of child entries.
+const MAX_NODES: usize = 512;
 const MAX_NAME_LENGTH: u32 = 255;
 const MAX_DEPTH: u32 = 32;
 
@@ -36,9 +38,10 @@ fn is_node(tables: &Tables, number: u32) -> bool {
     (1..=tables.nodes.len() as u32).contains(&number)
 }
 
+/// Numbers of nodes, or places of child entries.
 fn all_differ(mut numbers: impl Iterator<Item = u32>) -> bool {
-    let mut met = BTreeSet::new();
-    numbers.all(|number| met.insert(number))
+    let mut met = [false; MAX_NODES + 1];
+    numbers.all(|number| !std::mem::replace(&mut met[number as usize], true))
 }
 
 fn used_places(node: &Node) -> std::ops::Range<u32> {

@@ -5,11 +5,12 @@ use super::texts::Texts;
 use planner::ast::{ArithOp, AssignOp, BinOp, BoolOp, Expr, ExprRef, Query, Ref};
 use planner::lexer::Span;
 use planner::value::Value;
+use std::collections::BTreeMap;
 
 /// Makes one of an operation's expressions. `eidx` and the span's `node` are a part's number.
 pub struct Builder<'a> {
     pub tables: &'a Tables<'a>,
-    pub texts: &'a Texts,
+    pub texts: &'a Texts<'a>,
     pub root: u32,
 }
 
@@ -42,7 +43,7 @@ impl Builder<'_> {
 
     fn leaf(&self, span: Span, node: &Node) -> Expr {
         let eidx = span.node;
-        let string = || Value::String(self.texts.decode(self.tables.string_bytes(node)));
+        let string = || Value::String(self.texts.of_string(node));
         match node.kind {
             kind::STRING => Expr::String { span, value: string(), eidx },
             kind::RAW_STRING => Expr::RawString { span, value: string(), eidx },
@@ -100,7 +101,7 @@ pub fn literal_key(expr: &ExprRef) -> Option<&Value> {
 
 pub type Field = (Span, ExprRef, ExprRef);
 
-/// The last field of a literal key.
-pub fn last_field<'a>(fields: &'a [Field], key: &Value) -> Option<&'a Field> {
-    fields.iter().rfind(|field| literal_key(&field.1) == Some(key))
+/// The last field of each literal key, in key order.
+pub fn last_fields(fields: &[Field]) -> BTreeMap<&Value, &Field> {
+    fields.iter().filter_map(|field| Some((literal_key(&field.1)?, field))).collect()
 }

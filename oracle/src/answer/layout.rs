@@ -1,7 +1,7 @@
 //! Plans of the Rust as plan entries. The Rust's plan does not name every node, so a plan is read
 //! beside the pattern that it was made from.
 
-use super::expr::{last_field, Field};
+use super::expr::{last_fields, Field};
 use super::listing::Entry;
 use planner::ast::{Expr, ExprRef};
 use planner::compiler::destructuring_planner::DestructuringPlan;
@@ -74,14 +74,16 @@ impl Layout {
         computed: &[(ExprRef, DestructuringPlan)],
         fields: &[Field],
     ) {
-        for (key, plan) in literal {
-            let (_, key, value) = last_field(fields, key).expect("a key of the pattern");
-            self.field(key.eidx(), plan, value);
+        let last = last_fields(fields);
+        assert_eq!(last.len(), literal.len());
+        for ((key, plan), (pattern_key, field)) in literal.iter().zip(last) {
+            assert_eq!(key, pattern_key);
+            self.field(field.1.eidx(), plan, &field.2);
         }
+        let mut others = fields.iter();
         for (key, plan) in computed {
-            let field = fields.iter().find(|field| field.1 == *key);
-            let (_, key, value) = field.expect("a field of the pattern");
-            self.field(key.eidx(), plan, value);
+            let field = others.find(|field| field.1 == *key).expect("a field of the pattern");
+            self.field(key.eidx(), plan, &field.2);
         }
     }
 }

@@ -45,18 +45,47 @@ impl Refusal {
     }
 }
 
-impl fmt::Display for Answer {
-    fn fmt(&self, f: &mut fmt::Formatter<'_>) -> fmt::Result {
+impl Answer {
+    pub fn listing(&self) -> Vec<u8> {
+        let mut listing = Vec::new();
         match &self.outcome {
             Ok(plan) => {
-                line(f, [0, plan.form, plan.side, plan.entries.len() as u32])?;
-                plan.entries.iter().try_for_each(|e| line(f, [e.kind, e.node, e.children, e.key]))
+                listing.reserve_exact(LINE * (1 + plan.entries.len()));
+                line(&mut listing, [0, plan.form, plan.side, plan.entries.len() as u32]);
+                let entries = plan.entries.iter();
+                entries.for_each(|e| line(&mut listing, [e.kind, e.node, e.children, e.key]));
             }
-            Err(r) => line(f, [r.number, r.place, r.counts[0], r.counts[1]]),
+            Err(r) => line(&mut listing, [r.number, r.place, r.counts[0], r.counts[1]]),
         }
+        listing
     }
 }
 
-fn line(f: &mut fmt::Formatter<'_>, [a, b, c, d]: [u32; 4]) -> fmt::Result {
-    writeln!(f, "{a:6}{b:6}{c:6}{d:6}")
+impl fmt::Display for Answer {
+    fn fmt(&self, f: &mut fmt::Formatter<'_>) -> fmt::Result {
+        f.write_str(std::str::from_utf8(&self.listing()).expect("digits, blanks and line feeds"))
+    }
+}
+
+const COLUMN: usize = 6;
+const LINE: usize = 4 * COLUMN + 1;
+
+fn line(listing: &mut Vec<u8>, numbers: [u32; 4]) {
+    let mut line = [b' '; LINE];
+    for (column, number) in line.chunks_exact_mut(COLUMN).zip(numbers) {
+        write(column, number);
+    }
+    line[LINE - 1] = b'\n';
+    listing.extend_from_slice(&line);
+}
+
+fn write(column: &mut [u8], number: u32) {
+    let mut rest = number;
+    for byte in column.iter_mut().rev() {
+        *byte = b'0' + (rest % 10) as u8;
+        rest /= 10;
+        if rest == 0 {
+            return;
+        }
+    }
 }

@@ -7,6 +7,7 @@ mod layout;
 mod listing;
 mod operation;
 mod partners;
+mod ready;
 mod scope;
 mod sheet;
 mod tables;
@@ -14,14 +15,27 @@ mod texts;
 
 pub use listing::{Answer, Outcome, Refusal};
 pub use operation::CAPACITY;
+pub use ready::{Planned, Ready};
 
 /// What document 01 says of a sheet.
 pub fn answer(bytes: &[u8]) -> Answer {
     match sheet::read(bytes) {
-        Ok(sheet) => Answer {
-            operation: Some(sheet.operation),
-            outcome: check::check(&sheet.tables).and_then(|()| operation::run(&sheet)),
-        },
+        Ok(sheet) => Answer { operation: Some(sheet.operation), outcome: plan(&sheet) },
         Err(refusal) => Answer { operation: None, outcome: Err(refusal) },
     }
+}
+
+fn plan(sheet: &sheet::Sheet) -> Outcome {
+    let ready = checked(sheet)?;
+    operation::outcome(&ready, ready.plan())
+}
+
+fn checked(sheet: &sheet::Sheet) -> Result<Ready, Refusal> {
+    check::check(&sheet.tables)?;
+    Ready::new(sheet)
+}
+
+/// What the Rust is called with for a sheet.
+pub fn ready(bytes: &[u8]) -> Result<Ready, Refusal> {
+    checked(&sheet::read(bytes)?)
 }

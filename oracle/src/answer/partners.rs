@@ -1,6 +1,6 @@
 //! Which parts of two expressions the Rust held against each other: it names one of the two alone.
 
-use super::expr::{last_field, literal_key, Field};
+use super::expr::{last_fields, literal_key, Field};
 use super::layout::Layout;
 use super::listing::Entry;
 use planner::ast::{Expr, ExprRef};
@@ -24,8 +24,9 @@ fn partners<'a>(one: &'a ExprRef, other: &'a ExprRef) -> Vec<(&'a ExprRef, &'a E
             ones.iter().zip(others).collect()
         }
         (Expr::Object { fields: ones, .. }, Expr::Object { fields: others, .. }) => {
+            let ones = last_fields(ones);
             let partner = |other: &'a Field| {
-                let one = last_field(ones, literal_key(&other.1)?)?;
+                let one = ones.get(literal_key(&other.1)?)?;
                 Some((&one.2, &other.2))
             };
             others.iter().filter_map(partner).collect()

@@ -80,7 +80,11 @@ impl<'a> Reader<'a> {
     }
 
     fn lines<T>(&mut self, count: usize, read: impl Fn(&mut Self) -> Option<T>) -> Option<Vec<T>> {
-        (0..count).map(|_| read(self)).collect()
+        let mut lines = Vec::with_capacity(count);
+        for _ in 0..count {
+            lines.push(read(self)?);
+        }
+        Some(lines)
     }
 
     fn node(&mut self) -> Option<Node> {
@@ -106,25 +110,30 @@ fn justified(column: &[u8]) -> &[u8] {
     &column[blanks..]
 }
 
-fn digits(bytes: &[u8]) -> Option<i128> {
+fn digits(bytes: &[u8]) -> Option<&[u8]> {
     let plain = match bytes {
         [] => false,
         [b'0', _, ..] => false,
         _ => bytes.iter().all(u8::is_ascii_digit),
     };
-    let value = |sum, &digit: &u8| 10 * sum + i128::from(digit - b'0');
-    plain.then(|| bytes.iter().fold(0, value))
+    plain.then_some(bytes)
 }
 
 fn decimal(bytes: &[u8]) -> Option<u32> {
-    digits(bytes).map(|value| value as u32)
+    let value = |sum, digit: &u8| 10 * sum + u32::from(digit - b'0');
+    digits(bytes).map(|digits| digits.iter().fold(0, value))
+}
+
+fn wide_decimal(bytes: &[u8]) -> Option<i128> {
+    let value = |sum, digit: &u8| 10 * sum + i128::from(digit - b'0');
+    digits(bytes).map(|digits| digits.iter().fold(0, value))
 }
 
 /// A whole number of 64 signed bits; there is no -0.
 fn signed(bytes: &[u8]) -> Option<i128> {
     let number = match bytes {
-        [b'-', size @ ..] => -digits(size).filter(|&size| size != 0)?,
-        _ => digits(bytes)?,
+        [b'-', size @ ..] => -wide_decimal(size).filter(|&size| size != 0)?,
+        _ => wide_decimal(bytes)?,
     };
     i64::try_from(number).ok().map(i128::from)
 }

@@ -60,12 +60,6 @@ impl Tables<'_> {
         }
     }
 
-    /// The bytes of a string or raw string that lies within its store.
-    pub fn string_bytes(&self, node: &Node) -> &[u8] {
-        let store = if node.kind == kind::STRING { self.strings } else { self.text };
-        &store[node.first as usize..][..node.count as usize]
-    }
-
     /// The bytes of a name that lies within the text.
     pub fn name_bytes(&self, name: &Name) -> &[u8] {
         &self.text[name.start as usize..][..name.length as usize]
