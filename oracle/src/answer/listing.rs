@@ -46,40 +46,55 @@ impl Refusal {
 }
 
 impl Answer {
-    pub fn listing(&self) -> Vec<u8> {
-        let mut listing = Vec::new();
-        match &self.outcome {
-            Ok(plan) => {
-                listing.reserve_exact(LINE * (1 + plan.entries.len()));
-                line(&mut listing, [0, plan.form, plan.side, plan.entries.len() as u32]);
-                let entries = plan.entries.iter();
-                entries.for_each(|e| line(&mut listing, [e.kind, e.node, e.children, e.key]));
-            }
-            Err(r) => line(&mut listing, [r.number, r.place, r.counts[0], r.counts[1]]),
+    /// Writes the listing and then zeros; the bytes of the listing, or 0 where it doesn't fit.
+    pub fn write(&self, output: &mut [u8]) -> usize {
+        let length = LINE * (1 + self.entries().len());
+        if output.len() < length {
+            output.fill(0);
+            return 0;
         }
-        listing
+        let (listing, rest) = output.split_at_mut(length);
+        let mut lines = listing.chunks_exact_mut(LINE);
+        line(lines.next().expect("a first line"), self.head());
+        for (bytes, entry) in lines.zip(self.entries()) {
+            line(bytes, [entry.kind, entry.node, entry.children, entry.key]);
+        }
+        rest.fill(0);
+        length
+    }
+
+    fn entries(&self) -> &[Entry] {
+        self.outcome.as_ref().map_or(&[], |plan| &plan.entries)
+    }
+
+    fn head(&self) -> [u32; 4] {
+        match &self.outcome {
+            Ok(plan) => [0, plan.form, plan.side, plan.entries.len() as u32],
+            Err(refusal) => [refusal.number, refusal.place, refusal.counts[0], refusal.counts[1]],
+        }
     }
 }
 
 impl fmt::Display for Answer {
     fn fmt(&self, f: &mut fmt::Formatter<'_>) -> fmt::Result {
-        f.write_str(std::str::from_utf8(&self.listing()).expect("digits, blanks and line feeds"))
+        let mut listing = vec![0; LINE * (1 + self.entries().len())];
+        self.write(&mut listing);
+        f.write_str(std::str::from_utf8(&listing).expect("digits, blanks and line feeds"))
     }
 }
 
 const COLUMN: usize = 6;
 const LINE: usize = 4 * COLUMN + 1;
 
-fn line(listing: &mut Vec<u8>, numbers: [u32; 4]) {
-    let mut line = [b' '; LINE];
+fn line(line: &mut [u8], numbers: [u32; 4]) {
     for (column, number) in line.chunks_exact_mut(COLUMN).zip(numbers) {
         write(column, number);
     }
     line[LINE - 1] = b'\n';
-    listing.extend_from_slice(&line);
 }
 
 fn write(column: &mut [u8], number: u32) {
+    column.fill(b' ');
     let mut rest = number;
     for byte in column.iter_mut().rev() {
         *byte = b'0' + (rest % 10) as u8;

@@ -1,0 +1,39 @@
+//! The static library's sheet entry and the published Rust planner on the same inputs.
+//!
+//!     bench time [--write]            medians, as a table; --write puts it into docs/PERFORMANCE.md
+//!     bench growth FILE               medians against size, as the data of bench/plot
+//!     bench count                     every job once, for callgrind
+//!     bench counted FOLDER [--write]  the table of what callgrind counted
+
+mod callgrind;
+mod counts;
+mod growth;
+mod inputs;
+mod jobs;
+mod report;
+mod times;
+
+use std::path::Path;
+use std::process::ExitCode;
+
+fn main() -> ExitCode {
+    let words: Vec<String> = std::env::args().skip(1).collect();
+    let words: Vec<&str> = words.iter().map(String::as_str).collect();
+    let done = match words[..] {
+        ["time"] => times::run(false),
+        ["time", "--write"] => times::run(true),
+        ["growth", file] => growth::run(Path::new(file)),
+        ["count"] => counts::run(),
+        ["counted", folder] => counts::report(Path::new(folder), false),
+        ["counted", folder, "--write"] => counts::report(Path::new(folder), true),
+        _ => {
+            eprintln!("usage: bench time | growth FILE | count | counted FOLDER [--write]");
+            return ExitCode::from(2);
+        }
+    };
+    if let Err(error) = done {
+        eprintln!("bench: {error}");
+        return ExitCode::FAILURE;
+    }
+    ExitCode::SUCCESS
+}
