@@ -6,7 +6,7 @@
 // three columns, the names lent, the entries of the list and the words of the plan buffer; from 23
 // on the pattern, the value, and the listed value of each name. The line itself is the rule text.
 //
-// List entries past the names hold NO_NODE before a run, all of them before a report, and the plan
+// List entries past the names hold NO_NODE before a run, and all of them before a report. The plan
 // buffer holds 9s.
 use libc::STDIN_FILENO;
 use libc::STDOUT_FILENO;
@@ -28,18 +28,15 @@ ghost use lib.ListN.{length};
 
 mod parse;
 
-// Four names of one byte each, at columns 3 to 6, and space for more of them than the limit.
-const NAMES: [u32; 8] = [3, 1, 4, 1, 5, 1, 6, 1];
-
+// The four names, and as many words more as take them past the limit.
 fn names() -> [u32; 258]
     ensures { λ r. ⌜ 258 ≡ length r ⌝ }
 {
-    let mut words = [0u32; 258];
-    let mut i: usize = 0;
-    while i < 8 {
-        words[i] = NAMES[i];
-        i += 1;
-    }
+    let mut words = [1u32; 258];
+    words[0] = 3;
+    words[2] = 4;
+    words[4] = 5;
+    words[6] = 6;
     words
 }
 
@@ -65,21 +62,14 @@ fn number_at(line: &[u8], at: usize) -> usize
 // The first of a list, or all where there are fewer.
 fn words(list: &[u32], count: usize) -> &[u32] {
     if count < list.len() {
-        return &list[..count];
-    }
-    list
-}
-
-fn words_of(list: &mut [u32], count: usize) -> &mut [u32] {
-    if count < list.len() {
-        return &mut list[..count];
+        return &list[0..count];
     }
     list
 }
 
 fn numbers_of(list: &[u64], count: usize) -> &[u64] {
     if count < list.len() {
-        return &list[..count];
+        return &list[0..count];
     }
     list
 }
@@ -125,15 +115,16 @@ fn scoping_of(line: &[u8]) -> ScopingMode {
     ScopingMode::RespectParent
 }
 
-// The list before a run: after pattern and value the stack has the listed values.
-fn entry_at(stack: &[u32; 64], top: usize, names: usize, i: usize) -> u32 {
+// The listed value of a name: after the pattern and the value the stack has these.
+fn listed(parsed: Parsed, names: usize, i: usize) -> u32 {
+    let stack = parsed.stack;
     if names <= i {
         return NO_NODE;
     }
     if 62 <= i {
         return 0;
     }
-    if top <= i + 2 {
+    if parsed.top <= i + 2 {
         return 0;
     }
     stack[i + 2]
@@ -143,13 +134,10 @@ fn start_list(parsed: Parsed, names: usize) -> [u32; 16]
     ensures { λ r. ⌜ 16 ≡ length r ⌝ }
 {
     let mut list = [NO_NODE; 16];
-    let stack = parsed.stack;
-    let top = parsed.top;
-    let mut i: usize = 0;
-    while i < 16 {
-        list[i] = entry_at(&stack, top, names, i);
-        i += 1;
-    }
+    list[0] = listed(parsed, names, 0);
+    list[1] = listed(parsed, names, 1);
+    list[2] = listed(parsed, names, 2);
+    list[3] = listed(parsed, names, 3);
     list
 }
 
@@ -284,12 +272,7 @@ fn no_nodes() -> [u32; 16]
     [NO_NODE; 16]
 }
 
-fn run_case(line: &[u8]) {
-    let parsed = parse(line, 23);
-    let mut entries = start_list(parsed, number_at(line, 13));
-    let mut buffer = filled();
-    let list = words_of(&mut entries, number_at(line, 16));
-    let plan = words_of(&mut buffer, number_at(line, 19));
+fn print_run_case(line: &[u8], parsed: Parsed, list: &mut [u32], plan: &mut [u32]) {
     print_run(carried_out(line, parsed, list, plan));
     print_text(b"; list");
     print_words(list, list.len());
@@ -298,24 +281,48 @@ fn run_case(line: &[u8]) {
     print_text(b"\n");
 }
 
-fn report_case(line: &[u8]) {
-    let parsed = parse(line, 23);
-    let mut entries = no_nodes();
-    let list = words_of(&mut entries, number_at(line, 16));
+fn print_report_case(line: &[u8], parsed: Parsed, list: &mut [u32]) {
     print_report(reported(line, parsed, list));
     print_text(b"; list");
     print_words(list, list.len());
     print_text(b"\n");
 }
 
+fn run_case(line: &[u8], entries: usize, buffer_words: usize) {
+    if 16 < entries {
+        return;
+    }
+    if 128 < buffer_words {
+        return;
+    }
+    let parsed = parse(line, 23);
+    let mut list = start_list(parsed, number_at(line, 13));
+    let mut plan = filled();
+    print_run_case(
+        line,
+        parsed,
+        &mut list[0..entries],
+        &mut plan[0..buffer_words],
+    );
+}
+
+fn report_case(line: &[u8], entries: usize) {
+    if 16 < entries {
+        return;
+    }
+    let parsed = parse(line, 23);
+    let mut list = no_nodes();
+    print_report_case(line, parsed, &mut list[0..entries]);
+}
+
 fn print_case(line: &[u8]) {
     print_text(line);
     print_text(b"\n");
     if byte_at(line, 0) == b'n' {
-        report_case(line);
+        report_case(line, number_at(line, 16));
         return;
     }
-    run_case(line);
+    run_case(line, number_at(line, 16), number_at(line, 19));
 }
 
 // Where the line that starts at a place ends.

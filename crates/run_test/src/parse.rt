@@ -1,7 +1,7 @@
 // The expressions of a case's line as a node table. Each token has its size by its first byte: a
 // string or raw string of one byte, a number of one digit, a name of one byte, null, false, true,
 // `?` another expression, `<` and `>` a set. `.` is node 0 and `!` is NO_NODE.
-ghost use Prim.Native.Nat.{_≤_};
+ghost use Prim.Native.Nat.{_<_, _≤_};
 
 pub(crate) const NO_NODE: u32 = 777;
 
@@ -190,9 +190,11 @@ impl Parsed {
         next.push_node(kind, start, start, first, count)
     }
 
-    fn token(self, line: &[u8], i: usize) -> Parsed {
+    fn token(self, line: &[u8], i: usize) -> Parsed
+        requires { ⌜ i < 256 ⌝ }
+    {
         let byte = byte_at(line, i);
-        let start = (i % 256) as u32;
+        let start = i as u32;
         match byte {
             b' ' | b',' | b':' | b'|' => self,
             b'[' | b'<' | b'{' => self.open(),
