@@ -49,7 +49,7 @@ fn digit_of(byte: u8) -> usize
     }
 }
 
-// The number in three columns.
+// The number in three columns, blanks as zeros.
 fn number_at(line: &[u8], at: usize) -> usize
     requires { ⌜ at ≤ 255 ⌝ }
     ensures { λ r. ⌜ r ≤ 999 ⌝ }
@@ -183,14 +183,18 @@ fn reported(line: &[u8], parsed: Parsed, list: &mut [u32]) -> ReportAnswer {
     )
 }
 
+fn print_text(text: &[u8]) {
+    io::write_all(STDOUT_FILENO, text);
+}
+
 fn print_refusal(number: u64) {
-    io::write_all(STDOUT_FILENO, b"refused ");
+    print_text(b"refused ");
     io::print_decimal(STDOUT_FILENO, number);
 }
 
 fn print_needed(needed: usize) {
     print_refusal(6);
-    io::write_all(STDOUT_FILENO, b", needed ");
+    print_text(b", needed ");
     io::print_decimal(STDOUT_FILENO, needed as u64);
 }
 
@@ -202,10 +206,6 @@ fn number_of(answer: TableAnswer) -> u64 {
         TableAnswer::TooDeep => 3,
         TableAnswer::EqualNames => 4,
     }
-}
-
-fn print_text(text: &[u8]) {
-    io::write_all(STDOUT_FILENO, text);
 }
 
 fn print_run(answer: RunAnswer) {
