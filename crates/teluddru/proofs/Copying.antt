@@ -7,7 +7,14 @@ use native.Mathlib.Nat.{not-suc-le-zero}
 use lib.ListN.{length, set, take, length-take}
 use lib.Seq.{length-take-le}
 use Rattle.teluddru.specs.declared.Name.{Name}
-use Rattle.teluddru.specs.Records.{nameWords, nameAt, overwrite}
+use Rattle.teluddru.specs.declared.records.NameWords.{NameWords}
+use Rattle.teluddru.specs.Records.{nameWords, nameAt, Copied}
+
+-- xs in place of the first words, as far as there are words
+pub overwrite : List ℕ → List ℕ → List ℕ
+overwrite [] ws = ws
+overwrite (x ∷ xs) [] = []
+overwrite (x ∷ xs) (w ∷ ws) = x ∷ overwrite xs ws
 
 -- how many are copied
 pub count-small : (n : ℕ) → min 129 n ≤ 129
@@ -69,3 +76,14 @@ first-words (x ∷ xs) (w ∷ ws) l = ap (λ (l′ : List ℕ). x ∷ l′) (fir
 -- the part that holds `count` names
 pub part-count : (count : ℕ) (words : List ℕ) → count ≤ 129 → 258 ≡ length words → count * 2 ≡ length (take (count * 2) words)
 part-count count words l e = sym (length-take-le (count * 2) words (omega (arith, l, e)))
+
+pub all-copied : (ns : List Name) (ws : List ℕ) → length ws ≡ 258 → Copied ns (record { words = after (min 129 (length ns)) ns ws; count = min 129 (length ns) })
+all-copied ns ws z =
+    let t = length-take 129 ns in
+    let l = words-length (take 129 ns) in
+    let size : min 129 (length ns) * 2 ≡ length (nameWords (take 129 ns)) = omega (arith, l, t) in
+    record {
+      few = count-small (length ns);
+      same = ap (λ (us : List ℕ). take (min 129 (length ns) * 2) us) (after-all 129 ns ws) ∙ ap (λ (k : ℕ). take k (overwrite (nameWords (take 129 ns)) ws)) size
+          ∙ first-words (nameWords (take 129 ns)) ws (omega (arith, l, t, z));
+    }

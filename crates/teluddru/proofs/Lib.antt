@@ -1,5 +1,7 @@
 pub mod Copying
 pub mod Limits
 pub mod Cases
+pub mod AllNames
 pub mod LocalArray
 pub mod Trials
+pub mod Passing

@@ -1,14 +1,23 @@
 // The library's calls for a caller in Rattle: names are a lent table of records.
 mod operations;
 mod records;
+mod runs;
 
 use crate::operations::plan_words;
 use crate::records::copy_names;
+use crate::runs::report_words;
+use crate::runs::run_words;
 use planner::PlanAnswer;
+use run::ReportAnswer;
+use run::RunAnswer;
 use scope::Scope;
 use scope::ScopingMode;
+ghost use Rattle.scope.specs.Scope.{isUnbound};
 ghost use Rattle.table.specs.Tables.{tables};
+ghost use Rattle.table.specs.Decode.{expr};
 ghost use Rattle.planner.specs.Operations.{Answered};
+ghost use Rattle.run.specs.Operations.{runOutcome, plannedName, Ran};
+ghost use Rattle.run.specs.Report.{ReportedBy};
 ghost use Rattle.teluddru.specs.Records.{nameWords};
 ghost use Rattle.teluddru.specs.Outcome.{operationOutcome};
 
@@ -60,18 +69,77 @@ pub fn plan(
 ) -> PlanAnswer
     ensures { λ r. ⌜ Answered (operationOutcome (tables (now (nodes .entry)) (now (children .entry)) (now (numbers .entry)) (nameWords (now (names .entry))) (now (strings .entry)) (now (text .entry))) scope operation) (now (plan .entry)) (now (plan .exit)) r ⌝ }
 {
-    let mut words = [0u32; 258];
-    let count = copy_names(names, &mut words);
     plan_words(
         nodes,
         children,
         numbers,
-        &words,
-        count,
+        copy_names(names),
         strings,
         text,
         scope,
         operation,
         plan,
+    )
+}
+
+// Plans the pattern into the buffer and carries the plan out on the value. `values` has for each name number the node of its value, or 0.
+pub fn run(
+    nodes: &[u32],
+    children: &[u32],
+    numbers: &[u64],
+    names: &[Name],
+    strings: &[u8],
+    text: &[u8],
+    scope: Scope,
+    scoping: ScopingMode,
+    pattern: u32,
+    value: u32,
+    values: &mut [u32],
+    plan: &mut [u32],
+) -> RunAnswer
+    ensures { λ r. ⌜ Ran (plannedName (isUnbound scope scoping) (expr (tables (now (nodes .entry)) (now (children .entry)) (now (numbers .entry)) (nameWords (now (names .entry))) (now (strings .entry)) (now (text .entry))) pattern)) (runOutcome (tables (now (nodes .entry)) (now (children .entry)) (now (numbers .entry)) (nameWords (now (names .entry))) (now (strings .entry)) (now (text .entry))) scope scoping pattern value (now (values .entry))) (now (values .entry)) (now (plan .entry)) (now (values .exit)) (now (plan .exit)) r ⌝ }
+{
+    run_words(
+        nodes,
+        children,
+        numbers,
+        copy_names(names),
+        strings,
+        text,
+        scope,
+        scoping,
+        pattern,
+        value,
+        values,
+        plan,
+    )
+}
+
+// For each name 1 bound in the pattern's plan, 2 met but not bound there, else 0.
+pub fn names_report(
+    nodes: &[u32],
+    children: &[u32],
+    numbers: &[u64],
+    names: &[Name],
+    strings: &[u8],
+    text: &[u8],
+    scope: Scope,
+    scoping: ScopingMode,
+    pattern: u32,
+    list: &mut [u32],
+) -> ReportAnswer
+    ensures { λ r. ⌜ ReportedBy (tables (now (nodes .entry)) (now (children .entry)) (now (numbers .entry)) (nameWords (now (names .entry))) (now (strings .entry)) (now (text .entry))) scope scoping pattern (now (list .entry)) (now (list .exit)) r ⌝ }
+{
+    report_words(
+        nodes,
+        children,
+        numbers,
+        copy_names(names),
+        strings,
+        text,
+        scope,
+        scoping,
+        pattern,
+        list,
     )
 }

@@ -1,5 +1,6 @@
 // An operation over names in pairs of words.
 use crate::Operation;
+use crate::records::NameWords;
 use assignment::AssignOp;
 use assignment::assignment::create_assignment_binding_plan;
 use planner::PlanAnswer;
@@ -8,10 +9,10 @@ use planner::parameters::create_loop_index_binding_plan;
 use planner::parameters::create_parameter_binding_plan;
 use scope::Scope;
 use some_in::create_some_in_binding_plan;
-ghost use Prim.Native.Nat.{_*_, _≤_};
-ghost use lib.ListN.{take};
+ghost use Prim.Native.Nat.{_≤_};
 ghost use Rattle.table.specs.Tables.{tables};
 ghost use Rattle.planner.specs.Operations.{Answered};
+ghost use Rattle.teluddru.specs.Records.{held};
 ghost use Rattle.teluddru.specs.Outcome.{operationOutcome};
 
 fn plan_operation(
@@ -109,24 +110,22 @@ fn plan_operation(
     }
 }
 
-// The first `count` pairs of the words are the names.
 pub(crate) fn plan_words(
     nodes: &[u32],
     children: &[u32],
     numbers: &[u64],
-    words: &[u32; 258],
-    count: usize,
+    names: NameWords,
     strings: &[u8],
     text: &[u8],
     scope: Scope,
     operation: Operation,
     plan: &mut [u32],
 ) -> PlanAnswer
-    requires { ⌜ count ≤ 129 ⌝ }
-    ensures { λ r. ⌜ Answered (operationOutcome (tables (now (nodes .entry)) (now (children .entry)) (now (numbers .entry)) (take (count * 2) (now (words .entry))) (now (strings .entry)) (now (text .entry))) scope operation) (now (plan .entry)) (now (plan .exit)) r ⌝ }
+    requires { ⌜ names .count ≤ 129 ⌝ }
+    ensures { λ r. ⌜ Answered (operationOutcome (tables (now (nodes .entry)) (now (children .entry)) (now (numbers .entry)) (held names) (now (strings .entry)) (now (text .entry))) scope operation) (now (plan .entry)) (now (plan .exit)) r ⌝ }
 {
-    let all = &words[..];
-    let end = count * 2;
+    let all = &names.words[..];
+    let end = names.count * 2;
     plan_operation(
         nodes,
         children,

@@ -2,8 +2,14 @@
 use crate::Name;
 ghost use mathlib.Core.Path.{_≡_};
 ghost use Prim.Native.Nat.{_+_, _*_, _<_, min};
-ghost use lib.ListN.{length, set, take};
-ghost use Rattle.teluddru.specs.Records.{nameAt, nameWords, overwrite};
+ghost use lib.ListN.{length, set};
+ghost use Rattle.teluddru.specs.Records.{nameAt, Copied};
+
+// The first `count` pairs of the words are names.
+pub(crate) struct NameWords {
+    pub words: [u32; 258],
+    pub count: usize,
+}
 
 fn name_at(names: &[Name], i: usize) -> Name
     requires { ⌜ i < length (now names) ⌝ }
@@ -28,16 +34,17 @@ fn put_pair(words: &mut [u32; 258], i: usize, start: u32, length: u32)
     words[at + 1] = length;
 }
 
-// Start and length of each record that is copied. How many they are.
-pub(crate) fn copy_names(names: &[Name], words: &mut [u32; 258]) -> usize
-    ensures { λ r. ⌜ (r ≡ min 129 (length (now (names .entry)))) × (now (words .exit) ≡ overwrite (nameWords (take 129 (now (names .entry)))) (now (words .entry))) ⌝ }
+// Start and length of each record that is copied.
+pub(crate) fn copy_names(names: &[Name]) -> NameWords
+    ensures { λ r. ⌜ Copied (now (names .entry)) r ⌝ }
 {
+    let mut words = [0u32; 258];
     let count = copied_count(names.len());
     let mut i: usize = 0;
     while i < count {
         let name = name_at(names, i);
-        put_pair(&mut *words, i, name.start, name.length);
+        put_pair(&mut words, i, name.start, name.length);
         i += 1;
     }
-    count
+    NameWords { words, count }
 }
