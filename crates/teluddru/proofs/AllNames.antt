@@ -1,6 +1,6 @@
 -- What each call answers over the names that are copied, it answers over all.
 use Prim.Native.Nat.{ℕ, _/_, _<_}
-use mathlib.Core.Path.{_≡_, refl, sym, _∙_, ap, subst}
+use mathlib.Core.Path.{_≡_, sym, _∙_, ap, subst}
 use mathlib.Core.Bool.{Bool}
 use mathlib.Core.List.{List}
 use lib.ListN.{length}
@@ -12,14 +12,14 @@ use Rattle.table.specs.Tables.{Tables, tables}
 use Rattle.table.specs.Check.{checked}
 use Rattle.table.specs.Decode.{expr}
 use Rattle.planner.specs.declared.PlanAnswer.{PlanAnswer}
-use Rattle.planner.specs.declared.PlanAnswer.the-variants as Planned
+use Rattle.planner.specs.declared.PlanAnswer.the-variants as PlanAnswers
 use Rattle.planner.specs.Operations as Plan
 use Rattle.planner.specs.Operations.{Outcome, Answered}
 use Rattle.run.specs.declared.RunAnswer.{RunAnswer}
-use Rattle.run.specs.declared.RunAnswer.the-variants as Ran′
+use Rattle.run.specs.declared.RunAnswer.the-variants as RunAnswers
 use Rattle.run.specs.declared.ReportAnswer.{ReportAnswer}
-use Rattle.run.specs.declared.ReportAnswer.the-variants as Reported
-use Rattle.run.specs.Operations.{RunOutcome, refused, runOutcome, plannedName, Ran, runAnswer, planAfter, valuesAfter}
+use Rattle.run.specs.declared.ReportAnswer.the-variants as ReportAnswers
+use Rattle.run.specs.Operations.{RunOutcome, refused, runOutcome, plannedName, Ran, valuesAfter}
 use Rattle.run.specs.Report.{reportAnswer, reportList, ReportedBy}
 use Rattle.teluddru.specs.declared.Name.{Name}
 use Rattle.teluddru.specs.declared.Operation.{Operation}
@@ -30,7 +30,7 @@ use Rattle.teluddru.specs.Outcome.{operationOutcome}
 use Rattle.teluddru.proofs.Limits.{over-limit, as-all}
 
 -- ---- over the limit of names each call is refused
-plan-refused : (T : Tables) (s : Scope) (operation : Operation) → checked T s ≡ OverLimit → operationOutcome T s operation ≡ Plan.refused (Planned.TableRefused OverLimit)
+plan-refused : (T : Tables) (s : Scope) (operation : Operation) → checked T s ≡ OverLimit → operationOutcome T s operation ≡ Plan.refused (PlanAnswers.TableRefused OverLimit)
 unfolding operationOutcome
 plan-refused T s (Pattern scoping root) e = simp e
 plan-refused T s (ColonEquals left right) e = simp e
@@ -39,12 +39,11 @@ plan-refused T s (SomeIn value collection key) e = simp e
 plan-refused T s (Index root) e = simp e
 plan-refused T s (Parameter scoping root) e = simp e
 
-module _ (s : Scope) (mode : ScopingMode) (pattern : ℕ) where
-  run-refused : (T : Tables) (value : ℕ) (values : List ℕ) → checked T s ≡ OverLimit → runOutcome T s mode pattern value values ≡ refused (Ran′.TableRefused OverLimit)
-  run-refused T value values e = simp e
+run-refused : (T : Tables) (s : Scope) (mode : ScopingMode) (pattern value : ℕ) (values : List ℕ) → checked T s ≡ OverLimit → runOutcome T s mode pattern value values ≡ refused (RunAnswers.TableRefused OverLimit)
+run-refused T s mode pattern value values e = simp e
 
-  report-refused : (T : Tables) (list : List ℕ) → checked T s ≡ OverLimit → reportAnswer T s pattern list ≡ Reported.TableRefused OverLimit
-  report-refused T list e = simp e
+report-refused : (T : Tables) (s : Scope) (pattern : ℕ) (list : List ℕ) → checked T s ≡ OverLimit → reportAnswer T s pattern list ≡ ReportAnswers.TableRefused OverLimit
+report-refused T s pattern list e = simp e
 
 -- a refused run sets no name
 sets-none : (names names′ : ℕ → Bool) {a : RunAnswer} {values buffer valuesExit bufferExit : List ℕ} {r : RunAnswer}
@@ -67,27 +66,29 @@ module _ (nodes children numbers strings text : List ℕ) (s : Scope) where
       ns names copied
 
   module _ (mode : ScopingMode) (pattern : ℕ) where
-    abbrev set : List ℕ → ℕ → Bool
-    set ws = plannedName (isUnbound s mode) (expr (over ws) pattern)
+    abbrev toSet : List ℕ → ℕ → Bool
+    toSet ws = plannedName (isUnbound s mode) (expr (over ws) pattern)
+
+    abbrev outcome : ℕ → List ℕ → List ℕ → RunOutcome
+    outcome value values ws = runOutcome (over ws) s mode pattern value values
 
     pub run-all : (value : ℕ) (ns : List Name) (names : NameWords) → Copied ns names → {values buffer valuesExit bufferExit : List ℕ} {r : RunAnswer}
-        → Ran (set (held names)) (runOutcome (over (held names)) s mode pattern value values) values buffer valuesExit bufferExit r
-        → Ran (set (nameWords ns)) (runOutcome (over (nameWords ns)) s mode pattern value values) values buffer valuesExit bufferExit r
+        → Ran (toSet (held names)) (outcome value values (held names)) values buffer valuesExit bufferExit r → Ran (toSet (nameWords ns)) (outcome value values (nameWords ns)) values buffer valuesExit bufferExit r
     run-all value ns names copied {values} {buffer} {valuesExit} {bufferExit} {r} =
-        as-all (λ ws. Ran (set ws) (runOutcome (over ws) s mode pattern value values) values buffer valuesExit bufferExit r)
-        (λ ws ws′ l l′ ran. subst (λ (o : RunOutcome). Ran (set ws′) o values buffer valuesExit bufferExit r) (sym (run-refused s mode pattern (over ws′) value values (too-many ws′ l′)))
-        (sets-none (set ws) (set ws′) (subst (λ (o : RunOutcome). Ran (set ws) o values buffer valuesExit bufferExit r) (run-refused s mode pattern (over ws) value values (too-many ws l)) ran)))
+        as-all (λ ws. Ran (toSet ws) (outcome value values ws) values buffer valuesExit bufferExit r)
+        (λ ws ws′ l l′ ran. subst (λ (o : RunOutcome). Ran (toSet ws′) o values buffer valuesExit bufferExit r) (sym (run-refused (over ws′) s mode pattern value values (too-many ws′ l′)))
+        (sets-none (toSet ws) (toSet ws′) (subst (λ (o : RunOutcome). Ran (toSet ws) o values buffer valuesExit bufferExit r) (run-refused (over ws) s mode pattern value values (too-many ws l)) ran)))
         ns names copied
-
-    report-swap : (ws ws′ : List ℕ) → 128 < length ws / 2 → 128 < length ws′ / 2 → {before later : List ℕ} {r : ReportAnswer} → ReportedBy (over ws) s mode pattern before later r → ReportedBy (over ws′) s mode pattern before later r
-    report-swap ws ws′ l l′ {before} {later} {r} by =
-        let e = report-refused s mode pattern (over ws) before (too-many ws l) in
-        let e′ = report-refused s mode pattern (over ws′) before (too-many ws′ l′) in
-        record {
-          answer = by .answer ∙ e ∙ sym e′;
-          list = by .list ∙ ap (λ (a : ReportAnswer). reportList a (over ws) s mode pattern before) e ∙ sym (ap (λ (a : ReportAnswer). reportList a (over ws′) s mode pattern before) e′);
-        }
 
     pub report-all : (ns : List Name) (names : NameWords) → Copied ns names → {before later : List ℕ} {r : ReportAnswer}
         → ReportedBy (over (held names)) s mode pattern before later r → ReportedBy (over (nameWords ns)) s mode pattern before later r
-    report-all ns names copied {before} {later} {r} = as-all (λ ws. ReportedBy (over ws) s mode pattern before later r) (λ ws ws′ l l′. report-swap ws ws′ l l′) ns names copied
+    report-all ns names copied {before} {later} {r} =
+        as-all (λ ws. ReportedBy (over ws) s mode pattern before later r)
+        (λ ws ws′ l l′ by.
+        let e = report-refused (over ws) s pattern before (too-many ws l) in
+        let e′ = report-refused (over ws′) s pattern before (too-many ws′ l′) in
+        record {
+          answer = by .answer ∙ e ∙ sym e′;
+          list = by .list ∙ ap (λ (a : ReportAnswer). reportList a (over ws) s mode pattern before) e ∙ sym (ap (λ (a : ReportAnswer). reportList a (over ws′) s mode pattern before) e′);
+        })
+        ns names copied

@@ -7,21 +7,20 @@ use native.Mathlib.Nat.{not-suc-le-zero}
 use lib.ListN.{length, set, take, length-take}
 use lib.Seq.{length-take-le}
 use Rattle.teluddru.specs.declared.Name.{Name}
-use Rattle.teluddru.specs.declared.records.NameWords.{NameWords}
 use Rattle.teluddru.specs.Records.{nameWords, nameAt, Copied}
 
--- xs in place of the first words, as far as there are words
-pub overwrite : List ℕ → List ℕ → List ℕ
-overwrite [] ws = ws
-overwrite (x ∷ xs) [] = []
-overwrite (x ∷ xs) (w ∷ ws) = x ∷ overwrite xs ws
-
 -- how many are copied
-pub count-small : (n : ℕ) → min 129 n ≤ 129
+count-small : (n : ℕ) → min 129 n ≤ 129
 count-small n = omega arith
 
 pub count-fits : (n : ℕ) → min 129 n < 2 ^ 64
 count-fits n = omega arith
+
+-- xs in place of the first words, as far as there are words
+overwrite : List ℕ → List ℕ → List ℕ
+overwrite [] ws = ws
+overwrite (x ∷ xs) [] = []
+overwrite (x ∷ xs) (w ∷ ws) = x ∷ overwrite xs ws
 
 -- the words after k records
 pub after : ℕ → List Name → List ℕ → List ℕ
@@ -36,7 +35,7 @@ take-min zero ns = refl
 take-min (suc k) [] = refl
 take-min (suc k) (n ∷ ns) = ap (λ (l : List Name). n ∷ l) (take-min k ns)
 
-pub after-all : (k : ℕ) (ns : List Name) (ws : List ℕ) → after (min k (length ns)) ns ws ≡ overwrite (nameWords (take k ns)) ws
+after-all : (k : ℕ) (ns : List Name) (ws : List ℕ) → after (min k (length ns)) ns ws ≡ overwrite (nameWords (take k ns)) ws
 unfolding after
 after-all k ns ws = ap (λ (l : List Name). overwrite (nameWords l) ws) (ap (λ (m : ℕ). take m ns) (sym (length-take k ns)) ∙ take-min k ns)
 
@@ -67,7 +66,7 @@ words-length [] = refl
 words-length (n ∷ ns) = let e = words-length ns in omega (arith, e)
 
 -- what was written stands first
-pub first-words : (xs ws : List ℕ) → length xs ≤ length ws → take (length xs) (overwrite xs ws) ≡ xs
+first-words : (xs ws : List ℕ) → length xs ≤ length ws → take (length xs) (overwrite xs ws) ≡ xs
 unfolding overwrite
 first-words [] ws l = refl
 first-words (x ∷ xs) [] l = absurd (not-suc-le-zero l)
@@ -77,6 +76,7 @@ first-words (x ∷ xs) (w ∷ ws) l = ap (λ (l′ : List ℕ). x ∷ l′) (fir
 pub part-count : (count : ℕ) (words : List ℕ) → count ≤ 129 → 258 ≡ length words → count * 2 ≡ length (take (count * 2) words)
 part-count count words l e = sym (length-take-le (count * 2) words (omega (arith, l, e)))
 
+-- what `copy_names` returns
 pub all-copied : (ns : List Name) (ws : List ℕ) → length ws ≡ 258 → Copied ns (record { words = after (min 129 (length ns)) ns ws; count = min 129 (length ns) })
 all-copied ns ws z =
     let t = length-take 129 ns in

@@ -22,7 +22,7 @@ nameAt names i = getD names i none
 abbrev pub held : NameWords → List ℕ
 held names = take (names .count * 2) (names .words)
 
--- as many records as 129, one more than the limit of names
+-- the first 129 records, one more than the limit of names
 pub record Copied (records : List Name) (names : NameWords) : Type 0 where
   pub few : names .count ≤ 129
   pub same : held names ≡ nameWords (take 129 records)

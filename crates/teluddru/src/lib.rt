@@ -1,11 +1,12 @@
 // The library's calls for a caller in Rattle: names are a lent table of records.
 mod operations;
 mod records;
+mod reports;
 mod runs;
 
 use crate::operations::plan_words;
 use crate::records::copy_names;
-use crate::runs::report_words;
+use crate::reports::report_words;
 use crate::runs::run_words;
 use planner::PlanAnswer;
 use run::ReportAnswer;

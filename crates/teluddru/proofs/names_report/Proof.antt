@@ -50,10 +50,10 @@ use Rattle.teluddru.proofs.Passing.{CopyNames, said-of-all, lftsOn, sha
 use Rattle.teluddru.proofs.records.copy_names.Symbol as copy-names-def
 use Rattle.teluddru.proofs.records.copy_names.Symbol.{name as #copy-names}
 use Rattle.teluddru.proofs.records.copy_names.Met as copy-names-thm
-use Rattle.teluddru.proofs.runs.report_words as report-words
-use Rattle.teluddru.proofs.runs.report_words.Symbol as report-words-def
-use Rattle.teluddru.proofs.runs.report_words.Symbol.{name as #report-words}
-use Rattle.teluddru.proofs.runs.report_words.Met as report-words-thm
+use Rattle.teluddru.proofs.reports.report_words as report-words
+use Rattle.teluddru.proofs.reports.report_words.Symbol as report-words-def
+use Rattle.teluddru.proofs.reports.report_words.Symbol.{name as #report-words}
+use Rattle.teluddru.proofs.reports.report_words.Met as report-words-thm
 use Rattle.teluddru.proofs.names_report.Key.{name as #names-report}
 use Rattle.teluddru.proofs.names_report as self
 use Rattle.teluddru.proofs.names_report.Statement as stated
@@ -142,4 +142,4 @@ names-report-spec 𝓤 H 𝓜 𝓖 𝓡 =
     entered 𝓤 H (NamesReport 𝓤 H (𝓖 .A) (𝓜 .mem) (𝓡 .run)) (code-tables 𝓤 H 𝓜 𝓡 code.env .C) (code-tables 𝓤 H 𝓜 𝓡 code.env .Λ) #names-report code.function (code.unfolded 𝓤 H 𝓜 𝓡)
     (meets 𝓤 H (𝓖 .A) (givenOf 𝓤 H 𝓜 𝓖) (𝓜 .mem) (𝓡 .run) (tablesOf 𝓤 H 𝓜 (code-tables 𝓤 H 𝓜 𝓡 code.env))
     (cited 𝓤 H (CopyNames 𝓤 H (𝓖 .A) (𝓜 .mem) (𝓡 .run)) 𝓜 𝓡 code.env #copy-names copy-names-def.routine code.calls-teluddru·records·copy-names (copy-names-thm.met 𝓤 H 𝓜 𝓖 𝓡))
-    (cited 𝓤 H (ReportWords 𝓤 H (𝓖 .A) (𝓜 .mem) (𝓡 .run)) 𝓜 𝓡 code.env #report-words report-words-def.routine code.calls-teluddru·runs·report-words (report-words-thm.met 𝓤 H 𝓜 𝓖 𝓡)))
+    (cited 𝓤 H (ReportWords 𝓤 H (𝓖 .A) (𝓜 .mem) (𝓡 .run)) 𝓜 𝓡 code.env #report-words report-words-def.routine code.calls-teluddru·reports·report-words (report-words-thm.met 𝓤 H 𝓜 𝓖 𝓡)))

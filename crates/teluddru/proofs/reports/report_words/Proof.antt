@@ -1,10 +1,10 @@
 use native.Mathlib.Omega.{arith}
 use Rattle.teluddru.proofs.Copying.{part-count}
 use borrow.Author.Needs.{needs}
-use Rattle.teluddru.proofs.runs.report_words.Statement.{statement}
-use Rattle.teluddru.proofs.runs.report_words.Tie as tie
-use Rattle.teluddru.proofs.runs.report_words.Reads as reads
-use Rattle.teluddru.proofs.runs.report_words.Lts as lts
+use Rattle.teluddru.proofs.reports.report_words.Statement.{statement}
+use Rattle.teluddru.proofs.reports.report_words.Tie as tie
+use Rattle.teluddru.proofs.reports.report_words.Reads as reads
+use Rattle.teluddru.proofs.reports.report_words.Lts as lts
 use Rattle.run.proofs.report.names_report.Reads as names-report-reads
 
 mul-end : tie.Need-mul-end
