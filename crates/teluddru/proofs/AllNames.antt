@@ -8,7 +8,7 @@ use Rattle.scope.specs.declared.Scope.{Scope}
 use Rattle.scope.specs.declared.ScopingMode.{ScopingMode}
 use Rattle.scope.specs.Scope.{isUnbound}
 use Rattle.table.specs.declared.TableAnswer.the-variants.{OverLimit}
-use Rattle.table.specs.Tables.{Tables, tables}
+use Rattle.table.specs.Tables.{Tables, nameCount}
 use Rattle.table.specs.Check.{checked}
 use Rattle.table.specs.Decode.{expr}
 use Rattle.planner.specs.declared.PlanAnswer.{PlanAnswer}
@@ -51,12 +51,10 @@ sets-none : (names names′ : ℕ → Bool) {a : RunAnswer} {values buffer value
 unfolding valuesAfter
 sets-none names names′ ran = record { answer = ran .answer; plan = ran .plan; list = ran .list }
 
-module _ (nodes children numbers strings text : List ℕ) (s : Scope) where
-  abbrev over : List ℕ → Tables
-  over names = tables nodes children numbers names strings text
-
+-- ---- tables over names
+module _ (over : List ℕ → Tables) (counts : (names : List ℕ) → nameCount (over names) ≡ length names / 2) (s : Scope) where
   too-many : (names : List ℕ) → 128 < length names / 2 → checked (over names) s ≡ OverLimit
-  too-many names l = over-limit (over names) s l
+  too-many names l = over-limit (over names) s (subst (λ (k : ℕ). 128 < k) (sym (counts names)) l)
 
   pub plan-all : (operation : Operation) (ns : List Name) (names : NameWords) → Copied ns names → {before later : List ℕ} {r : PlanAnswer}
       → Answered (operationOutcome (over (held names)) s operation) before later r → Answered (operationOutcome (over (nameWords ns)) s operation) before later r

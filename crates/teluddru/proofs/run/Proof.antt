@@ -8,20 +8,20 @@ use mir.Val.{Val}
 use base.Logic.{SProp, ent, emp, via, fst∗}
 use prog.Memory.{Memory}
 use prog.Routine.{Routine}
-use prog.Wp.{Heap, Calls, Loops, WpFn, Tables}
+use prog.Wp.{Heap, Calls, Loops, WpFn, Tables as CodeTables}
 use ghost.Atoms.{Atoms, sem}
 use contract.Lifetimes.{Lfts, Shares}
 use contract.Monad.{Fun}
 use contract.Running.{givenOf, tables as code-tables, tablesOf}
-use types.Kit.{Given, ‵, raw, given, _⊛_, some, later, _$_, _∵_, !, qed, move, keep, use1, use2, split, pick, learn, await, done}
+use types.Kit.{Given, raw, _$_, _∵_, !, qed, move, keep, done}
 use types.Part.{agg, whole, sub, look-in}
 use types.Run.{look, init, forget, stop, hop, fld, from, load, addr, and-then, no-more, assigns, land, returns, enter, alloc1, alloc0, params1, pass1, pass0, free1, free0}
 use sound.WpLaws.{FmC, fmOf}
-use denote.RattleType.{RattleType, flat}
-use denote.Laws.{Is, Ises, Are, Spells, valss, Tellss, Typed}
-use denote.Plain.{uint-vals, uint-tells}
+use denote.RattleType.{RattleType, mirs, flat}
+use denote.Laws.{Ises, Spells, valss, Tellss, Typed, Lawfuls}
+use denote.Plain.{uint-vals, uint-tells, uint-lawful}
 use denote.Builtin.{u32}
-use denote.Slice.{MutSlice, slice-vals, mut-slice-tells}
+use denote.Slice.{MutSlice, slice-vals, mut-slice-tells, mut-slice-lawful}
 use denote.Signature.{typesAt}
 use denote.Steps.{said}
 use denote.Struct.Laws as LL
@@ -29,26 +29,26 @@ use denote.Enum.Laws as EL
 use denote.Triple.Entry.{Args, Vals, onEntry}
 use denote.Triple.Spec.{Meets, tripleOf}
 use denote.Triple.Statement.{Contract, Triple}
-use denote.Triple.Call.{calls-at}
 use denote.Triple.Clauses.{Lasts, ensured, lasts}
 use denote.Triple.Table.{entered, cited}
+use Rattle.scope.specs.declared.Scope.{Scope}
+use Rattle.scope.specs.declared.ScopingMode.{ScopingMode}
 use Rattle.scope.specs.Scope.{isUnbound}
-use Rattle.scope.proofs.Scope as S
-use Rattle.scope.proofs.Scope.Laws as S′
 use Rattle.scope.proofs.ScopingMode as Mode
 use Rattle.scope.proofs.ScopingMode.Laws as Mode′
-use Rattle.table.specs.Tables.{tables}
+use Rattle.table.specs.Tables.{Tables}
 use Rattle.table.specs.Decode.{expr}
 use Rattle.run.specs.declared.RunAnswer.{RunAnswer}
 use Rattle.run.specs.Operations.{runOutcome, plannedName, Ran}
 use Rattle.run.proofs.RunAnswer as P
 use Rattle.run.proofs.RunAnswer.Laws as P′
+use Rattle.teluddru.specs.declared.Name.{Name}
 use Rattle.teluddru.specs.declared.records.NameWords.{NameWords}
 use Rattle.teluddru.specs.Records.{nameWords, held, Copied}
 use Rattle.teluddru.proofs.records.NameWords as N
 use Rattle.teluddru.proofs.records.NameWords.Laws as N′
 use Rattle.teluddru.proofs.AllNames.{run-all}
-use Rattle.teluddru.proofs.Passing.{CopyNames, said-of-all, lftsOn, sharesOn, argsOn, valsOn, spelled, tell, to-copy, Token, Kept, parts, copied, hands-on, returned}
+use Rattle.teluddru.proofs.Passing.{CopyNames, said-of-all, lftsOn, sharesOn, argsOn, valsOn, over, records, scopeOf, spelled, tell, fitting, copies, hands}
 use Rattle.teluddru.proofs.records.copy_names.Symbol as copy-names-def
 use Rattle.teluddru.proofs.records.copy_names.Symbol.{name as #copy-names}
 use Rattle.teluddru.proofs.records.copy_names.Met as copy-names-thm
@@ -71,6 +71,9 @@ spells κs = (EL.vals Mode.the-type Mode′.the-laws, (uint-vals w32, (uint-vals
 told-by : (κs : Lfts 8) → Tellss (Ts κs) (Ises (Ts κs)) (spells κs)
 told-by κs = (EL.tells Mode.the-type Mode′.the-laws, (uint-tells w32, (uint-tells w32, (mut-slice-tells (named 6) (κs .1 .1 .1 .1 .1 .1 .0) u32, (mut-slice-tells (named 7) (κs .1 .1 .1 .1 .1 .1 .1 .0) u32, tt)))))
 
+laws : {M : Type 1} (𝓤 : URA M) (H : Heap 𝓤) (A : Atoms 𝓤) → Given 𝓤 H A → (κs : Lfts 8) → Lawfuls 𝓤 H A (Ts κs)
+laws 𝓤 H A W κs = (EL.lawful Mode.the-type Mode′.the-laws 𝓤 H A W tt, (uint-lawful 𝓤 H A W w32, (uint-lawful 𝓤 H A W w32, (mut-slice-lawful 𝓤 H A W (named 6) (κs .1 .1 .1 .1 .1 .1 .0) u32, (mut-slice-lawful 𝓤 H A W (named 7) (κs .1 .1 .1 .1 .1 .1 .1 .0) u32, tt)))))
+
 module _ {M : Type 1} (𝓤 : URA M) (H : Heap 𝓤) (A : Atoms 𝓤) (mem : Memory → SProp 𝓤) (run : Routine → Fun 𝓤) where
   abbrev Run : Contract 𝓤
   Run = tripleOf 𝓤 H A self.signature (self.spec 𝓤 H A mem run)
@@ -85,12 +88,34 @@ module _ {M : Type 1} (𝓤 : URA M) (H : Heap 𝓤) (A : Atoms 𝓤) (W : Given
   abbrev Post : Val → SProp 𝓤
   Post = Run 𝓤 H A mem run .post ((κs, qs, tt, a, vs), tt)
 
-  abbrev answered : List ℕ → Lasts self.ended κs a → RunAnswer → Type 0
-  answered names ws =
-      Ran (plannedName (isUnbound (a .1 .1 .1 .1 .1 .1 .0) (a .1 .1 .1 .1 .1 .1 .1 .0)) (expr (tables (a .0 .now) (a .1 .0 .now) (a .1 .1 .0 .now) names (a .1 .1 .1 .1 .0 .now) (a .1 .1 .1 .1 .1 .0 .now)) (a .1 .1 .1 .1 .1 .1 .1 .1 .0))) (runOutcome (tables (a .0 .now) (a .1 .0 .now) (a .1 .1 .0 .now) names (a .1 .1 .1 .1 .0 .now) (a .1 .1 .1 .1 .1 .0 .now)) (a .1 .1 .1 .1 .1 .1 .0) (a .1 .1 .1 .1 .1 .1 .1 .0) (a .1 .1 .1 .1 .1 .1 .1 .1 .0) (a .1 .1 .1 .1 .1 .1 .1 .1 .1 .0) (a .1 .1 .1 .1 .1 .1 .1 .1 .1 .1 .0 .now))
-      (a .1 .1 .1 .1 .1 .1 .1 .1 .1 .1 .0 .now) (a .1 .1 .1 .1 .1 .1 .1 .1 .1 .1 .1 .0 .now) (ws .1 .1 .1 .1 .1 .1 .1 .1 .1 .1 .0) (ws .1 .1 .1 .1 .1 .1 .1 .1 .1 .1 .1 .0)
+  abbrev tables : List ℕ → Tables
+  tables = over 2 κs (Ts κs) a
 
-  module _ (r : NameWords) (v : Val) (c : Copied (a .1 .1 .1 .0 .now) r) where
+  abbrev ns : List Name
+  ns = records 2 κs (Ts κs) a
+
+  abbrev scope : Scope
+  scope = scopeOf 2 κs (Ts κs) a
+
+  abbrev scoping : ScopingMode
+  scoping = a .1 .1 .1 .1 .1 .1 .1 .0
+
+  abbrev pattern : ℕ
+  pattern = a .1 .1 .1 .1 .1 .1 .1 .1 .0
+
+  abbrev value : ℕ
+  value = a .1 .1 .1 .1 .1 .1 .1 .1 .1 .0
+
+  abbrev values : List ℕ
+  values = a .1 .1 .1 .1 .1 .1 .1 .1 .1 .1 .0 .now
+
+  abbrev plan : List ℕ
+  plan = a .1 .1 .1 .1 .1 .1 .1 .1 .1 .1 .1 .0 .now
+
+  abbrev answered : List ℕ → Lasts self.ended κs a → RunAnswer → Type 0
+  answered names ws = Ran (plannedName (isUnbound scope scoping) (expr (tables names) pattern)) (runOutcome (tables names) scope scoping pattern value values) values plan (ws .1 .1 .1 .1 .1 .1 .1 .1 .1 .1 .0) (ws .1 .1 .1 .1 .1 .1 .1 .1 .1 .1 .1 .0)
+
+  module _ (r : NameWords) (v : Val) (c : Copied ns r) where
     abbrev to-words : RunWords 𝓤 H A mem run .Ghost
     to-words = ((lftsOn 2 κs (Ts κs), sharesOn 2 κs (Ts κs) qs, tt, argsOn 2 κs (Ts κs) a r, valsOn 2 κs (Ts κs) vs v), tt)
 
@@ -101,47 +126,41 @@ module _ {M : Type 1} (𝓤 : URA M) (H : Heap 𝓤) (A : Atoms 𝓤) (W : Given
     Told = ensured 𝓤 H A self.ended (self.clauses 𝓤 H A mem run) κs a tt
 
     tells : (x : RunAnswer) → ent 𝓤 (Said x) (Told x)
-    tells x = said-of-all 𝓤 (λ (ws : Lasts self.ended κs a). sem 𝓤 H A (lasts self.ended κs a ws)) (λ ws. answered (held r) ws x) (λ ws. answered (nameWords (a .1 .1 .1 .0 .now)) ws x)
-        (λ ws. run-all (a .0 .now) (a .1 .0 .now) (a .1 .1 .0 .now) (a .1 .1 .1 .1 .0 .now) (a .1 .1 .1 .1 .1 .0 .now) (a .1 .1 .1 .1 .1 .1 .0) (a .1 .1 .1 .1 .1 .1 .1 .0) (a .1 .1 .1 .1 .1 .1 .1 .1 .0) (a .1 .1 .1 .1 .1 .1 .1 .1 .1 .0) (a .1 .1 .1 .0 .now) r c)
+    tells x = said-of-all 𝓤 (λ (ws : Lasts self.ended κs a). sem 𝓤 H A (lasts self.ended κs a ws)) (λ ws. answered (held r) ws x) (λ ws. answered (nameWords ns) ws x)
+        (λ ws. run-all tables (λ names. refl) scope scoping pattern value ns r c)
 
   module _ (C : Calls 𝓤 H) (Λ : Loops 𝓤 H) (fm : FmC 𝓤 H (W .laws) C) (known-copy : Triple 𝓤 (C #copy-names) (CopyNames 𝓤 H A mem run)) (known-words : Triple 𝓤 (C #run-words) (RunWords 𝓤 H A mem run)) where
-    walk : Are (typesAt (self.signature .params) κs) (Ises (typesAt (self.signature .params) κs)) a vs → ent 𝓤 (onEntry 𝓤 H A self.signature κs qs a vs) (WpFn 𝓤 H C Λ code.function (flat (typesAt (self.signature .params) κs) vs) Post)
-    walk are =
+    walk : Typed (mirs (typesAt (self.signature .params) κs)) (flat (typesAt (self.signature .params) κs) vs) → ent 𝓤 (onEntry 𝓤 H A self.signature κs qs a vs) (WpFn 𝓤 H C Λ code.function (flat (typesAt (self.signature .params) κs) vs) Post)
+    walk fits =
         qed W (raw (onEntry 𝓤 H A self.signature κs qs a vs) ∷ []) ∵ enter ! C Λ code.function (flat (typesAt (self.signature .params) κs) vs) _ $
         alloc1 ! (λ l₀. alloc1 ! (λ l₁. alloc1 ! (λ l₂. alloc1 ! (λ l₃. alloc1 ! (λ l₄. alloc1 ! (λ l₅. alloc1 ! (λ l₆. alloc1 ! (λ l₇. alloc1 ! (λ l₈. alloc1 ! (λ l₉. alloc1 ! (λ l₁₀. alloc1 ! (λ l₁₁. alloc1 ! (λ l₁₂. alloc1 ! (λ l₁₃. alloc1 ! (λ l₁₄. alloc1 ! (λ l₁₅. alloc1 ! (λ l₁₆. alloc1 ! (λ l₁₇. alloc0 ! $ params1 ! $
-        pass1 ! (init ! 32 refl (tt, (tt, (record { fits = are .0 .0 .1 .0 }, tt)))) $ pass1 ! (init ! 30 refl (tt, (tt, (record { fits = are .1 .0 .0 .1 .0 }, tt)))) $ pass1 ! (init ! 28 refl (tt, (tt, (record { fits = are .1 .1 .0 .0 .1 .0 }, tt)))) $
-        pass1 ! (init ! 26 refl (tt, (tt, (record { fits = are .1 .1 .1 .0 .0 .1 .0 }, tt)))) $ pass1 ! (init ! 24 refl (tt, (tt, (record { fits = are .1 .1 .1 .1 .0 .0 .1 .0 }, tt)))) $ pass1 ! (init ! 22 refl (tt, (tt, (record { fits = are .1 .1 .1 .1 .1 .0 .0 .1 .0 }, tt)))) $
-        pass1 ! (init ! 20 refl (LL.lawful S.the-type S′.the-laws 𝓤 H A W .typed (a .1 .1 .1 .1 .1 .1 .0) _ (are .1 .1 .1 .1 .1 .1 .0) .0)) $ pass1 ! (init ! 18 refl (EL.lawful Mode.the-type Mode′.the-laws 𝓤 H A W tt .typed (a .1 .1 .1 .1 .1 .1 .1 .0) _ (are .1 .1 .1 .1 .1 .1 .1 .0) .0)) $ pass1 ! (init ! 16 refl (tt, record { fits = are .1 .1 .1 .1 .1 .1 .1 .1 .0 .1 })) $ pass1 ! (init ! 14 refl (tt, record { fits = are .1 .1 .1 .1 .1 .1 .1 .1 .1 .0 .1 })) $ pass1 ! (init ! 12 refl (tt, (tt, (record { fits = are .1 .1 .1 .1 .1 .1 .1 .1 .1 .1 .0 .0 .1 .0 }, tt)))) $ pass1 ! (init ! 10 refl (tt, (tt, (record { fits = are .1 .1 .1 .1 .1 .1 .1 .1 .1 .1 .1 .0 .0 .1 .0 }, tt)))) $ pass0 ! $
+        pass1 ! (init ! 32 refl (fits .0)) $ pass1 ! (init ! 30 refl (fits .1 .0)) $ pass1 ! (init ! 28 refl (fits .1 .1 .0)) $ pass1 ! (init ! 26 refl (fits .1 .1 .1 .0)) $ pass1 ! (init ! 24 refl (fits .1 .1 .1 .1 .0)) $ pass1 ! (init ! 22 refl (fits .1 .1 .1 .1 .1 .0)) $
+        pass1 ! (init ! 20 refl (fits .1 .1 .1 .1 .1 .1 .0)) $ pass1 ! (init ! 18 refl (fits .1 .1 .1 .1 .1 .1 .1 .0)) $ pass1 ! (init ! 16 refl (fits .1 .1 .1 .1 .1 .1 .1 .1 .0)) $ pass1 ! (init ! 14 refl (fits .1 .1 .1 .1 .1 .1 .1 .1 .1 .0)) $ pass1 ! (init ! 12 refl (fits .1 .1 .1 .1 .1 .1 .1 .1 .1 .1 .0)) $ pass1 ! (init ! 10 refl (fits .1 .1 .1 .1 .1 .1 .1 .1 .1 .1 .1 .0)) $ pass0 ! $
         -- [_17; …; _16; …; … ; _0; …; what there is on entry]
-        move ! (36 ∷ []) $ use1 W (raw (CopyNames 𝓤 H A mem run .pre (to-copy 𝓤 H A W mem run 2 κs qs (Ts κs) a vs)) ⊛ Kept 𝓤 H A W mem run 2 κs qs (Ts κs) a vs) (parts 𝓤 H A W mem run 2 κs qs (Ts κs) a vs) $ split ! $
-        -- [pre; what is kept; _17; …; _16; …; … ; _0; …]
-        calls-at ! fm (CopyNames 𝓤 H A mem run) known-copy (to-copy 𝓤 H A W mem run 2 κs qs (Ts κs) a vs) (and-then ! (load ! (from ! (stop !)) (look ! 28 refl)) (no-more !)) (λ v.
-        use1 W (later (some (λ (r : NameWords). given (Copied (a .1 .1 .1 .0 .now) r × Is N.the-row r (v ∷ [])) (‵ (Token 𝓤 H A W mem run 2 κs qs (Ts κs) a vs))))) (copied 𝓤 H A W mem run 2 κs qs (Ts κs) a vs v) $ await ! tt $ pick ! (λ r. learn ! (λ e.
-        land ! (from ! (stop !)) (init ! 10 refl (LL.lawful N.the-type N′.the-laws 𝓤 H A W .typed r _ (e .1) .0)) $
+        move ! (36 ∷ []) $ copies 𝓤 H A W mem run 2 κs qs (Ts κs) a vs ! fm known-copy (and-then ! (load ! (from ! (stop !)) (look ! 28 refl)) (no-more !)) (λ v r c is.
+        -- [names' token; what is kept; _17; …; _16; …; … ; _0; …]
+        land ! (from ! (stop !)) (init ! 10 refl (LL.lawful N.the-type N′.the-laws 𝓤 H A W .typed r _ is .0)) $
         -- values, lent again
         assigns ! (addr ! (from ! (fld ! refl (hop ! (look-in ! 14 (sub ! 0 refl (whole !))) (stop !))))) (from ! (stop !)) (init ! 8 refl (tt, tt)) $
-        assigns ! (agg ! (and-then ! (load ! (from ! (stop !)) (look ! 8 refl)) (and-then ! (load ! (from ! (fld ! refl (stop !))) (look-in ! 14 (sub ! 1 refl (whole !)))) (no-more !)))) (from ! (stop !)) (init ! 6 refl (tt, (tt, (record { fits = are .1 .1 .1 .1 .1 .1 .1 .1 .1 .1 .0 .0 .1 .0 }, tt)))) $
+        assigns ! (agg ! (and-then ! (load ! (from ! (stop !)) (look ! 8 refl)) (and-then ! (load ! (from ! (fld ! refl (stop !))) (look-in ! 14 (sub ! 1 refl (whole !)))) (no-more !)))) (from ! (stop !)) (init ! 6 refl (fits .1 .1 .1 .1 .1 .1 .1 .1 .1 .1 .0)) $
         -- plan, lent again
         assigns ! (addr ! (from ! (fld ! refl (hop ! (look-in ! 12 (sub ! 0 refl (whole !))) (stop !))))) (from ! (stop !)) (init ! 4 refl (tt, tt)) $
-        assigns ! (agg ! (and-then ! (load ! (from ! (stop !)) (look ! 4 refl)) (and-then ! (load ! (from ! (fld ! refl (stop !))) (look-in ! 12 (sub ! 1 refl (whole !)))) (no-more !)))) (from ! (stop !)) (init ! 2 refl (tt, (tt, (record { fits = are .1 .1 .1 .1 .1 .1 .1 .1 .1 .1 .1 .0 .0 .1 .0 }, tt)))) $
-        move ! (1 ∷ []) $ use1 W (raw (RunWords 𝓤 H A mem run .pre (to-words r v (e .0)))) (hands-on 𝓤 H A W mem run 2 κs qs (Ts κs) a vs r v (e .0) (e .1)) $
-        -- [pre; names' token; _17; …; _16; …; … ; _0; …]
-        calls-at ! fm (RunWords 𝓤 H A mem run) known-words (to-words r v (e .0))
-        (and-then ! (load ! (from ! (stop !)) (look ! 34 refl)) (and-then ! (load ! (from ! (stop !)) (look ! 32 refl)) (and-then ! (load ! (from ! (stop !)) (look ! 30 refl)) (and-then ! (load ! (from ! (stop !)) (look ! 10 refl)) (and-then ! (load ! (from ! (stop !)) (look ! 26 refl)) (and-then ! (load ! (from ! (stop !)) (look ! 24 refl)) (and-then ! (load ! (from ! (stop !)) (look ! 22 refl)) (and-then ! (load ! (from ! (stop !)) (look ! 20 refl)) (and-then ! (load ! (from ! (stop !)) (look ! 18 refl)) (and-then ! (load ! (from ! (stop !)) (look ! 16 refl)) (and-then ! (load ! (from ! (stop !)) (look ! 6 refl)) (and-then ! (load ! (from ! (stop !)) (look ! 2 refl)) (no-more !))))))))))))) (λ v′.
-        use2 W (later (given (Typed (P.the-row .mir) (v′ ∷ [])) (raw (Post v′)))) (returned 𝓤 H A W mem run 2 κs qs (Ts κs) a vs P.the-row (EL.lawful P.the-type P′.the-laws 𝓤 H A W tt .typed) (Said r v (e .0)) (Told r v (e .0)) (tells r v (e .0)) v′) $ await ! tt $ learn ! (λ fits.
+        assigns ! (agg ! (and-then ! (load ! (from ! (stop !)) (look ! 4 refl)) (and-then ! (load ! (from ! (fld ! refl (stop !))) (look-in ! 12 (sub ! 1 refl (whole !)))) (no-more !)))) (from ! (stop !)) (init ! 2 refl (fits .1 .1 .1 .1 .1 .1 .1 .1 .1 .1 .1 .0)) $
+        hands 𝓤 H A W mem run 2 κs qs (Ts κs) a vs P.the-row (EL.lawful P.the-type P′.the-laws 𝓤 H A W tt .typed) (Said r v c) (Told r v c) (tells r v c) ! fm r v c is (known-words (to-words r v c))
+        (and-then ! (load ! (from ! (stop !)) (look ! 34 refl)) (and-then ! (load ! (from ! (stop !)) (look ! 32 refl)) (and-then ! (load ! (from ! (stop !)) (look ! 30 refl)) (and-then ! (load ! (from ! (stop !)) (look ! 10 refl)) (and-then ! (load ! (from ! (stop !)) (look ! 26 refl)) (and-then ! (load ! (from ! (stop !)) (look ! 24 refl)) (and-then ! (load ! (from ! (stop !)) (look ! 22 refl)) (and-then ! (load ! (from ! (stop !)) (look ! 20 refl)) (and-then ! (load ! (from ! (stop !)) (look ! 18 refl)) (and-then ! (load ! (from ! (stop !)) (look ! 16 refl)) (and-then ! (load ! (from ! (stop !)) (look ! 6 refl)) (and-then ! (load ! (from ! (stop !)) (look ! 2 refl)) (no-more !))))))))))))) (λ v′ fits′.
         -- [what is returned; _17; …; _16; …; … ; _0; …]
-        land ! (from ! (stop !)) (init ! 35 refl (fits .0)) $ returns ! (look ! 35 refl) $
+        land ! (from ! (stop !)) (init ! 35 refl (fits′ .0)) $ returns ! (look ! 35 refl) $
         forget ! 1 refl $ forget ! 3 refl $ forget ! 5 refl $ forget ! 7 refl $ forget ! 9 refl $ forget ! 11 refl $ forget ! 13 refl $ forget ! 15 refl $ forget ! 17 refl $ forget ! 19 refl $ forget ! 21 refl $ forget ! 23 refl $ forget ! 25 refl $ forget ! 27 refl $ forget ! 29 refl $ forget ! 31 refl $ forget ! 33 refl $ forget ! 35 refl $
         keep ! (35 ∷ 36 ∷ 33 ∷ 34 ∷ 31 ∷ 32 ∷ 29 ∷ 30 ∷ 27 ∷ 28 ∷ 25 ∷ 26 ∷ 23 ∷ 24 ∷ 21 ∷ 22 ∷ 19 ∷ 20 ∷ 17 ∷ 18 ∷ 15 ∷ 16 ∷ 13 ∷ 14 ∷ 11 ∷ 12 ∷ 9 ∷ 10 ∷ 7 ∷ 8 ∷ 5 ∷ 6 ∷ 3 ∷ 4 ∷ 1 ∷ 2 ∷ 0 ∷ []) $
-        free1 ! $ free1 ! $ free1 ! $ free1 ! $ free1 ! $ free1 ! $ free1 ! $ free1 ! $ free1 ! $ free1 ! $ free1 ! $ free1 ! $ free1 ! $ free1 ! $ free1 ! $ free1 ! $ free1 ! $ free1 ! $ free0 ! $ done !)))))))))))))))))))))))
+        free1 ! $ free1 ! $ free1 ! $ free1 ! $ free1 ! $ free1 ! $ free1 ! $ free1 ! $ free1 ! $ free1 ! $ free1 ! $ free1 ! $ free1 ! $ free1 ! $ free1 ! $ free1 ! $ free1 ! $ free1 ! $ free0 ! $ done !))))))))))))))))))))
 
-module _ {M : Type 1} (𝓤 : URA M) (H : Heap 𝓤) (A : Atoms 𝓤) (W : Given 𝓤 H A) (mem : Memory → SProp 𝓤) (run : Routine → Fun 𝓤) (𝓣 : Tables 𝓤 H)
+module _ {M : Type 1} (𝓤 : URA M) (H : Heap 𝓤) (A : Atoms 𝓤) (W : Given 𝓤 H A) (mem : Memory → SProp 𝓤) (run : Routine → Fun 𝓤) (𝓣 : CodeTables 𝓤 H)
     (known-copy : Triple 𝓤 (𝓣 .C #copy-names) (CopyNames 𝓤 H A mem run)) (known-words : Triple 𝓤 (𝓣 .C #run-words) (RunWords 𝓤 H A mem run)) where
   meets : Meets 𝓤 H A self.signature (WpFn 𝓤 H (𝓣 .C) (𝓣 .Λ) code.function) (self.spec 𝓤 H A mem run)
   meets y = via 𝓤 _ (fst∗ 𝓤 _ (emp 𝓤))
       (said 𝓤 H A self.signature (y .0 .0) (y .0 .1) (spelled 2 (y .0 .0) (Ts (y .0 .0)) (spells (y .0 .0))) (tell 2 (y .0 .0) (Ts (y .0 .0)) (spells (y .0 .0)) (told-by (y .0 .0))) (y .0 .3)
       (λ us. WpFn 𝓤 H (𝓣 .C) (𝓣 .Λ) code.function (flat (typesAt (self.signature .params) (y .0 .0)) us) (Run 𝓤 H A mem run .post y)) (y .0 .4)
-      (walk 𝓤 H A W mem run (y .0 .0) (y .0 .1) (y .0 .3) (𝓣 .C) (𝓣 .Λ) (fmOf 𝓤 H (W .laws) 𝓣) known-copy known-words))
+      (λ are. walk 𝓤 H A W mem run (y .0 .0) (y .0 .1) (y .0 .3) (𝓣 .C) (𝓣 .Λ) (fmOf 𝓤 H (W .laws) 𝓣) known-copy known-words (fitting 𝓤 H A W 2 (y .0 .0) (Ts (y .0 .0)) (laws 𝓤 H A W (y .0 .0)) (y .0 .3) _ are)))
 
 pub run-spec : {M : Type 1} → stated.statement M
 unfolding code.routine tablesOf
