@@ -35,7 +35,7 @@ pub over-limit : (T : Tables) (s : Scope) → 128 < nameCount T → checked T s 
 unfolding checked
 over-limit T s l = let e = outside T l in simp e
 
--- What holds of refused names, however many, holds of all names if it holds of the copied ones.
+-- Where P holds of all names over the limit or of none, it holds of all records' names if it holds of the copied ones.
 module _ (P : List ℕ → Type 0) (refused : (names names′ : List ℕ) → 128 < length names / 2 → 128 < length names′ / 2 → P names → P names′) where
   by-size : (ns : List Name) (b : Bool) → leb (length ns) 129 ≡ b → P (nameWords (take 129 ns)) → P (nameWords ns)
   by-size ns true e p = subst (λ (l : List Name). P (nameWords l)) (take-all 129 ns (leb-true (length ns) 129 e)) p
