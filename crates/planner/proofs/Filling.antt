@@ -4,12 +4,12 @@ use mathlib.Core.Path.{_≡_, refl, sym, ap, _∙_}
 use mathlib.Core.List.{List, [], _∷_}
 use mathlib.Core.Bool.{Bool, true, false, cond}
 use native.Mathlib.Omega.{arith}
-use borrow.Author.Tests.{eqb-true, eqb-false, le-leb, lt-leb, lt-ltb, le-ltb}
+use borrow.Author.Tests.{eqb-true, eqb-false, le-leb, lt-leb, lt-ltb, le-ltb, ltb-true}
 use lib.Dec.{eqb, leb, ltb}
 use lib.ListN.{length, getD, set, replicate, length-set, length-replicate, getD-replicate}
 use lib.Seq.{getD-set-same, getD-set-other, ext-getD}
 use Rattle.planner.specs.declared.PlanAnswer.the-variants.{Planned, PlanTooLarge}
-use Rattle.planner.specs.Post.{wordAt, tabulate, Delivered}
+use Rattle.planner.specs.Post.{Copied, wordAt, tabulate, Delivered}
 
 -- an array filled from place 0 on
 pub record Filling (f : ℕ → ℕ) (size i : ℕ) (here : List ℕ) : Type 0 where
@@ -51,6 +51,11 @@ getD-tabulate f i zero j lt = absurd (omega arith)
 getD-tabulate f i (suc k) zero lt = let e : i ≡ i + 0 = omega arith in ap f e
 getD-tabulate f i (suc k) (suc j) lt = let e : i + 1 + j ≡ i + suc j = omega arith in getD-tabulate f (i + 1) k j (omega arith) ∙ ap f e
 
+tabulate-same : (f g : ℕ → ℕ) → ((i : ℕ) → f i ≡ g i) → (i k : ℕ) → tabulate f i k ≡ tabulate g i k
+unfolding tabulate
+tabulate-same f g same i zero = refl
+tabulate-same f g same i (suc k) = ap (λ h. h ∷ tabulate f (i + 1) k) (same i) ∙ ap (λ t. g i ∷ t) (tabulate-same f g same (i + 1) k)
+
 module _ {f : ℕ → ℕ} {size i : ℕ} {here : List ℕ} (go : Filling f size i here) (done : length here ≤ i) where
   pub filling-ends : here ≡ tabulate f 0 size
   filling-ends =
@@ -71,6 +76,20 @@ module _ (scratch : List ℕ) (size i : ℕ) where
 
   pub word-out : size ≤ i → 0 ≡ wordAt scratch size i
   word-out le = simp (le-ltb i size le)
+
+-- words copied, then zeros
+pub copied-ends : {scratch : List ℕ} {words i : ℕ} {before here : List ℕ} → Filling (λ k. getD scratch k 0) (length before) i here → words ≤ i → Copied scratch words before here
+copied-ends go done = record { long = go .long; each = λ k lt. go .each k (omega arith) }
+
+pub copied-cleared : {scratch : List ℕ} {words : ℕ} {before mid after : List ℕ} → Copied scratch words before mid → after ≡ tabulate (wordAt mid words) 0 (length mid) → after ≡ tabulate (wordAt scratch words) 0 (length before)
+copied-cleared {scratch} {words} {before} {mid} copied e = e ∙ (ap (tabulate (wordAt mid words) 0) (copied .long) ∙ tabulate-same (wordAt mid words) (wordAt scratch words) at 0 (length before))
+  where
+    at : (i : ℕ) → wordAt mid words i ≡ wordAt scratch words i
+    at i = by-size (ltb i words) refl
+      where
+        by-size : (b : Bool) → ltb i words ≡ b → wordAt mid words i ≡ wordAt scratch words i
+        by-size true p = simp p (copied .each i (ltb-true i words p))
+        by-size false p = simp p
 
 -- with and without space
 module _ (scratch : List ℕ) (form side count : ℕ) (before after : List ℕ) where

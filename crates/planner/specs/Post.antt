@@ -99,6 +99,11 @@ pub record PlannedBy (T : Tables) (states : List ℕ) (root : ℕ) (before binde
   pub laid : Laid before 0 (entries (plan (unboundIn states) (expr T root) []) 0) after r
   pub few : r ≤ 512
 
+-- the first words of a scratch, copied into a buffer
+pub record Copied (scratch : List ℕ) (words : ℕ) (before after : List ℕ) : Type 0 where
+  pub long : length after ≡ length before
+  pub each : (i : ℕ) → i < words → getD after i 0 ≡ getD scratch i 0
+
 -- word i of a buffer that holds the first words of a scratch
 abbrev pub wordAt : List ℕ → ℕ → ℕ → ℕ
 wordAt scratch size i = cond (ltb i size) (getD scratch i 0) 0

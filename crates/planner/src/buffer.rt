@@ -5,29 +5,39 @@ ghost use mathlib.Core.List.{[], _∷_};
 ghost use lib.ListN.{length, replicate};
 ghost use Rattle.planner.specs.Layout.{entry};
 ghost use Rattle.planner.specs.Entries.{readEntries, Wrote, CopyAsks};
-ghost use Rattle.planner.specs.Post.{Delivered, wordAt, tabulate};
+ghost use Rattle.planner.specs.Post.{Copied, Delivered, wordAt, tabulate};
 use crate::PlanAnswer;
 
-fn word_at(scratch: &[u32; 2048], words: usize, i: usize) -> u32
-    requires { ⌜ words ≤ 2048 ⌝ }
-    ensures { λ r. ⌜ r ≡ wordAt (now (scratch .entry)) words i ⌝ }
+// The first `words` words of the scratch.
+fn copy_words(plan: &mut [u32], scratch: &[u32; 2048], words: usize)
+    requires { ⌜ (words ≤ 2048) × (words ≤ length (now plan)) ⌝ }
+    ensures { λ _. ⌜ Copied (now (scratch .entry)) words (now (plan .entry)) (now (plan .exit)) ⌝ }
 {
-    if i < words {
-        return scratch[i];
+    let mut i: usize = 0;
+    while i < words {
+        plan[i] = scratch[i];
+        i += 1;
     }
-    0
+}
+
+// Zeros from word `from` on.
+fn clear_after(plan: &mut [u32], from: usize)
+    ensures { λ _. ⌜ now (plan .exit) ≡ tabulate (wordAt (now (plan .entry)) from) 0 (length (now (plan .entry))) ⌝ }
+{
+    let mut i = from;
+    while i < plan.len() {
+        plan[i] = 0;
+        i += 1;
+    }
 }
 
 // The first `words` words of the scratch, then zeros.
 fn fill(plan: &mut [u32], scratch: &[u32; 2048], words: usize)
-    requires { ⌜ words ≤ 2048 ⌝ }
+    requires { ⌜ (words ≤ 2048) × (words ≤ length (now plan)) ⌝ }
     ensures { λ _. ⌜ now (plan .exit) ≡ tabulate (wordAt (now (scratch .entry)) words) 0 (length (now (plan .entry))) ⌝ }
 {
-    let mut i: usize = 0;
-    while i < plan.len() {
-        plan[i] = word_at(scratch, words, i);
-        i += 1;
-    }
+    copy_words(plan, scratch, words);
+    clear_after(plan, words);
 }
 
 pub fn clear(plan: &mut [u32])
@@ -95,17 +105,6 @@ pub fn copy_entries(plan: &mut [u32], at: usize, scratch: &[u32; 2048], count: u
         i += 1;
     }
     at + count
-}
-
-// Zeros from word `from` on.
-fn clear_after(plan: &mut [u32], from: usize)
-    ensures { λ _. ⌜ now (plan .exit) ≡ tabulate (wordAt (now (plan .entry)) from) 0 (length (now (plan .entry))) ⌝ }
-{
-    let mut i = from;
-    while i < plan.len() {
-        plan[i] = 0;
-        i += 1;
-    }
 }
 
 // `at` entries are in the buffer, if it has space for them.
