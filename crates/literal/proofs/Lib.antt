@@ -5,3 +5,4 @@ pub mod Keys
 pub mod Strings
 pub mod Texts
 pub mod Answers
+mod Ranges

@@ -3,7 +3,9 @@ ghost use mathlib.Core.Path.{_≡_};
 ghost use mathlib.Core.List.{[]};
 ghost use Prim.Native.Nat.{_-_, _<_, _≤_, _^_};
 ghost use Rattle.table.specs.Tables.{tables, isNode, recordWord, kindOf, startOf, endOf, firstOf, countOf, width, childAt, nameStart, nameLength, nameBytes};
-ghost use Rattle.literal.specs.Reading.{part};
+ghost use mathlib.Core.Bool.{_&&_};
+ghost use lib.Dec.{eqb};
+ghost use Rattle.literal.specs.Reading.{part, stringAt};
 ghost use Rattle.table.specs.Decode.{refOf, literalNode};
 ghost use Rattle.table.specs.Names.{sameBytes, classOf};
 ghost use Rattle.literal.specs.Order.{compared};
@@ -14,6 +16,7 @@ use literal::Comparison;
 use literal::LiteralRef;
 use literal::order::compare;
 use literal::order::compare_bytes;
+use literal::order::compare_ranges;
 use literal::text;
 
 // Word k of record n, of `size` words each.
@@ -199,6 +202,35 @@ pub fn name_class(names: &[u32], text: &[u8], name: u32) -> NameClass
     NameClass::Ordinary
 }
 
+fn is_string(nodes: &[u32], node: u32) -> bool
+    ensures { λ r. ⌜ r ≡ eqb (kindOf (now (nodes .entry)) node) 1 ⌝ }
+{
+    kind_of(nodes, node) == 1
+}
+
+// Are two nodes both strings of the string store?
+fn both_strings(nodes: &[u32], a: u32, b: u32) -> bool
+    ensures { λ r. ⌜ r ≡ (eqb (kindOf (now (nodes .entry)) a) 1 && eqb (kindOf (now (nodes .entry)) b) 1) ⌝ }
+{
+    if is_string(nodes, a) {
+        return is_string(nodes, b);
+    }
+    false
+}
+
+// Two strings of the string store.
+fn compare_strings(nodes: &[u32], strings: &[u8], a: u32, b: u32) -> Comparison
+    ensures { λ r. ⌜ r ≡ compared (stringAt (now (strings .entry)) (firstOf (now (nodes .entry)) a) (countOf (now (nodes .entry)) a)) (stringAt (now (strings .entry)) (firstOf (now (nodes .entry)) b) (countOf (now (nodes .entry)) b)) ⌝ }
+{
+    compare_ranges(
+        strings,
+        first_of(nodes, a) as usize,
+        count_of(nodes, a) as usize,
+        first_of(nodes, b) as usize,
+        count_of(nodes, b) as usize,
+    )
+}
+
 // The literals of two nodes, in the order of keys.
 pub fn compare_literals(
     nodes: &[u32],
@@ -210,6 +242,9 @@ pub fn compare_literals(
 ) -> Comparison
     ensures { λ r. ⌜ r ≡ compared (literalNode (now (nodes .entry)) (now (numbers .entry)) (now (strings .entry)) (now (text .entry)) a) (literalNode (now (nodes .entry)) (now (numbers .entry)) (now (strings .entry)) (now (text .entry)) b) ⌝ }
 {
+    if both_strings(nodes, a, b) {
+        return compare_strings(nodes, strings, a, b);
+    }
     let Key::Literal(x) = extract_literal_key(nodes, a) else {
         return Comparison::NoLiteral;
     };
@@ -230,6 +265,9 @@ pub fn compare_key_texts(
 ) -> Comparison
     ensures { λ r. ⌜ r ≡ textsCompared (literalNode (now (nodes .entry)) (now (numbers .entry)) (now (strings .entry)) (now (text .entry)) a) (literalNode (now (nodes .entry)) (now (numbers .entry)) (now (strings .entry)) (now (text .entry)) b) ⌝ }
 {
+    if both_strings(nodes, a, b) {
+        return compare_strings(nodes, strings, a, b);
+    }
     let Key::Literal(x) = extract_literal_key(nodes, a) else {
         return Comparison::NoLiteral;
     };

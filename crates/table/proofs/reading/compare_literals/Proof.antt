@@ -1,4 +1,4 @@
-use Rattle.table.proofs.Bytes.{by-order, literals-none, literals-other, literals-both}
+use Rattle.table.proofs.Bytes.{by-order, strings-compared, literals-none, literals-other, literals-both}
 use borrow.Author.Needs.{needs}
 use Rattle.table.proofs.reading.compare_literals.Statement.{statement}
 use Rattle.table.proofs.reading.compare_literals.Tie as tie
@@ -7,6 +7,9 @@ pub compare-literals-spec : {M : Type 1} → statement M
 compare-literals-spec =
     tie.close
     (tie.spec
+    (λ c κs. search needs)
+    (λ c κs. search needs)
+    (λ c. search (strings-compared, needs))
     (λ c κs. search needs)
     (λ c. search needs)
     (λ c. search needs)
