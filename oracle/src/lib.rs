@@ -3,6 +3,7 @@
 pub mod answer;
 pub mod comparison;
 pub mod generate;
+pub mod matching;
 pub mod selection;
 pub mod sheets;
 pub mod subject;

@@ -1,7 +1,7 @@
 //! The seeded generator of sheets.
 
-mod damage;
-mod disguise;
+pub(crate) mod damage;
+pub(crate) mod disguise;
 mod edges;
 pub mod exhaustive;
 mod grow;

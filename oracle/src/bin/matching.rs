@@ -1,0 +1,58 @@
+//! match [--exhaustive] [--seed SEED] [N]: holds the run of crate run_entry against a matcher that
+//! tries all fillings, on N generated cases (100,000) or on all small ones, and prints a tally.
+
+use oracle::matching::comparison::Comparison;
+use oracle::matching::entry::LINKED;
+use oracle::matching::{exhaustive, generate};
+use std::process::ExitCode;
+use std::time::Instant;
+
+struct Options {
+    exhaustive: bool,
+    seed: u64,
+    count: u64,
+}
+
+fn options() -> Option<Options> {
+    let mut options = Options { exhaustive: false, seed: 1, count: 100_000 };
+    let mut words = std::env::args().skip(1);
+    while let Some(word) = words.next() {
+        match word.as_str() {
+            "--exhaustive" => options.exhaustive = true,
+            "--seed" => options.seed = words.next()?.parse().ok()?,
+            count => options.count = count.parse().ok()?,
+        }
+    }
+    Some(options)
+}
+
+fn main() -> ExitCode {
+    let Some(options) = options() else {
+        eprintln!("usage: match [--exhaustive] [--seed SEED] [N]");
+        return ExitCode::from(2);
+    };
+    let Some(subject) = LINKED else {
+        eprintln!("match: no library is linked (see README.md)");
+        return ExitCode::from(2);
+    };
+    let start = Instant::now();
+    let mut comparison = Comparison::new(subject);
+    if options.exhaustive {
+        exhaustive::for_each_case(|case| comparison.case(case));
+    } else {
+        let cases = (0..options.count).map(|number| generate::case(options.seed, number));
+        cases.for_each(|case| comparison.case(case));
+    }
+    report(&comparison, start.elapsed().as_secs())
+}
+
+fn report(comparison: &Comparison, seconds: u64) -> ExitCode {
+    print!("{}", comparison.tally);
+    comparison.differences.iter().for_each(|difference| println!("{difference}"));
+    let agreeing = comparison.cases - comparison.differing;
+    println!(
+        "{} runs compared, {agreeing} agree, {} differ ({seconds} s)",
+        comparison.cases, comparison.differing
+    );
+    ExitCode::from(u8::from(comparison.differing > 0))
+}

@@ -1,0 +1,78 @@
+//! A run that is asked for.
+
+use crate::sheets::Draft;
+
+#[derive(Clone, Debug)]
+pub struct Case {
+    /// The tables; the first root is the pattern, the second the value.
+    pub draft: Draft,
+    /// The scope's marks, of which 128 count.
+    pub marks: Vec<u8>,
+    pub underscore: u32,
+    pub scheduler: u32,
+    pub scoping: u32,
+    /// Value nodes by name number, 0 for none.
+    pub values: Vec<u32>,
+    /// The length of the plan buffer, in words.
+    pub room: usize,
+    pub origin: Origin,
+}
+
+/// How a generated case was made.
+#[derive(Clone, Copy, Debug, PartialEq, Eq, PartialOrd, Ord)]
+pub enum Origin {
+    /// The value is the pattern, filled.
+    Filled,
+    /// One occurrence of a name was filled with another value.
+    Differing,
+    /// The filled pattern was changed at one place.
+    Changed,
+    /// The value has nothing to do with the pattern.
+    Unrelated,
+    /// Something was done that mostly gives a refusal.
+    Faulty,
+}
+
+impl Case {
+    /// With the marks of the draft, an empty list and a buffer in which every plan fits.
+    pub fn new(draft: Draft) -> Self {
+        Self {
+            marks: draft.names.iter().map(|name| name[2] as u8).collect(),
+            underscore: 0,
+            scheduler: draft.scheduler,
+            scoping: draft.scoping,
+            values: vec![0; draft.names.len()],
+            room: 4 * draft.nodes.len(),
+            origin: Origin::Unrelated,
+            draft,
+        }
+    }
+
+    pub fn pattern(&self) -> u32 {
+        self.draft.roots[0]
+    }
+
+    pub fn value(&self) -> u32 {
+        self.draft.roots[1]
+    }
+
+    /// The number of the name that has these bytes, or 0.
+    pub fn name_number(&self, bytes: &[u8]) -> u32 {
+        let found = (1..).zip(&self.draft.names).find(|(_, &[start, length, _])| {
+            self.draft.text.get(start as usize..(start + length) as usize) == Some(bytes)
+        });
+        found.map_or(0, |(number, _)| number)
+    }
+
+    /// Whether a name is unbound, by its number; `_` is not asked for.
+    pub fn is_unbound(&self, name: u32) -> bool {
+        let marks = self.marks.get(name as usize - 1).copied().unwrap_or(0);
+        is_unbound(marks.into(), self.scheduler == 1, self.scoping == 2)
+    }
+}
+
+/// Document 01, "Scope": 1 bound, 4 unbound, 8 local, 16 global.
+pub fn is_unbound(marks: u32, scheduler: bool, shadowing: bool) -> bool {
+    let has = |mark| marks & mark != 0;
+    has(4) || scheduler && has(8) || shadowing || !(has(1) || has(16))
+}

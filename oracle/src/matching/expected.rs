@@ -1,0 +1,157 @@
+//! What document 01 says of a run.
+
+use super::case::Case;
+use super::filling::{names, Blanks, Filling};
+use super::reading::{expr, is_node, literal_keys, value_at, Expr};
+use crate::answer::{answer, Entry};
+use crate::sheets::Draft;
+use std::collections::BTreeMap;
+
+/// Name marks of a scope that is lent to a call.
+const MARKS: usize = 128;
+
+#[derive(Debug)]
+pub enum Expected {
+    /// A refusal by its number.
+    Refused(u32),
+    /// No match where there is no filling.
+    Ran(Ran),
+}
+
+#[derive(Debug)]
+pub struct Ran {
+    pub pattern: Expr,
+    /// The names that a match sets.
+    pub planned: Vec<u32>,
+    /// All that make pattern and value equal, a value for each planned name first.
+    pub fillings: Vec<Filling>,
+    /// The words of the pattern's plan.
+    pub plan: Vec<u32>,
+}
+
+pub fn expected(case: &Case) -> Expected {
+    match run(case) {
+        Ok(ran) => Expected::Ran(ran),
+        Err(refusal) => Expected::Refused(refusal),
+    }
+}
+
+/// The refusals in the order of document 01, "What each operation turns back".
+fn run(case: &Case) -> Result<Ran, u32> {
+    let plan = checked_plan(case)?;
+    let refuse = |refused: bool, number: u32| if refused { Err(number) } else { Ok(()) };
+    refuse(!is_node(case, case.pattern()) || !is_node(case, case.value()), 5)?;
+    refuse(case.values.len() < case.draft.names.len(), 20)?;
+    let pattern = expr(case, case.pattern());
+    refuse(!is_simple(&pattern), 21)?;
+    let value = value_at(case, case.value()).ok_or(22_u32)?;
+    let listed = &case.values[..case.draft.names.len()];
+    refuse(listed.iter().any(|&node| node != 0 && value_at(case, node).is_none()), 22)?;
+    let mut met = names(&pattern).0;
+    met.retain(|name| !case.is_unbound(*name));
+    refuse(met.iter().any(|name| listed[*name as usize - 1] == 0), 23)?;
+    refuse(case.room / 4 * 4 < plan.len(), 6)?;
+    let node = |name: u32| value_at(case, listed[name as usize - 1]).expect("it is a value");
+    let known: BTreeMap<_, _> = met.into_iter().map(|name| (name, node(name))).collect();
+    let blanks = Blanks::new(&pattern, known);
+    let (fillings, planned) = (blanks.fillings(&value), blanks.unknown);
+    Ok(Ran { pattern, planned, fillings, plan })
+}
+
+/// The table check, and the words of the Rust's plan of the pattern; none if its root is outside.
+fn checked_plan(case: &Case) -> Result<Vec<u32>, u32> {
+    let pattern = Some(case.pattern()).filter(|&root| is_node(case, root));
+    let marks = case.marks.iter().copied().chain(std::iter::repeat(0));
+    let names = case.draft.names.iter().zip(marks);
+    let draft = Draft {
+        operation: 1,
+        scheduler: (case.scheduler == 1).into(),
+        scoping: if case.scoping == 2 { 2 } else { 1 },
+        roots: [pattern.unwrap_or(0), 0, 0],
+        names: names.map(|(name, marks)| [name[0], name[1], (marks % 32).into()]).collect(),
+        ..case.draft.clone()
+    };
+    let outcome = answer(&draft.bytes()).outcome;
+    let over_a_limit = matches!(&outcome, Err(refusal) if refusal.number == 1);
+    if !over_a_limit && !scope_holds(case) {
+        return Err(2);
+    }
+    let words = |entry: &Entry| [entry.kind, entry.node, entry.children, entry.key];
+    match outcome {
+        Ok(plan) => Ok(plan.entries.iter().flat_map(words).collect()),
+        Err(refusal) if refusal.number == 5 => Ok(Vec::new()),
+        Err(refusal) => Err(refusal.number),
+    }
+}
+
+/// No marks above 31, and for `_` its number or 0.
+fn scope_holds(case: &Case) -> bool {
+    case.marks.iter().take(MARKS).all(|&marks| marks <= 31)
+        && (case.underscore == 0 || case.underscore == case.name_number(b"_"))
+}
+
+/// No set, other expression, computed or repeated key.
+fn is_simple(pattern: &Expr) -> bool {
+    match pattern {
+        Expr::Array(items) => items.iter().all(is_simple),
+        Expr::Object(fields) => {
+            literal_keys(fields).is_some() && fields.iter().all(|(_, value)| is_simple(value))
+        }
+        Expr::Other => false,
+        _ => true,
+    }
+}
+
+#[cfg(test)]
+mod tests {
+    use super::super::value::{equal, Literal, Value};
+    use super::*;
+    use crate::sheets::{encode, rule};
+
+    fn case(text: &str) -> Case {
+        Case::new(encode(&rule(text)))
+    }
+
+    fn number(case: &Case) -> u32 {
+        match expected(case) {
+            Expected::Refused(number) => number,
+            Expected::Ran(_) => 0,
+        }
+    }
+
+    #[test]
+    fn fields_are_filled_in_any_order() {
+        let case = case(r#"{"b": x, "a": x} = {"a": 1, "b": 1}"#);
+        let Expected::Ran(ran) = expected(&case) else { panic!("it runs") };
+        assert_eq!(ran.planned, [case.name_number(b"x")]);
+        let one = Value::Literal(Literal::Number(1));
+        assert!(!ran.fillings.is_empty());
+        assert!(ran.fillings.iter().all(|filling| equal(&filling[0], &one)));
+    }
+
+    #[test]
+    fn refusals_stand_in_their_order() {
+        let mut case = case("[x, {y}] = [1, z]");
+        let x = case.name_number(b"x");
+        case.marks[x as usize - 1] = 1;
+        case.room = 0;
+        case.values.clear();
+        case.underscore = 9;
+        assert_eq!(number(&case), 2);
+        case.underscore = 0;
+        let value = std::mem::replace(&mut case.draft.roots[1], 99);
+        assert_eq!(number(&case), 5);
+        case.draft.roots[1] = value;
+        assert_eq!(number(&case), 20);
+        case.values = vec![0; 3];
+        assert_eq!(number(&case), 21);
+        case.draft.roots[0] = 1;
+        assert_eq!(number(&case), 22);
+        case.draft.roots[1] = (1..).find(|&node| value_at(&case, node).is_some()).unwrap();
+        assert_eq!(number(&case), 23);
+        case.values[x as usize - 1] = case.draft.roots[1];
+        assert_eq!(number(&case), 6);
+        case.room = 4;
+        assert_eq!(number(&case), 0);
+    }
+}

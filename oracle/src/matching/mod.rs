@@ -1,0 +1,14 @@
+//! Run, held against a matcher that tries all fillings. The matcher is written from document 01,
+//! "Run", and not from the crates; the table check is the one of the sheets, and the plan in the
+//! buffer is the Rust's plan of the pattern.
+
+pub mod case;
+pub mod comparison;
+pub mod entry;
+pub mod exhaustive;
+pub mod expected;
+mod filling;
+pub mod generate;
+mod reading;
+pub mod tally;
+mod value;
