@@ -122,7 +122,8 @@ fn fillings_agree(ran: &Ran) -> bool {
     })
 }
 
-/// A match sets the planned names, to nodes in the value that are equal to what they are filled with.
+/// A match sets the planned names alone, to nodes of the value that are equal to what they are
+/// filled with.
 fn list_difference(case: &Case, ran: &Ran, actual: &Outcome) -> Option<&'static str> {
     let mut rest = actual.values.clone();
     if let Some(filling) = ran.fillings.first() {

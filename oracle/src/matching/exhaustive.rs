@@ -8,8 +8,8 @@ use crate::sheets::{encode, Operation, Rule, Tree};
 const SIZE: usize = 4;
 const NAMES: [&str; 2] = ["x", "y"];
 
-/// Every pattern of at most 4 nodes, keys aside, over x, y, `_`, 1 and "1" on every such value over 1
-/// and "1"; each name of the pattern unknown, or known with 1 or `[]`.
+/// Every pattern of at most 4 nodes, keys aside, over x, y, `_`, 1 and "1" on every such value over
+/// 1 and "1"; each name of the pattern unknown, or known with 1 or `[]`.
 pub fn for_each_case(mut visit: impl FnMut(Case)) {
     let literals = [Tree::Number(1), Tree::string("1")];
     let names = NAMES.iter().chain(&["_"]).map(|name| Tree::name(name));

@@ -16,8 +16,8 @@ pub struct Blanks<'a> {
 /// The values of the unknown names, then those of the underscores as written.
 pub type Filling = Vec<Rc<Value>>;
 
-/// The names of a pattern in the order that they are met, each as often as it is met, and the number
-/// of its underscores.
+/// The names of a pattern as they are met, each as often as it is met, and the number of its
+/// underscores.
 pub fn names(pattern: &Expr) -> (Vec<u32>, usize) {
     let inner: Vec<&Expr> = match pattern {
         Expr::Name(name) => return (vec![*name], 0),
@@ -40,8 +40,8 @@ impl<'a> Blanks<'a> {
         Self { pattern, known, unknown, underscores }
     }
 
-    /// Every value that a filling could use is equal to a part of the value; one more, that is none, is
-    /// tried with them.
+    /// What makes the two equal is at each place equal to a part of the value, so all parts are tried,
+    /// and one value that is no part.
     pub fn fillings(&self, value: &Rc<Value>) -> Vec<Filling> {
         let mut candidates = parts(value);
         candidates.push(Rc::new(Value::Literal(Literal::String(b"no part".to_vec()))));

@@ -21,8 +21,8 @@ pub enum Value {
 
 type Fields = [(Literal, Rc<Value>)];
 
-/// Literals by the order of keys, arrays by length and items, objects by key sets and the value under
-/// each key.
+/// Literals by the order of keys, arrays by length and items, objects by key sets and the value
+/// under each key.
 pub fn equal(one: &Value, other: &Value) -> bool {
     match (one, other) {
         (Value::Literal(one), Value::Literal(other)) => one == other,
