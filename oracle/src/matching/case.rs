@@ -58,10 +58,15 @@ impl Case {
 
     /// The number of the name that has these bytes, or 0.
     pub fn name_number(&self, bytes: &[u8]) -> u32 {
-        let found = (1..).zip(&self.draft.names).find(|(_, &[start, length, _])| {
+        (1..=self.draft.names.len() as u32).find(|&name| self.is_named(name, bytes)).unwrap_or(0)
+    }
+
+    /// Whether the name of a number has these bytes.
+    pub fn is_named(&self, name: u32, bytes: &[u8]) -> bool {
+        let place = (name as usize).checked_sub(1);
+        place.and_then(|place| self.draft.names.get(place)).is_some_and(|&[start, length, _]| {
             self.draft.text.get(start as usize..(start + length) as usize) == Some(bytes)
-        });
-        found.map_or(0, |(number, _)| number)
+        })
     }
 
     /// Whether a name is unbound, by its number; `_` is not asked for.

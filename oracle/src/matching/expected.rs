@@ -87,7 +87,7 @@ fn checked_plan(case: &Case) -> Result<Vec<u32>, u32> {
 /// No marks above 31, and for `_` its number or 0.
 fn scope_holds(case: &Case) -> bool {
     case.marks.iter().take(MARKS).all(|&marks| marks <= 31)
-        && (case.underscore == 0 || case.underscore == case.name_number(b"_"))
+        && (case.underscore == 0 || case.is_named(case.underscore, b"_"))
 }
 
 /// No set, other expression, computed or repeated key.

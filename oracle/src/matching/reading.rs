@@ -26,7 +26,7 @@ pub fn expr(case: &Case, node: u32) -> Expr {
     let words = &case.draft.nodes[node as usize - 1];
     let inner = || children(&case.draft, words).iter().map(|&child| expr(case, child));
     match words[KIND] {
-        6 if words[FIRST] == case.name_number(b"_") => Expr::Underscore,
+        6 if case.is_named(words[FIRST], b"_") => Expr::Underscore,
         6 => Expr::Name(words[FIRST]),
         7 => Expr::Array(inner().collect()),
         9 => {
