@@ -32,7 +32,7 @@ module _ {A : Type 0} (order : A → A → Order) where
       ways a b more h = inr (inr (s a b ∙ ap opposite h))
 
 -- numbers
-three-ways : (a b : ℕ) → (a < b) ⊎ ((a ≡ b) ⊎ (b < a))
+pub three-ways : (a b : ℕ) → (a < b) ⊎ ((a ≡ b) ⊎ (b < a))
 three-ways a b = go (ltb a b) (ltb b a) refl refl
   where
     go : (p q : Bool) → ltb a b ≡ p → ltb b a ≡ q → (a < b) ⊎ ((a ≡ b) ⊎ (b < a))

@@ -1,66 +1,25 @@
--- The bytes of strings, and their comparison from the front.
-use Prim.Native.Nat.{ℕ, _+_, _-_, _*_, _<_, _≤_}
+-- The bytes of strings.
+use Prim.Native.Nat.{ℕ, _+_, _*_, _≤_}
 use mathlib.Core.Bool.{Bool, true, false, cond}
 use mathlib.Core.List.{List, [], _∷_}
 use mathlib.Core.Logic.{inl, inr}
 use mathlib.Core.Option.{none, some}
 use mathlib.Core.Path.{_≡_, refl, sym, ap, _∙_}
-use native.Mathlib.Numerals.{add-one}
 use native.Mathlib.Omega.{arith}
 use lib.Dec.{eqb}
-use lib.ListN.{length, getD, drop, drop-of-length-le}
-use lib.Seq.{drop-cons}
+use lib.ListN.{getD}
 use types.Run.{OneOf}
 use denote.Enum.Declared.{tagOf}
 use Rattle.literal.proofs.LiteralRef.{the-type}
 use Rattle.literal.specs.Literal.{number}
-use Rattle.literal.specs.Order.{same, then, natOrder, bytesOrder, told, compared}
+use Rattle.literal.specs.Order.{bytesOrder, told, compared}
 use Rattle.literal.specs.Reading.{hasNumber, numberAt, stringAt, stringBytes, literalOf, bytesOf}
 use Rattle.literal.specs.Key.{keyOf}
 use Rattle.literal.specs.declared.key.Key.{Key}
 use Rattle.literal.specs.declared.LiteralRef.{LiteralRef}
 use Rattle.literal.specs.declared.LiteralRef.the-variants.{Null, False, True, Number, String, RawString}
 use Rattle.literal.specs.declared.Comparison.{Comparison}
-use Rattle.literal.specs.declared.Comparison.the-variants.{Less, Equal, Greater}
-use Rattle.literal.proofs.Orders.{nat-less, nat-same, nat-more}
 use Rattle.literal.proofs.Keys.{compare-bytes}
-
--- what is left of two strings compares as the whole
-pub record Prefix (a b : List ℕ) (i : ℕ) : Type 0 where
-  pub left : i ≤ length a
-  pub right : i ≤ length b
-  pub rest : bytesOrder (drop i a) (drop i b) ≡ bytesOrder a b
-
-pub prefix-start : (a b : List ℕ) → Prefix a b 0
-prefix-start a b = record { left = omega arith; right = omega arith; rest = refl }
-
-module _ {a b : List ℕ} {i : ℕ} (p : Prefix a b i) where
-  next : i < length a → i < length b → bytesOrder a b ≡ then (natOrder (getD a i 0) (getD b i 0)) (bytesOrder (drop (i + 1) a) (drop (i + 1) b))
-  unfolding bytesOrder
-  next h k = sym (p .rest) ∙ rw (add-one i, drop-cons a i 0 h, drop-cons b i 0 k)
-
-  pub prefix-less : i < length a → i < length b → getD a i 0 < getD b i 0 → Less ≡ told (bytesOrder a b)
-  prefix-less h k lt = rw (next h k, nat-less (getD a i 0) (getD b i 0) lt)
-
-  pub prefix-more : i < length a → i < length b → getD b i 0 < getD a i 0 → Greater ≡ told (bytesOrder a b)
-  prefix-more h k lt = rw (next h k, nat-more (getD a i 0) (getD b i 0) lt)
-
-  pub prefix-on : i < length a → i < length b → getD b i 0 ≤ getD a i 0 → getD a i 0 ≤ getD b i 0 → Prefix a b (i + 1)
-  prefix-on h k ge le =
-      let e : natOrder (getD a i 0) (getD b i 0) ≡ same = nat-same (getD a i 0) (getD b i 0) (omega arith) in
-      record { left = omega arith; right = omega arith; rest = sym (rw e at (next h k)) }
-
-  pub prefix-longer : i < length a → length b ≤ i → Greater ≡ told (bytesOrder a b)
-  unfolding bytesOrder
-  prefix-longer h k = rw (← p .rest, drop-cons a i 0 h, drop-of-length-le b {i = i} k)
-
-  pub prefix-ends : length a ≤ i → i ≡ length b → Equal ≡ told (bytesOrder a b)
-  unfolding bytesOrder
-  prefix-ends h k = rw (← p .rest, drop-of-length-le a {i = i} h, drop-of-length-le b {i = i} (omega arith))
-
-  pub prefix-shorter : length a ≤ i → (i ≡ length b → ⊥) → Less ≡ told (bytesOrder a b)
-  unfolding bytesOrder
-  prefix-shorter h k = rw (← p .rest, drop-of-length-le a {i = i} h, drop-cons b i 0 (omega arith))
 
 -- the bytes of a reference, by its kind
 module _ (strings text : List ℕ) {l : LiteralRef} where

@@ -5,3 +5,4 @@ pub mod Reading
 pub mod Laws
 pub mod Key
 pub mod Written
+pub mod Chunks
