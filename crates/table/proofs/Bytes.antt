@@ -37,6 +37,16 @@ pub equal-same-bytes : (xs ys : List ℕ) → xs ≡ ys → sameBytes xs ys ≡ 
 unfolding sameBytes
 equal-same-bytes xs ys e = rw e (ap isSame (bytes-order .reflexive ys))
 
+pub unequal-bytes : (xs ys : List ℕ) → (xs ≡ ys → ⊥) → false ≡ sameBytes xs ys
+unequal-bytes xs ys ne = go (sameBytes xs ys) refl
+  where
+    go : (b : Bool) → sameBytes xs ys ≡ b → false ≡ sameBytes xs ys
+    go true e = absurd (ne (same-bytes-equal xs ys e))
+    go false e = sym e
+
+pub other-length : (xs ys : List ℕ) → (length xs ≡ length ys → ⊥) → false ≡ sameBytes xs ys
+other-length xs ys ne = unequal-bytes xs ys (λ e. ne (ap length e))
+
 -- the answer of the comparison
 equal-told : (o : Order) → told o ≡ Equal → isSame o ≡ true
 equal-told less e = never (cc)

@@ -1,6 +1,6 @@
 -- What the tests of the check say of its rules, way by way.
 use Prim.Native.Nat.{ℕ, _+_, _-_, _*_, _/_, _%_, _≤_, _<_}
-use mathlib.Core.Path.{_≡_, refl, sym, ap, _∙_}
+use mathlib.Core.Path.{_≡_, refl, sym, _∙_}
 use mathlib.Core.List.{List, []}
 use mathlib.Core.Bool.{Bool, true, false, not, _&&_, and-false}
 use native.Mathlib.Omega.{arith}
@@ -12,7 +12,7 @@ use Rattle.scope.specs.declared.Scope.{Scope}
 use Rattle.scope.specs.Scope.{marksOk}
 use Rattle.table.specs.Tables.{Tables, tables, kindOf, startOf, endOf, firstOf, countOf, nodeCount, nameCount, width, isNode, childAt, nameStart, nameLength, nameBytes}
 use Rattle.table.specs.Names.{sameBytes, underscoreBytes}
-use Rattle.table.specs.Rules.{allFrom, withinLimits, wholeRecords, spanOk, nameTextOk, wordsOk, belowAt, childrenBelow, nameOk, scopeOk, differAt, newNameAt, namesDiffer}
+use Rattle.table.specs.Rules.{allFrom, withinLimits, wholeRecords, spanOk, nameTextOk, wordsOk, belowAt, childrenBelow, nameOk, scopeOk, newNameAt, namesDiffer}
 use Rattle.table.specs.Passes.{headOk, headOkAt}
 use Rattle.table.proofs.Bools.{told-no, told-yes}
 use Rattle.table.proofs.Scan.{Scan, scan-fails, scan-ends, all-on, all-fails}
@@ -247,18 +247,6 @@ module _ (T : Tables) (s : Scope) {m : Bool} (is : m ≡ marksOk s) where
           → r ≡ sameBytes bytes underscoreBytes → r ≡ scopeOk T s
       unfolding scopeOk
       scope-name h b e = rw (told-yes is t, ne-eqb (s .underscore) 0 some, le-leb (s .underscore) (nameCount T) h, ← b) e
-
--- a name among those before it
-module _ (T : Tables) {y i : ℕ} (s : Scan (differAt T y) 0 y i) where
-  module _ (lt : i < y) {a b : List ℕ} {r : Bool} (p : a ≡ nameBytes (T .names) (T .text) (i + 1)) (q : b ≡ nameBytes (T .names) (T .text) (y + 1)) (e : r ≡ sameBytes a b) where
-    differs : not r ≡ differAt T y i
-    differs = rw (← p, ← q) (ap not e)
-
-    pub new-fails : r ≡ true → false ≡ newNameAt T y
-    new-fails t = all-fails s lt differs (rw t)
-
-    pub new-on : r ≡ false → Scan (differAt T y) 0 y (i + 1)
-    new-on t = all-on s lt differs (rw t)
 
 pub names-fail : (T : Tables) {i : ℕ} {r : Bool} → Scan (newNameAt T) 0 (nameCount T) i → i < nameCount T → r ≡ newNameAt T i → not r ≡ true → false ≡ namesDiffer T
 unfolding namesDiffer

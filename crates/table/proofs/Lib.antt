@@ -5,6 +5,7 @@ pub mod Words
 pub mod Fresh
 pub mod Deepest
 pub mod Bytes
+pub mod Prints
 pub mod Facts
 pub mod Clauses
 pub mod Answers

@@ -178,6 +178,9 @@ pub fn is_node(nodes: &[u32], node: u32) -> bool
 pub fn same_bytes(a: &[u8], b: &[u8]) -> bool
     ensures { λ r. ⌜ r ≡ sameBytes (now (a .entry)) (now (b .entry)) ⌝ }
 {
+    if a.len() != b.len() {
+        return false;
+    }
     match compare_bytes(a, b) {
         Comparison::Equal => true,
         Comparison::Less => false,

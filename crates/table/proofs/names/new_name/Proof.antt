@@ -1,18 +1,18 @@
-use Prim.Native.Nat.{_-_}
-use mathlib.Core.List.{[]}
+use Rattle.table.proofs.Prints.{new-on, new-fails}
+use Rattle.table.proofs.Scan.{Scan, scan-start, scan-ends}
 use Rattle.table.specs.Tables.{tables}
 use Rattle.table.specs.Rules.{differAt}
-use Rattle.table.proofs.Scan.{Scan, scan-start, scan-ends}
-use Rattle.table.proofs.Clauses.{new-fails, new-on}
+use mathlib.Core.List.{[]}
+use Prim.Native.Nat.{_-_}
 use borrow.Author.Needs.{needs}
 use Rattle.table.proofs.names.new_name.Statement.{statement}
 use Rattle.table.proofs.names.new_name.Tie as tie
 
 abbrev Inv-loop : tie.InvT-loop
-Inv-loop names text i j₀ j = Scan (differAt (tables [] [] [] names [] text) i) 0 i j
+Inv-loop names text prints i j₀ j = Scan (differAt (tables [] [] [] names [] text) i) 0 i j
 
 abbrev μ-loop : tie.MeasureT-loop
-μ-loop names text i j₀ j = i - j
+μ-loop names text prints i j₀ j = i - j
 
 pub new-name-spec : {M : Type 1} → statement M
 new-name-spec =
@@ -21,12 +21,6 @@ new-name-spec =
     Inv-loop
     μ-loop
     (λ c. search (scan-start, needs))
-    (λ c. search needs)
-    (λ c. search needs)
-    (λ c κs. search needs)
-    (λ c. search needs)
-    (λ c. search needs)
-    (λ c κs. search needs)
     (λ c κs. search needs)
     (λ c. search (new-fails, needs))
     (λ c. search needs)
