@@ -12,3 +12,5 @@ pub mod RoundTripTables
 pub mod RoundTripSound
 pub mod RoundTrip
 pub mod RoundTripExample
+pub mod CutShort
+pub mod ListingSize

@@ -4,3 +4,4 @@ pub mod Listing
 pub mod Trial
 pub mod Post
 pub mod Render
+pub mod Laws
