@@ -147,12 +147,12 @@ module _ (bytes : List ℕ) where
         rw (lt-ltb 0 (length bytes) (omega arith), lt-ltb 1 (length bytes) (omega arith), ne-eqb (getD bytes 0 0) 48 other) e
 
 -- what the decimal form's answer says
-record ReadAs (ds : List ℕ) (n : ℕ) : Type 0 where
-  form : isDecimal ds ≡ true
-  is : value 0 ds ≡ n
-  few : n ≤ 2 ^ 63
+pub record ReadAs (ds : List ℕ) (n : ℕ) : Type 0 where
+  pub form : isDecimal ds ≡ true
+  pub is : value 0 ds ≡ n
+  pub few : n ≤ 2 ^ 63
 
-read-as : (ds : List ℕ) (n : ℕ) → readDecimal ds ≡ Number n → ReadAs ds n
+pub read-as : (ds : List ℕ) (n : ℕ) → readDecimal ds ≡ Number n → ReadAs ds n
 unfolding readDecimal
 read-as ds n e = go (isDecimal ds) (leb (value 0 ds) (2 ^ 63)) refl refl e
   where
@@ -163,7 +163,7 @@ read-as ds n e = go (isDecimal ds) (leb (value 0 ds) (2 ^ 63)) refl refl e
     go true false p q f = let z : _≡_ {A = ℕ} 0 1 = cc in absurd (omega arith)
     go false b p q f = let z : _≡_ {A = ℕ} 0 1 = cc in absurd (omega arith)
 
-read-not : (ds : List ℕ) → readDecimal ds ≡ NoNumber → (isDecimal ds && leb (value 0 ds) (2 ^ 63)) ≡ false
+pub read-not : (ds : List ℕ) → readDecimal ds ≡ NoNumber → (isDecimal ds && leb (value 0 ds) (2 ^ 63)) ≡ false
 unfolding readDecimal
 read-not ds e = go (isDecimal ds && leb (value 0 ds) (2 ^ 63)) e
   where
@@ -187,15 +187,7 @@ module _ (bytes : List ℕ) (at width : ℕ) where
       let e : (at + width) - at ≡ width = omega arith in
       rw (le-leb (at + width) (length bytes) (omega arith), e)
 
-  column-few : length (columnBytes bytes at width) ≤ width
-  unfolding columnBytes
-  column-few = go (leb (at + width) (length bytes)) refl
-    where
-      go : (b : Bool) → leb (at + width) (length bytes) ≡ b → length (cond b (part bytes at width) []) ≤ width
-      go true e = omega (arith, leb-true (at + width) (length bytes) e, length-drop at bytes, length-take-le width (drop at bytes) (omega (arith, length-drop at bytes, leb-true (at + width) (length bytes) e)))
-      go false e = omega arith
-
-blanks-few : (bytes : List ℕ) → length (afterBlanks bytes) ≤ length bytes
+pub blanks-few : (bytes : List ℕ) → length (afterBlanks bytes) ≤ length bytes
 unfolding afterBlanks
 blanks-few [] = omega arith
 blanks-few (b ∷ bs) = go (eqb b 32) (blanks-few bs)
@@ -213,48 +205,12 @@ value-below before k m (d ∷ ds) all lt le =
     let high = leb-true d 57 (and-true (leb 48 d) (leb d 57) (both .0) .1) in
     value-below (before * 10 + (d - 48)) (suc k) m ds (both .1) (omega arith) (omega arith)
 
-decimal-below : (m : ℕ) (ds : List ℕ) → isDecimal ds ≡ true → length ds ≤ m → value 0 ds < 10 ^ m
+pub decimal-below : (m : ℕ) (ds : List ℕ) → isDecimal ds ≡ true → length ds ≤ m → value 0 ds < 10 ^ m
 unfolding isDecimal
 decimal-below m ds form le =
     let more = and-true (ltb 0 (length ds)) (not (ltb 1 (length ds) && eqb (getD ds 0 0) 48) && allDigits ds) form .1 in
     let all = and-true (not (ltb 1 (length ds) && eqb (getD ds 0 0) 48)) (allDigits ds) more .1 in
     value-below 0 0 m ds all (omega arith) (omega arith)
-
--- columns of six
-module _ (bytes : List ℕ) (at : ℕ) {column ds : List ℕ} {d : Decimal}
-    (there : column ≡ columnBytes bytes at 6) (skipped : ds ≡ afterBlanks column) (read : d ≡ readDecimal ds) where
-  is : d ≡ readDecimal (afterBlanks (columnBytes bytes at 6))
-  is = rw (skipped, there) at read
-
-  few-digits : length (afterBlanks (columnBytes bytes at 6)) ≤ 6
-  few-digits = omega (arith, blanks-few (columnBytes bytes at 6), column-few bytes at 6)
-
-  pub six-number : {n : ℕ} → d ≡ Number n → Column.Number n ≡ columnAt bytes at
-  unfolding readColumn
-  six-number {n} e =
-      let r = read-as (afterBlanks (columnBytes bytes at 6)) n (sym is ∙ e) in
-      rw (r .form, r .is)
-
-  pub six-small : {n : ℕ} → d ≡ Number n → Fits w32 n
-  six-small {n} e =
-      let r = read-as (afterBlanks (columnBytes bytes at 6)) n (sym is ∙ e) in
-      let b = decimal-below 6 (afterBlanks (columnBytes bytes at 6)) (r .form) few-digits in
-      let i = r .is in
-      record { fits = omega arith }
-
-  pub six-none : d ≡ NoNumber → Column.Unreadable ≡ columnAt bytes at
-  unfolding readColumn
-  six-none e =
-      let ds = afterBlanks (columnBytes bytes at 6) in
-      go (isDecimal ds) refl (read-not ds (sym is ∙ e))
-    where
-      go : (b : Bool) → isDecimal (afterBlanks (columnBytes bytes at 6)) ≡ b
-          → (b && leb (value 0 (afterBlanks (columnBytes bytes at 6))) (2 ^ 63)) ≡ false
-          → Column.Unreadable ≡ cond b (Column.Number (value 0 (afterBlanks (columnBytes bytes at 6)))) Column.Unreadable
-      go true form missing =
-          let b = decimal-below 6 (afterBlanks (columnBytes bytes at 6)) form few-digits in
-          absurd (omega (arith, leb-false (value 0 (afterBlanks (columnBytes bytes at 6))) (2 ^ 63) missing))
-      go false form missing = refl
 
 -- columns of twenty
 module _ (below : ℕ) (ds : List ℕ) {d : Decimal} (is : d ≡ readDecimal ds) where

@@ -1,8 +1,8 @@
 -- What the private functions that read a decimal form answer.
 use Prim.Native.Nat.{ℕ, _^_}
-use mathlib.Core.Bool.{cond, _&&_}
+use mathlib.Core.Bool.{Bool, cond, _&&_}
 use mathlib.Core.List.{List}
-use lib.Dec.{leb}
+use lib.Dec.{eqb, leb}
 use Rattle.literal.specs.Text.{value}
 use Rattle.columns.specs.declared.decimal.Decimal.{Decimal}
 use Rattle.columns.specs.declared.decimal.Decimal.the-variants.{Number, NoNumber}
@@ -14,3 +14,6 @@ digitsNumber before ds = cond (allDigits ds && leb (value before ds) (2 ^ 63)) (
 
 unfoldable pub readDecimal : List ℕ → Decimal
 readDecimal ds = cond (isDecimal ds && leb (value 0 ds) (2 ^ 63)) (Number (value 0 ds)) NoNumber
+
+abbrev pub areBlank : ℕ → ℕ → ℕ → ℕ → Bool
+areBlank a b c d = eqb a 32 && (eqb b 32 && (eqb c 32 && eqb d 32))

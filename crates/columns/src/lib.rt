@@ -6,9 +6,11 @@ use decimal::after_blanks;
 use decimal::read_decimal;
 use literal::is_number;
 ghost use mathlib.Core.Path.{_≡_};
+ghost use mathlib.Core.List.{[], _∷_};
 ghost use Prim.Native.Nat.{_+_, _≤_};
 ghost use lib.ListN.{length};
-ghost use Rattle.columns.specs.Columns.{columnBytes, columnAt, signedColumnAt, signedNumber, columnStored};
+ghost use Rattle.columns.specs.Columns.{readColumn, columnBytes, columnAt, signedColumnAt, signedNumber, columnStored};
+ghost use Rattle.columns.specs.Decimals.{areBlank};
 ghost use Rattle.columns.specs.Written.{columnByte, writeRest};
 
 pub enum Column {
@@ -35,14 +37,58 @@ fn column_bytes(bytes: &[u8], at: usize, width: usize) -> &[u8]
     &bytes[at..at + width]
 }
 
+fn are_blank(a: u8, b: u8, c: u8, d: u8) -> bool
+    ensures { λ r. ⌜ r ≡ areBlank a b c d ⌝ }
+{
+    a as u32 + b as u32 * 256 + c as u32 * 65536 + d as u32 * 16777216 == 0x20202020
+}
+
+// A number of one or two digits.
+fn read_two(tens: u8, units: u8) -> Column
+    ensures { λ r. ⌜ r ≡ readColumn (tens ∷ units ∷ []) ⌝ }
+{
+    if units < 48 {
+        return Column::Unreadable;
+    }
+    if 57 < units {
+        return Column::Unreadable;
+    }
+    if tens == 32 {
+        return Column::Number((units - 48) as u32);
+    }
+    if tens < 49 {
+        return Column::Unreadable;
+    }
+    if 57 < tens {
+        return Column::Unreadable;
+    }
+    Column::Number((tens - 48) as u32 * 10 + (units - 48) as u32)
+}
+
+fn read_six(bytes: &[u8]) -> Column
+    requires { ⌜ length (now bytes) ≤ 6 ⌝ }
+    ensures { λ r. ⌜ r ≡ readColumn (now (bytes .entry)) ⌝ }
+{
+    match read_decimal(after_blanks(bytes)) {
+        Decimal::Number(n) => Column::Number(n as u32),
+        Decimal::NoNumber => Column::Unreadable,
+    }
+}
+
 // The column of six bytes at a place.
 pub fn read_column(bytes: &[u8], at: usize) -> Column
     ensures { λ r. ⌜ r ≡ columnAt (now (bytes .entry)) at ⌝ }
 {
-    match read_decimal(after_blanks(column_bytes(bytes, at, 6))) {
-        Decimal::Number(n) => Column::Number(n as u32),
-        Decimal::NoNumber => Column::Unreadable,
+    if bytes.len() < 6 {
+        return Column::Unreadable;
     }
+    if bytes.len() - 6 < at {
+        return Column::Unreadable;
+    }
+    if are_blank(bytes[at], bytes[at + 1], bytes[at + 2], bytes[at + 3]) {
+        return read_two(bytes[at + 4], bytes[at + 5]);
+    }
+    read_six(&bytes[at..at + 6])
 }
 
 fn signed_number(below: u64, digits: &[u8]) -> SignedColumn

@@ -1,4 +1,4 @@
-use Rattle.columns.proofs.Reading.{six-small, six-number, six-none}
+use Rattle.columns.proofs.Six.{column-short-unread, column-past-unread, column-two, column-six}
 use borrow.Author.Needs.{needs}
 use Rattle.columns.proofs.read_column.Statement.{statement}
 use Rattle.columns.proofs.read_column.Tie as tie
@@ -7,11 +7,26 @@ pub read-column-spec : {M : Type 1} → statement M
 read-column-spec =
     tie.close
     (tie.spec
-    (λ c κs. search needs)
-    (λ c κs. search needs)
+    (λ c. search (column-short-unread, needs))
+    (λ c. search needs)
+    (λ c. search (column-past-unread, needs))
+    (λ c. search needs)
+    (λ c. search needs)
+    (λ c. search needs)
+    (λ c. search needs)
+    (λ c. search needs)
+    (λ c. search needs)
+    (λ c. search needs)
     (λ c κs. search needs)
     (λ c. search needs)
-    (λ c. search (six-small, needs))
     (λ c. search needs)
-    (λ c. search (six-number, needs))
-    (λ c. search (six-none, needs)))
+    (λ c. search needs)
+    (λ c. search needs)
+    (λ c κs. search needs)
+    (λ c. search (column-two, needs))
+    (λ c. search needs)
+    (λ c. search needs)
+    (λ c. search needs)
+    (λ c. search needs)
+    (λ c κs. search needs)
+    (λ c. search (column-six, needs)))
