@@ -15,7 +15,7 @@ use Rattle.table.specs.Names.{sameBytes, underscoreBytes}
 use Rattle.table.specs.Rules.{allFrom, withinLimits, wholeRecords, spanOk, nameTextOk, wordsOk, belowAt, childrenBelow, nameOk, scopeOk, newNameAt, namesDiffer}
 use Rattle.table.specs.Passes.{headOk, headOkAt}
 use Rattle.table.proofs.Bools.{told-no, told-yes}
-use Rattle.table.proofs.Scan.{Scan, scan-fails, scan-ends, all-on, all-fails}
+use Rattle.table.proofs.Scan.{Scan, scan-on, scan-fails, scan-ends, all-on, all-fails}
 
 -- ranges
 module _ (start count size : ℕ) where
@@ -120,6 +120,10 @@ module _ (T : Tables) (n place : ℕ) {child : ℕ} (is : child ≡ childAt (T .
 
   pub below-yes : child < n → belowAt T n place ≡ true
   below-yes h = lt-ltb (childAt (T .children) place) n (omega arith)
+
+pub children-on : (T : Tables) (n : ℕ) {first count i child : ℕ} → Scan (belowAt T n) first count i → i < count → child ≡ childAt (T .children) (first + i) → child < n
+    → Scan (belowAt T n) first count (i + 1)
+children-on T n {first} {i = i} s lt is h = scan-on s lt (below-yes T n (first + i) is h)
 
 module _ (T : Tables) (n : ℕ) {first count i : ℕ} (s : Scan (belowAt T n) first count i) (f : first ≡ firstOf (T .nodes) n) (w : count ≡ width (T .nodes) n) where
   pub children-fail : i < count → belowAt T n (first + i) ≡ false → false ≡ childrenBelow T n

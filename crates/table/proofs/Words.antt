@@ -12,7 +12,7 @@ use mir.Syntax.{w64}
 use Rattle.literal.specs.Reading.{part}
 use Rattle.literal.specs.declared.LiteralRef.the-variants.{Null, False, True, Number, String, RawString}
 use Rattle.table.specs.declared.Key.the-variants.{Literal, Computed}
-use Rattle.table.specs.Tables.{recordWord, kindOf, startOf, endOf, firstOf, countOf, nameStart, nameLength, nameBytes, width, childAt}
+use Rattle.table.specs.Tables.{recordWord, kindOf, startOf, endOf, firstOf, countOf, nameStart, nameLength, nameBytes, widthOf, width, childAt}
 use Rattle.table.specs.Decode.{refOf}
 use Rattle.table.proofs.Trees.{width-array, width-set, width-object, width-leaf}
 
@@ -41,22 +41,28 @@ module _ (size k n : ℕ) (words : List ℕ) where
     unfolding recordWord
     word-past past = simp (ne-eqb n 0 some, List·getD-eq-default words 0 past)
 
+pub word-here : (i k : ℕ) (words : List ℕ) → getD words (i * 5 + k) 0 ≡ recordWord 5 k words (i + 1)
+word-here i k words = let e : i + 1 - 1 ≡ i = omega arith in rw e at (word-at 5 k (i + 1) words (λ z. omega arith))
+
 pub child-past : (children : List ℕ) (place : ℕ) → length children ≤ place → 0 ≡ childAt children place
 child-past children place past = sym (List·getD-eq-default children 0 past)
 
 -- a node's child entries, by its kind
-module _ (nodes : List ℕ) (n : ℕ) {kind count : ℕ} (k : kind ≡ kindOf nodes n) (m : count ≡ countOf nodes n) where
-  pub wide-object : kind ≡ 9 → count * 2 ≡ width nodes n
-  wide-object e = rw m (sym (width-object (kindOf nodes n) (countOf nodes n) (sym k ∙ e)))
+module _ (kind count : ℕ) where
+  pub wide-object : kind ≡ 9 → count * 2 ≡ widthOf kind count
+  wide-object e = sym (width-object kind count e)
 
-  pub wide-array : kind ≡ 7 → count ≡ width nodes n
-  wide-array e = m ∙ sym (width-array (kindOf nodes n) (countOf nodes n) (sym k ∙ e))
+  pub wide-array : kind ≡ 7 → count ≡ widthOf kind count
+  wide-array e = sym (width-array kind count e)
 
-  pub wide-set : kind ≡ 8 → count ≡ width nodes n
-  wide-set e = m ∙ sym (width-set (kindOf nodes n) (countOf nodes n) (sym k ∙ e))
+  pub wide-set : kind ≡ 8 → count ≡ widthOf kind count
+  wide-set e = sym (width-set kind count e)
 
-  pub wide-leaf : (kind ≡ 9 → ⊥) → (kind ≡ 7 → ⊥) → (kind ≡ 8 → ⊥) → 0 ≡ width nodes n
-  wide-leaf a b d = sym (width-leaf (kindOf nodes n) (countOf nodes n) (λ e. b (k ∙ e)) (λ e. d (k ∙ e)) (λ e. a (k ∙ e)))
+  pub wide-leaf : (kind ≡ 9 → ⊥) → (kind ≡ 7 → ⊥) → (kind ≡ 8 → ⊥) → 0 ≡ widthOf kind count
+  wide-leaf a b d = sym (width-leaf kind count b d a)
+
+pub width-by : (nodes : List ℕ) (n : ℕ) {kind count r : ℕ} → kind ≡ kindOf nodes n → count ≡ countOf nodes n → r ≡ widthOf kind count → r ≡ width nodes n
+width-by nodes n k m is = rw (← k, ← m) is
 
 -- ranges of bytes
 module _ (bytes : List ℕ) (start count : ℕ) where
@@ -76,12 +82,12 @@ module _ (names text bytes : List ℕ) (x start size : ℕ) where
   unfolding nameBytes
   name-part s l e = rw (← s, ← l) e
 
-module _ (nodes text bytes : List ℕ) (n start end : ℕ) (s : start ≡ startOf nodes n) (e : end ≡ endOf nodes n) where
-  pub text-part : bytes ≡ part text start (end - start) → bytes ≡ part text (startOf nodes n) (endOf nodes n - startOf nodes n)
-  text-part is = rw (← s, ← e) is
+pub text-none : (bytes text : List ℕ) (start end : ℕ) → end < start → bytes ≡ part text start 0 → bytes ≡ part text start (end - start)
+text-none bytes text start end lt is = let z : end - start ≡ 0 = omega arith in rw z is
 
-  pub text-none : end < start → bytes ≡ part text start 0 → bytes ≡ part text (startOf nodes n) (endOf nodes n - startOf nodes n)
-  text-none lt is = let z : end - start ≡ 0 = omega arith in text-part (rw z is)
+pub text-part : (nodes text bytes : List ℕ) (n start end : ℕ) → start ≡ startOf nodes n → end ≡ endOf nodes n
+    → bytes ≡ part text start (end - start) → bytes ≡ part text (startOf nodes n) (endOf nodes n - startOf nodes n)
+text-part nodes text bytes n start end s e is = rw (← s, ← e) is
 
 -- the literal of a node, by its kind
 module _ (nodes : List ℕ) (n : ℕ) {kind first count : ℕ} (k : kind ≡ kindOf nodes n) (f : first ≡ firstOf nodes n) (m : count ≡ countOf nodes n) where

@@ -1,7 +1,7 @@
 // The nodes' depths, from the lowest number up.
 use crate::reading::child_at;
-use crate::reading::first_of;
-use crate::reading::width_of;
+use crate::reading::node_word;
+use crate::reading::width_at;
 ghost use mathlib.Core.Path.{_≡_};
 ghost use Prim.Native.Nat.{max};
 ghost use Rattle.table.specs.Depths.{deepest, listedDepth, ChildrenAsk, DepthsAsk, DepthsTold};
@@ -39,9 +39,8 @@ pub(crate) fn depths_ok(nodes: &[u32], children: &[u32]) -> bool
     let total = nodes.len() / 5;
     let mut n: usize = 0;
     while n < total {
-        let node = (n + 1) as u32;
-        let first = first_of(nodes, node) as usize;
-        let count = width_of(nodes, node);
+        let first = node_word(nodes, n, 3) as usize;
+        let count = width_at(nodes, n);
         let deep = deepest_of(children, &depths, first, count);
         if 31 < deep {
             return false;

@@ -1,6 +1,6 @@
 // That numbers do not repeat, found by marks in a local array.
-use crate::reading::first_of;
-use crate::reading::width_of;
+use crate::reading::node_word;
+use crate::reading::width_at;
 ghost use mathlib.Core.Path.{_≡_};
 ghost use Prim.Native.Nat.{ℕ, _+_, _/_, _<_, _≤_};
 ghost use lib.ListN.{length, getD};
@@ -51,9 +51,8 @@ pub(crate) fn places_apart(nodes: &[u32]) -> bool
     let total = nodes.len() / 5;
     let mut n: usize = 0;
     while n < total {
-        let node = (n + 1) as u32;
-        let first = first_of(nodes, node) as usize;
-        let count = width_of(nodes, node);
+        let first = node_word(nodes, n, 3) as usize;
+        let count = width_at(nodes, n);
         if !mark_places(&mut used, first, count) {
             return false;
         }

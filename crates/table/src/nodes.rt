@@ -1,20 +1,16 @@
 // The table rules that speak of the nodes.
 use crate::marks::distinct_entries;
 use crate::marks::places_apart;
+use crate::reading::bytes_between;
 use crate::reading::child_at;
-use crate::reading::count_of;
-use crate::reading::end_of;
-use crate::reading::first_of;
-use crate::reading::kind_of;
 use crate::reading::name_bytes;
-use crate::reading::node_text;
+use crate::reading::node_word;
 use crate::reading::same_bytes;
-use crate::reading::start_of;
-use crate::reading::width_of;
+use crate::reading::width_at;
 ghost use mathlib.Core.Path.{_≡_};
 ghost use mathlib.Core.Bool.{_&&_};
 ghost use mathlib.Core.List.{[]};
-ghost use Prim.Native.Nat.{_+_, _/_, _≤_};
+ghost use Prim.Native.Nat.{_+_, _/_, _<_, _≤_};
 ghost use lib.Dec.{eqb, leb, ltb};
 ghost use lib.ListN.{length};
 ghost use Rattle.table.specs.Tables.{tables, kindOf, firstOf, countOf};
@@ -31,11 +27,13 @@ pub(crate) fn in_range(start: usize, count: usize, length: usize) -> bool
     count <= length - start
 }
 
-fn span_ok(nodes: &[u32], text: &[u8], node: u32) -> bool
-    ensures { λ r. ⌜ r ≡ spanOk (tables (now (nodes .entry)) [] [] [] [] (now (text .entry))) node ⌝ }
+// Of node i + 1, as are the next three.
+fn span_ok(nodes: &[u32], text: &[u8], i: usize) -> bool
+    requires { ⌜ i < length (now nodes) / 5 ⌝ }
+    ensures { λ r. ⌜ r ≡ spanOk (tables (now (nodes .entry)) [] [] [] [] (now (text .entry))) (i + 1) ⌝ }
 {
-    let start = start_of(nodes, node);
-    let end = end_of(nodes, node);
+    let start = node_word(nodes, i, 1);
+    let end = node_word(nodes, i, 2);
     if end < start {
         return false;
     }
@@ -52,20 +50,22 @@ fn one_word(first: usize, limit: usize, count: usize) -> bool
     false
 }
 
-fn name_words_ok(nodes: &[u32], names: &[u32], text: &[u8], node: u32) -> bool
-    ensures { λ r. ⌜ r ≡ wordsOk (tables (now (nodes .entry)) [] [] (now (names .entry)) [] (now (text .entry))) node 6 (firstOf (now (nodes .entry)) node) (countOf (now (nodes .entry)) node) ⌝ }
+fn name_words_ok(nodes: &[u32], names: &[u32], text: &[u8], i: usize) -> bool
+    requires { ⌜ i < length (now nodes) / 5 ⌝ }
+    ensures { λ r. ⌜ r ≡ wordsOk (tables (now (nodes .entry)) [] [] (now (names .entry)) [] (now (text .entry))) (i + 1) 6 (firstOf (now (nodes .entry)) (i + 1)) (countOf (now (nodes .entry)) (i + 1)) ⌝ }
 {
-    let name = first_of(nodes, node);
+    let name = node_word(nodes, i, 3);
     if name < 1 {
         return false;
     }
     if names.len() / 2 < name as usize {
         return false;
     }
-    if count_of(nodes, node) != 0 {
+    if node_word(nodes, i, 4) != 0 {
         return false;
     }
-    let own = node_text(nodes, text, node);
+    let start = node_word(nodes, i, 1) as usize;
+    let own = bytes_between(text, start, node_word(nodes, i, 2) as usize);
     let bytes = name_bytes(names, text, name);
     same_bytes(own, bytes)
 }
@@ -78,20 +78,21 @@ fn words_ok(
     names: &[u32],
     strings: &[u8],
     text: &[u8],
-    node: u32,
+    i: usize,
 ) -> bool
-    ensures { λ r. ⌜ r ≡ wordsOk (tables (now (nodes .entry)) (now (children .entry)) (now (numbers .entry)) (now (names .entry)) (now (strings .entry)) (now (text .entry))) node (kindOf (now (nodes .entry)) node) (firstOf (now (nodes .entry)) node) (countOf (now (nodes .entry)) node) ⌝ }
+    requires { ⌜ i < length (now nodes) / 5 ⌝ }
+    ensures { λ r. ⌜ r ≡ wordsOk (tables (now (nodes .entry)) (now (children .entry)) (now (numbers .entry)) (now (names .entry)) (now (strings .entry)) (now (text .entry))) (i + 1) (kindOf (now (nodes .entry)) (i + 1)) (firstOf (now (nodes .entry)) (i + 1)) (countOf (now (nodes .entry)) (i + 1)) ⌝ }
 {
-    let kind = kind_of(nodes, node);
-    let first = first_of(nodes, node) as usize;
-    let count = count_of(nodes, node) as usize;
+    let kind = node_word(nodes, i, 0);
+    let first = node_word(nodes, i, 3) as usize;
+    let count = node_word(nodes, i, 4) as usize;
     match kind {
         1 => in_range(first, count, strings.len()),
         2 => in_range(first, count, text.len()),
         3 => one_word(first, numbers.len() / 2, count),
         4 => one_word(first, 2, count),
         5 => one_word(first, 1, count),
-        6 => name_words_ok(nodes, names, text, node),
+        6 => name_words_ok(nodes, names, text, i),
         7 => in_range(first, count, children.len()),
         8 => in_range(first, count, children.len()),
         9 => in_range(first, count * 2, children.len()),
@@ -114,11 +115,10 @@ fn heads_ok(
     let total = nodes.len() / 5;
     let mut i: usize = 0;
     while i < total {
-        let node = (i + 1) as u32;
-        if !span_ok(nodes, text, node) {
+        if !span_ok(nodes, text, i) {
             return false;
         }
-        if !words_ok(nodes, children, numbers, names, strings, text, node) {
+        if !words_ok(nodes, children, numbers, names, strings, text, i) {
             return false;
         }
         i += 1;
@@ -126,14 +126,17 @@ fn heads_ok(
     true
 }
 
-fn children_below(nodes: &[u32], children: &[u32], node: u32) -> bool
-    ensures { λ r. ⌜ r ≡ childrenBelow (tables (now (nodes .entry)) (now (children .entry)) [] [] [] []) node ⌝ }
+fn children_below(nodes: &[u32], children: &[u32], n: usize) -> bool
+    requires { ⌜ n < length (now nodes) / 5 ⌝ }
+    ensures { λ r. ⌜ r ≡ childrenBelow (tables (now (nodes .entry)) (now (children .entry)) [] [] [] []) (n + 1) ⌝ }
 {
-    let first = first_of(nodes, node) as usize;
-    let count = width_of(nodes, node);
+    let first = node_word(nodes, n, 3) as usize;
+    let count = width_at(nodes, n);
+    let node = n + 1;
     let mut i: usize = 0;
     while i < count {
-        if node <= child_at(children, first + i) {
+        let child = child_at(children, first + i) as usize;
+        if node <= child {
             return false;
         }
         i += 1;
@@ -148,7 +151,7 @@ fn all_below(nodes: &[u32], children: &[u32]) -> bool
     let total = nodes.len() / 5;
     let mut i: usize = 0;
     while i < total {
-        if !children_below(nodes, children, (i + 1) as u32) {
+        if !children_below(nodes, children, i) {
             return false;
         }
         i += 1;

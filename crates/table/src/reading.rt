@@ -1,10 +1,11 @@
 // The words of the tables, 0 where there is none.
 ghost use mathlib.Core.Path.{_≡_};
 ghost use mathlib.Core.List.{[]};
-ghost use Prim.Native.Nat.{_-_, _<_, _≤_, _^_};
-ghost use Rattle.table.specs.Tables.{tables, isNode, recordWord, kindOf, startOf, endOf, firstOf, countOf, width, childAt, nameStart, nameLength, nameBytes};
 ghost use mathlib.Core.Bool.{_&&_};
+ghost use Prim.Native.Nat.{_+_, _-_, _/_, _<_, _≤_, _^_};
 ghost use lib.Dec.{eqb};
+ghost use lib.ListN.{length};
+ghost use Rattle.table.specs.Tables.{tables, isNode, recordWord, kindOf, startOf, endOf, firstOf, countOf, widthOf, width, childAt, nameStart, nameLength, nameBytes};
 ghost use Rattle.literal.specs.Reading.{part, stringAt};
 ghost use Rattle.table.specs.Decode.{refOf, literalNode};
 ghost use Rattle.table.specs.Names.{sameBytes, classOf};
@@ -32,6 +33,14 @@ fn record_word(words: &[u32], size: usize, k: usize, n: u32) -> u32
         return words[at];
     }
     0
+}
+
+// Word k of node i + 1, which is there.
+pub(crate) fn node_word(nodes: &[u32], i: usize, k: usize) -> u32
+    requires { ⌜ (i < length (now nodes) / 5) × (k < 5) ⌝ }
+    ensures { λ r. ⌜ r ≡ recordWord 5 k (now (nodes .entry)) (i + 1) ⌝ }
+{
+    nodes[i * 5 + k]
 }
 
 pub fn kind_of(nodes: &[u32], node: u32) -> u32
@@ -73,12 +82,10 @@ pub fn child_at(children: &[u32], place: usize) -> u32
     0
 }
 
-// The child entries of a node.
-pub fn width_of(nodes: &[u32], node: u32) -> usize
-    ensures { λ r. ⌜ (r ≡ width (now (nodes .entry)) node) × (r < 2 ^ 33) ⌝ }
+fn width_by(kind: u32, words: u32) -> usize
+    ensures { λ r. ⌜ (r ≡ widthOf kind words) × (r < 2 ^ 33) ⌝ }
 {
-    let kind = kind_of(nodes, node);
-    let count = count_of(nodes, node) as usize;
+    let count = words as usize;
     if kind == 9 {
         return count * 2;
     }
@@ -89,6 +96,21 @@ pub fn width_of(nodes: &[u32], node: u32) -> usize
         return count;
     }
     0
+}
+
+// The child entries of a node.
+pub fn width_of(nodes: &[u32], node: u32) -> usize
+    ensures { λ r. ⌜ (r ≡ width (now (nodes .entry)) node) × (r < 2 ^ 33) ⌝ }
+{
+    width_by(kind_of(nodes, node), count_of(nodes, node))
+}
+
+// Those of node i + 1, which is there.
+pub(crate) fn width_at(nodes: &[u32], i: usize) -> usize
+    requires { ⌜ i < length (now nodes) / 5 ⌝ }
+    ensures { λ r. ⌜ (r ≡ width (now (nodes .entry)) (i + 1)) × (r < 2 ^ 33) ⌝ }
+{
+    width_by(node_word(nodes, i, 0), node_word(nodes, i, 4))
 }
 
 pub fn name_start(names: &[u32], name: u32) -> u32
@@ -125,16 +147,22 @@ pub fn name_bytes<'a>(names: &[u32], text: &'a [u8], name: u32) -> &'a [u8]
     bytes_at(text, start, length)
 }
 
+// The bytes from start to end; none where it ends first.
+pub(crate) fn bytes_between(bytes: &[u8], start: usize, end: usize) -> &[u8]
+    ensures { λ r. ⌜ now r ≡ part (now (bytes .entry)) start (end - start) ⌝ }
+{
+    if end < start {
+        return bytes_at(bytes, start, 0);
+    }
+    bytes_at(bytes, start, end - start)
+}
+
 // A node's own text, lent back.
 pub fn node_text<'a>(nodes: &[u32], text: &'a [u8], node: u32) -> &'a [u8]
     ensures { λ r. ⌜ now r ≡ part (now (text .entry)) (startOf (now (nodes .entry)) node) (endOf (now (nodes .entry)) node - startOf (now (nodes .entry)) node) ⌝ }
 {
     let start = start_of(nodes, node) as usize;
-    let end = end_of(nodes, node) as usize;
-    if end < start {
-        return bytes_at(text, start, 0);
-    }
-    bytes_at(text, start, end - start)
+    bytes_between(text, start, end_of(nodes, node) as usize)
 }
 
 // The literal that a node refers to, or that it is none.

@@ -17,8 +17,6 @@ depths-ok-spec =
     Inv-loop
     μ-loop
     (λ c. search (deep-start, needs))
-    (λ c. search needs)
-    (λ c. search needs)
     (λ c κs. search needs)
     (λ c. search needs)
     (λ c κs. search needs)

@@ -17,8 +17,6 @@ places-apart-spec =
     Inv-loop
     μ-loop
     (λ c. search (apart-start, needs))
-    (λ c. search needs)
-    (λ c. search needs)
     (λ c κs. search needs)
     (λ c. search needs)
     (λ c κs. search needs)

@@ -21,8 +21,6 @@ all-below-spec =
     Inv-loop
     μ-loop
     (λ c. search (scan-start, needs))
-    (λ c. search needs)
-    (λ c. search needs)
     (λ c κs. search needs)
     (λ c. search (all-fails, needs))
     (λ c. search needs)

@@ -1,18 +1,18 @@
-use Prim.Native.Nat.{_-_}
+use Prim.Native.Nat.{_+_, _-_}
 use mathlib.Core.List.{[]}
 use Rattle.table.specs.Tables.{tables}
 use Rattle.table.specs.Rules.{belowAt}
-use Rattle.table.proofs.Scan.{Scan, scan-start, scan-on}
-use Rattle.table.proofs.Clauses.{below-not, below-yes, children-fail, children-end}
+use Rattle.table.proofs.Scan.{Scan, scan-start}
+use Rattle.table.proofs.Clauses.{below-not, children-fail, children-on, children-end}
 use borrow.Author.Needs.{needs}
 use Rattle.table.proofs.nodes.children_below.Statement.{statement}
 use Rattle.table.proofs.nodes.children_below.Tie as tie
 
 abbrev Inv-loop : tie.InvT-loop
-Inv-loop nodes children node first count i₀ i = Scan (belowAt (tables nodes children [] [] [] []) node) first count i
+Inv-loop nodes children n first count node i₀ i = Scan (belowAt (tables nodes children [] [] [] []) node) first count i
 
 abbrev μ-loop : tie.MeasureT-loop
-μ-loop nodes children node first count i₀ i = count - i
+μ-loop nodes children n first count node i₀ i = count - i
 
 pub children-below-spec : {M : Type 1} → statement M
 children-below-spec =
@@ -23,11 +23,13 @@ children-below-spec =
     (λ c κs. search needs)
     (λ c. search needs)
     (λ c κs. search needs)
+    (λ c. search needs)
     (λ c. search (scan-start, needs))
     (λ c. search needs)
     (λ c κs. search needs)
+    (λ c. search needs)
     (λ c. search (children-fail, below-not, needs))
     (λ c. search needs)
     (λ c. search needs)
-    (λ c. search (scan-on, below-yes, needs))
+    (λ c. search (children-on, needs))
     (λ c. search (children-end, needs)))

@@ -21,13 +21,13 @@ heads-ok-spec =
     Inv-loop
     μ-loop
     (λ c. search (scan-start, needs))
-    (λ c. search needs)
-    (λ c. search needs)
     (λ c κs. search needs)
     (λ c. search (head-span, needs))
     (λ c κs. search needs)
     (λ c. search (head-words, needs))
     (λ c. search needs)
     (λ c. search needs)
-    (λ c. search (head-on, needs))
+    (λ c.
+    let w = c .before .before .before .before .before .loop .inv in
+    search (head-on _ _ _ _ _ _ w, needs))
     (λ c. search (scan-ends, needs)))

@@ -1,3 +1,4 @@
+use Rattle.table.proofs.Words.{text-part}
 use Rattle.table.proofs.Clauses.{named-low, named-high, named-counted, named-text}
 use borrow.Author.Needs.{needs}
 use Rattle.table.proofs.nodes.name_words_ok.Statement.{statement}
@@ -14,6 +15,10 @@ name-words-ok-spec =
     (λ c κs. search needs)
     (λ c. search (named-counted, needs))
     (λ c κs. search needs)
+    (λ c. search needs)
+    (λ c κs. search needs)
+    (λ c. search needs)
     (λ c κs. search needs)
     (λ c κs. search needs)
-    (λ c. search (named-text, needs)))
+    (λ c κs. search needs)
+    (λ c. search (named-text, text-part, needs)))

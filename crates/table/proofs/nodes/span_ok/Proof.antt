@@ -4,7 +4,8 @@ use Rattle.table.proofs.nodes.span_ok.Statement.{statement}
 use Rattle.table.proofs.nodes.span_ok.Tie as tie
 
 pub span-ok-spec : {M : Type 1} → statement M
-span-ok-spec = tie.close (tie.spec
+span-ok-spec =
+    tie.close (tie.spec
     (λ c κs. search needs)
     (λ c κs. search needs)
     (λ c. search (span-turned, needs))

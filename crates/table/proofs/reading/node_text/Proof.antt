@@ -1,4 +1,4 @@
-use Rattle.table.proofs.Words.{text-part, text-none}
+use Rattle.table.proofs.Words.{text-part}
 use borrow.Author.Needs.{needs}
 use Rattle.table.proofs.reading.node_text.Statement.{statement}
 use Rattle.table.proofs.reading.node_text.Tie as tie
@@ -11,7 +11,5 @@ node-text-spec =
     (λ c. search needs)
     (λ c κs. search needs)
     (λ c. search needs)
-    (λ c κs. search needs)
-    (λ c. search (text-none, needs))
     (λ c κs. search needs)
     (λ c. search (text-part, needs)))
