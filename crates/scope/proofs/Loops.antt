@@ -1,11 +1,11 @@
 -- The two loops over a scope's marks.
 use Prim.Native.Nat.{ℕ, suc, _+_, _≤_, _<_}
-use mathlib.Core.Path.{_≡_, refl, _∙_}
+use mathlib.Core.Path.{_≡_, refl, sym, _∙_}
 use mathlib.Core.List.{List, _++_, map, append-nil}
-use mathlib.Core.Bool.{true, false}
+use mathlib.Core.Bool.{Bool, true, _&&_, and-true, and-assoc}
 use native.Mathlib.Omega.{arith}
 use native.Mathlib.Numerals.{add-one}
-use borrow.Author.Tests.{le-leb, lt-leb}
+use lib.Dec.{leb}
 use lib.ListN.{length, getD, set, take, drop, length-set, drop-of-length-le}
 use lib.Seq.{take-suc-set, drop-set-lt, drop-cons, append-snoc, take-all}
 use Rattle.scope.specs.Scope.{smallMarks}
@@ -33,30 +33,25 @@ module _ {f : ℕ → ℕ} {ms₀ : List ℕ} {i : ℕ} {ms : List ℕ} (go : Ma
       let l = go .long in
       rw (take-all i ms (omega arith), drop-of-length-le ms {i = i} (omega arith), append-nil) at (go .same)
 
--- The first i marks are small.
-pub record Small (ms : List ℕ) (i : ℕ) : Type 0 where
+-- What the first i marks tell, with the rest.
+pub record Small (ms : List ℕ) (small : Bool) (i : ℕ) : Type 0 where
   pub inside : i ≤ 128
   pub long : length ms ≡ 128
-  pub same : smallMarks (drop i ms) ≡ smallMarks ms
+  pub same : (small && smallMarks (drop i ms)) ≡ smallMarks ms
 
-pub small-start : (ms : List ℕ) → length ms ≡ 128 → Small ms 0
+pub small-start : (ms : List ℕ) → length ms ≡ 128 → Small ms true 0
 small-start ms long = record { inside = omega arith; long = long; same = refl }
 
-module _ {ms : List ℕ} {i : ℕ} (go : Small ms i) where
-  pub small-on : i < 128 → getD ms i 0 ≤ 31 → Small ms (i + 1)
+module _ {ms : List ℕ} {small : Bool} {i : ℕ} (go : Small ms small i) where
+  pub small-on : i < 128 → Small ms (small && leb (getD ms i 0) 31) (i + 1)
   unfolding smallMarks
-  small-on lt le =
+  small-on lt =
       let l = go .long in
       let e = drop-cons ms i 0 (omega arith) in
-      record { inside = omega arith; long = l; same = rw add-one (simp (e, le-leb (getD ms i 0) 31 le) at (go .same)) }
+      record { inside = omega arith; long = l; same = and-assoc small (leb (getD ms i 0) 31) _ ∙ rw add-one (rw e at (go .same)) }
 
-  pub small-fails : i < 128 → 31 < getD ms i 0 → false ≡ smallMarks ms
+  pub small-ends : 128 ≤ i → small ≡ smallMarks ms
   unfolding smallMarks
-  small-fails lt big =
+  small-ends le =
       let l = go .long in
-      let e = drop-cons ms i 0 (omega arith) in
-      simp (e, lt-leb (getD ms i 0) 31 big) at (go .same)
-
-  pub small-ends : 128 ≤ i → true ≡ smallMarks ms
-  unfolding smallMarks
-  small-ends le = let l = go .long in rw (drop-of-length-le ms {i = i} (omega arith)) at (go .same)
+      sym (and-true small) ∙ rw (drop-of-length-le ms {i = i} (omega arith)) at (go .same)

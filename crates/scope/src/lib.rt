@@ -154,19 +154,18 @@ impl Scope {
         Binding::No
     }
 
-    // Is every mark at most 31?
+    // Is every mark at most 31? No way out of the loop: so it becomes vector code.
     pub fn marks_ok(self) -> bool
         ensures { λ r. ⌜ r ≡ marksOk self ⌝ }
     {
         let marks = self.marks;
+        let mut small = true;
         let mut i: usize = 0;
         while i < 128 {
-            if 31 < marks[i] {
-                return false;
-            }
+            small = small & (marks[i] <= 31);
             i += 1;
         }
-        true
+        small
     }
 
     fn mark(self, name: u32) -> u8

@@ -1,4 +1,4 @@
-use Prim.Native.Nat.{_+_, _-_}
+use Prim.Native.Nat.{_-_}
 use mathlib.Core.List.{[]}
 use Rattle.table.specs.Tables.{tables}
 use Rattle.table.specs.Rules.{belowAt}
