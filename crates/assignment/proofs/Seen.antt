@@ -17,7 +17,7 @@ use Rattle.table.proofs.Trees.{expr-name}
 use Rattle.scope.specs.declared.Scope.{Scope}
 use Rattle.scope.specs.declared.ScopingMode.{ScopingMode}
 use Rattle.scope.specs.Scope.{isUnbound}
-use Rattle.planner.specs.Plan.{DestructuringPlan, var, equalityExpr, arrayPlan, objectPlan, Plans, itemPlan, fieldPlan, fresh, plan, plans, fieldPlans, after, afterAll, afterFields}
+use Rattle.planner.specs.Plan.{DestructuringPlan, var, equalityExpr, arrayPlan, objectPlan, itemPlan, fieldPlan, fresh, plan, plans, fieldPlans, after, afterAll, afterFields}
 use Rattle.planner.specs.Passes.{unboundIn, bindersOf}
 use Rattle.planner.specs.Post.{States, StatesOf}
 use Rattle.planner.proofs.Binders.{AllNames, names-all, bound-agree-of}

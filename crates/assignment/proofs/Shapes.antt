@@ -1,12 +1,11 @@
 -- The shape of a side, and what is an underscore, by the kind of its node.
-use Prim.Native.Nat.{ℕ, _≤_, _<_}
+use Prim.Native.Nat.{ℕ}
 use mathlib.Core.Path.{_≡_, refl, sym, ap, _∙_}
-use mathlib.Core.Bool.{Bool, true, false, cond}
-use native.Mathlib.Omega.{arith}
-use borrow.Author.Tests.{eq-eqb, ne-eqb, eqb-true, eqb-false}
+use mathlib.Core.Bool.{Bool, true, false}
+use borrow.Author.Tests.{eqb-true, eqb-false}
 use lib.Dec.{eqb}
-use Rattle.table.specs.Tables.{Tables, kindOf, firstOf, countOf}
-use Rattle.table.specs.Expr.{Expr, literal, name, wildcard, array, set, object, other, Exprs, Fields}
+use Rattle.table.specs.Tables.{Tables, kindOf, firstOf}
+use Rattle.table.specs.Expr.{Expr, Exprs, Fields}
 use Rattle.table.specs.Decode.{expr, isWildcard}
 use Rattle.table.specs.Sound.{Node, WellFormed}
 use Rattle.table.proofs.Trees.{expr-name, expr-array, expr-object}

@@ -23,7 +23,6 @@ use Rattle.table.specs.Check.{checked}
 use Rattle.table.proofs.Trees.{expr-name, expr-array, expr-object}
 use Rattle.planner.specs.declared.PlanAnswer.{PlanAnswer}
 use Rattle.planner.specs.declared.PlanAnswer.the-variants.{Planned, RootOutside, ColonEqualsRequiresBindableLeft, VariableAlreadyDefined}
-use Rattle.planner.specs.Plan.{plan}
 use Rattle.planner.specs.Layout.{Entry, entries, words, bindsAny}
 use Rattle.planner.specs.Passes.{stateBy}
 use Rattle.planner.specs.Operations.{planned, answered, written, Answered, isSound, planOf}

@@ -1,7 +1,7 @@
 -- `:=` and `=` (assignment.rs, create_assignment_binding_plan).
 use Prim.Native.Nat.{ℕ}
 use mathlib.Core.Bool.{Bool, true, false, cond, _&&_}
-use mathlib.Core.List.{List, [], _∷_, _++_}
+use mathlib.Core.List.{List, [], _∷_}
 use lib.Dec.{eqb}
 use Rattle.scope.specs.declared.Scope.{Scope}
 use Rattle.scope.specs.declared.ScopingMode.the-variants.{RespectParent, AllowShadowing}
@@ -10,10 +10,10 @@ use Rattle.table.specs.Tables.{Tables, firstOf, isNode}
 use Rattle.table.specs.Expr.{Expr, literal, name, wildcard, array, set, object, other}
 use Rattle.table.specs.Decode.{expr}
 use Rattle.table.specs.Check.{checked}
-use Rattle.planner.specs.declared.PlanAnswer.the-variants.{RootOutside, ColonEqualsRequiresBindableLeft, VariableAlreadyDefined, IncompatibleDestructuringPatterns}
+use Rattle.planner.specs.declared.PlanAnswer.the-variants.{RootOutside, ColonEqualsRequiresBindableLeft, IncompatibleDestructuringPatterns}
 use Rattle.assignment.specs.declared.AssignOp.{AssignOp}
 use Rattle.assignment.specs.declared.AssignOp.the-variants.{ColEq, Eq}
-use Rattle.planner.specs.Layout.{Entry, entries, bindsAny, introducesBinding}
+use Rattle.planner.specs.Layout.{Entry, entries, bindsAny}
 use Rattle.planner.specs.Operations.{Outcome, refused, planned, tableFirst, planOf}
 use Rattle.checks.specs.declared.LiteralStructureCheck.{LiteralStructureCheck}
 use Rattle.checks.specs.Structure.{structure}

@@ -1,6 +1,6 @@
 -- The pairs of an `=` whose two sides both bind (assignment.rs, flatten_assignment_pairs), in the order in which they are met.
 use Prim.Native.Nat.{ℕ, _+_}
-use mathlib.Core.Bool.{Bool, true, false, cond, _&&_, _||_, not}
+use mathlib.Core.Bool.{Bool, true, false, cond, _&&_, _||_}
 use mathlib.Core.List.{List, [], _∷_, _++_}
 use mathlib.Core.Option.{Option}
 use mathlib.Core.Option as Option
@@ -11,7 +11,7 @@ use Rattle.table.specs.Expr.{Expr, literal, name, wildcard, array, set, object,
 use Rattle.planner.specs.declared.PlanAnswer.{PlanAnswer}
 use Rattle.planner.specs.declared.PlanAnswer.the-variants.{ArraySizeMismatch, ObjectFieldCountMismatch, ObjectKeyNotFound, IncompatibleDestructuringPatterns}
 use Rattle.planner.specs.Plan.{DestructuringPlan, equalityExpr, plan, after}
-use Rattle.planner.specs.Layout.{Entry, entry, entries, introducesBinding, literalKey, Slot, FieldOrder, noFields, addField}
+use Rattle.planner.specs.Layout.{Entry, entry, entries, introducesBinding, literalKey, noFields}
 use Rattle.checks.specs.Structure.{isEmpty, heldUnder, valueOrder}
 
 -- a value side, and the plan of the other side

@@ -1,23 +1,22 @@
 -- What is written is read back.
-use Prim.Native.Nat.{ℕ, zero, suc, _+_, _-_, _*_, _/_, _%_, _^_, _<_, _≤_}
-use mathlib.Core.Bool.{Bool, true, false, cond, not, _&&_}
+use Prim.Native.Nat.{ℕ, zero, suc, _+_, _-_, _/_, _%_, _^_, _<_, _≤_}
+use mathlib.Core.Bool.{Bool, true, false, not, _&&_}
 use mathlib.Core.List.{List, [], _∷_, _++_}
 use mathlib.Core.Logic.{⊎-elim}
-use mathlib.Core.Path.{_≡_, refl, sym, ap, _∙_}
+use mathlib.Core.Path.{_≡_, refl, ap, _∙_}
 use native.Mathlib.Omega.{arith}
 use borrow.Author.Tests.{lt-ltb, le-leb, leb-true, ltb-true, eqb-true, ne-eqb}
 use lib.Dec.{eqb, leb, ltb}
-use lib.ListN.{length, getD, drop, replicate}
+use lib.ListN.{length, getD, replicate}
 use Rattle.literal.specs.Literal.{isNumber}
-use Rattle.literal.specs.Text.{digit, digits, decimal, value, signed}
-use Rattle.literal.specs.Laws.{DecimalForm, NumberBounds}
+use Rattle.literal.specs.Text.{digit, digits, decimal, signed}
 use Rattle.literal.proofs.Decimals.{digits-one, digits-more, few-or-more, length-more, digits-length, decimal-form}
 use Rattle.literal.proofs.Numbers.{number-bounds, and-true}
 use Rattle.columns.specs.declared.Column.{Column}
 use Rattle.columns.specs.declared.Column.the-variants as Column
 use Rattle.columns.specs.declared.SignedColumn.{SignedColumn}
 use Rattle.columns.specs.declared.SignedColumn.the-variants as SignedColumn
-use Rattle.columns.specs.Columns.{afterBlanks, isDigit, allDigits, isDecimal, decimalNumber, readColumn, signedNumber, afterSign, readSigned, justified, writeColumn, writeSigned}
+use Rattle.columns.specs.Columns.{afterBlanks, isDigit, allDigits, isDecimal, decimalNumber, readColumn, signedNumber, readSigned, justified, writeColumn, writeSigned}
 use Rattle.columns.specs.Laws.{belowWord, ReadBack}
 use Rattle.columns.proofs.Writing.{justified-long}
 

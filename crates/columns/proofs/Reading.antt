@@ -1,20 +1,16 @@
 -- Reading a column, as the code reads it.
-use Prim.Native.Nat.{ℕ, zero, suc, _+_, _-_, _*_, _^_, _<_, _≤_}
+use Prim.Native.Nat.{ℕ, suc, _+_, _-_, _*_, _^_, _<_, _≤_}
 use mathlib.Core.Bool.{Bool, true, false, cond, not, _&&_, and-false}
 use mathlib.Core.List.{List, [], _∷_}
 use mathlib.Core.Path.{_≡_, refl, sym, ap, _∙_}
 use native.Mathlib.Numerals.{add-one}
 use native.Mathlib.Omega.{arith}
 use native.Mathlib.Nat.{pow-le-pow-right}
-use borrow.Author.Tests.{lt-ltb, le-ltb, le-leb, lt-leb, leb-true, leb-false, eq-eqb, ne-eqb, ltb-true}
+use borrow.Author.Tests.{lt-ltb, le-leb, lt-leb, leb-true, leb-false, eq-eqb, ne-eqb}
 use lib.Dec.{eqb, leb, ltb}
 use lib.ListN.{length, getD, take, drop, length-drop, drop-of-length-le}
-use lib.Seq.{drop-cons, length-take-le, take-all}
-use mir.Syntax.{w32}
-use mir.Val.{Fits}
+use lib.Seq.{drop-cons, take-all}
 use Rattle.literal.specs.Literal.{isNumber}
-use Rattle.literal.specs.Laws.{NumberBounds}
-use Rattle.literal.specs.Reading.{part}
 use Rattle.literal.specs.Text.{value}
 use Rattle.literal.proofs.Numbers.{number-bounds, and-true}
 use Rattle.columns.specs.declared.decimal.Decimal.{Decimal}
@@ -23,7 +19,7 @@ use Rattle.columns.specs.declared.Column.{Column}
 use Rattle.columns.specs.declared.Column.the-variants as Column
 use Rattle.columns.specs.declared.SignedColumn.{SignedColumn}
 use Rattle.columns.specs.declared.SignedColumn.the-variants as SignedColumn
-use Rattle.columns.specs.Columns.{afterBlanks, isDigit, allDigits, isDecimal, decimalNumber, readColumn, columnBytes, columnAt, signedNumber, afterSign, readSigned, signedColumnAt}
+use Rattle.columns.specs.Columns.{afterBlanks, isDigit, allDigits, isDecimal, columnBytes, signedNumber, afterSign, readSigned, signedColumnAt}
 use Rattle.columns.specs.Decimals.{digitsNumber, readDecimal}
 
 -- the bytes from a place on

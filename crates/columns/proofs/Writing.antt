@@ -1,18 +1,16 @@
 -- Writing a column, as the code writes it: from the last byte on.
-use Prim.Native.Nat.{ℕ, zero, suc, _+_, _-_, _*_, _/_, _%_, _^_, _<_, _≤_}
-use mathlib.Core.Bool.{Bool, true, false, cond}
+use Prim.Native.Nat.{ℕ, zero, suc, _+_, _-_, _/_, _%_, _^_, _<_, _≤_}
 use mathlib.Core.List.{List, [], _∷_, _++_, append-assoc}
 use mathlib.Core.Logic.{⊎-elim}
 use mathlib.Core.Path.{_≡_, refl, sym, ap, _∙_}
 use native.Mathlib.Numerals.{add-one}
 use native.Mathlib.Omega.{arith}
-use borrow.Author.Tests.{lt-leb, le-leb, eq-eqb, ne-eqb}
-use lib.Dec.{eqb, leb}
-use lib.ListN.{length, getD, take, drop, set, replicate, length-set, length-append, length-replicate, length-drop, take-append-drop, replicate-append-replicate}
-use lib.Seq.{drop-cons, drop-set-lt, take-set-le, getD-set-same, set-split, drop-append-le, drop-append-seam}
+use borrow.Author.Tests.{lt-leb, le-leb, ne-eqb}
+use lib.ListN.{length, take, drop, set, replicate, length-set, length-append, length-replicate, length-drop, take-append-drop, replicate-append-replicate}
+use lib.Seq.{drop-cons, drop-set-lt, take-set-le, getD-set-same, drop-append-le, drop-append-seam}
 use Rattle.literal.specs.Text.{digit, digits, decimal}
 use Rattle.literal.proofs.Decimals.{digits-one, digits-more, few-or-more, below-tenth, length-more}
-use Rattle.columns.specs.Columns.{justified, writeColumn, stored, columnStored}
+use Rattle.columns.specs.Columns.{justified, stored, columnStored}
 use Rattle.columns.specs.Written.{columnByte, writeRest}
 
 pub byte-blank : (rest : ℕ) → rest ≡ 0 → 32 ≡ columnByte rest

@@ -1,7 +1,6 @@
 -- What is written is read back.
 use Prim.Native.Nat.{ℕ, _^_, _<_}
-use mathlib.Core.Bool.{Bool, true, false, cond}
-use mathlib.Core.List.{List}
+use mathlib.Core.Bool.{Bool, true, cond}
 use mathlib.Core.Path.{_≡_}
 use lib.ListN.{length}
 use Rattle.literal.specs.Literal.{isNumber}

@@ -16,7 +16,7 @@ use lib.Dec.{leb}
 use types.Run.{OneOf}
 use denote.Enum.Declared.{tagOf}
 use Rattle.literal.specs.Literal.{Literal}
-use Rattle.literal.specs.Order.{less, same, more, compared}
+use Rattle.literal.specs.Order.{same, compared}
 use Rattle.literal.specs.declared.Comparison.{Comparison}
 use Rattle.literal.specs.declared.Comparison.the-variants.{Less, Equal}
 use Rattle.literal.proofs.Comparison.{the-type}

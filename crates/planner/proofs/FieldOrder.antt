@@ -13,7 +13,7 @@ use lib.Seq.{take-nil, take-append-le, drop-append-le, take-take, getD-take, set
 use Rattle.literal.specs.Literal.{Literal, null}
 use Rattle.literal.specs.Order.{Order, less, same, more, opposite, keyOrder, compared, told}
 use Rattle.literal.specs.Laws.{TotalOrder}
-use Rattle.table.specs.Expr.{Expr, field, nodeOf}
+use Rattle.table.specs.Expr.{Expr, nodeOf}
 use Rattle.table.specs.Tables.{childAt}
 use Rattle.table.specs.Decode.{fields}
 use Rattle.planner.specs.Layout.{Entry, literalKey, Slot, placed, insert, FieldOrder, noFields, addField, heldIn, inOrder}

@@ -1,22 +1,20 @@
 -- The first pass: the binders of a pattern, in written order.
-use Prim.Native.Nat.{ℕ, zero, suc, _+_, _-_, _*_, _^_, _≤_, _<_}
-use mathlib.Core.Path.{_≡_, refl, sym, ap, subst, _∙_}
+use Prim.Native.Nat.{ℕ, zero, suc, _+_, _-_, _≤_, _<_}
+use mathlib.Core.Path.{_≡_, refl, sym, ap, _∙_}
 use mathlib.Core.List.{List}
-use mathlib.Core.Bool.{Bool, true, false, cond, _&&_}
+use mathlib.Core.Bool.{Bool, true, false}
 use native.Mathlib.Omega.{arith}
 use mir.Val.{Fits}
 use mir.Syntax.{w64}
-use borrow.Author.Tests.{eq-eqb, ne-eqb, eqb-true, eqb-false}
-use lib.Dec.{eqb}
-use lib.ListN.{length, getD}
+use borrow.Author.Tests.{eq-eqb, ne-eqb, eqb-true}
+use lib.ListN.{getD}
 use lib.ListN as ListN
-use Rattle.table.specs.Tables.{Tables, kindOf, firstOf, countOf, width, childAt}
-use Rattle.table.specs.Expr.{Expr, literal, name, wildcard, array, set, object, other, Exprs, none, item, Fields, done, field}
-use Rattle.table.specs.Decode.{expr, items, fields, isWildcard, namedBy}
-use Rattle.table.specs.Sound.{Node, Named, WellFormed}
-use Rattle.table.proofs.Trees.{expr-name, expr-array, expr-object, items-step, items-end, fields-step, fields-end}
-use Rattle.planner.specs.Passes.{binderOf, unboundIn, bindName, bindersOf, bindersAll, bindersFields, bindersFrom}
-use Rattle.planner.specs.Post.{NameNumber, States, Walks, WalksChildren}
+use Rattle.table.specs.Tables.{Tables, kindOf, firstOf, countOf, childAt}
+use Rattle.table.specs.Expr.{Expr, name, wildcard, set}
+use Rattle.table.specs.Decode.{expr, items, fields, isWildcard}
+use Rattle.table.proofs.Trees.{expr-name, expr-array, expr-object}
+use Rattle.planner.specs.Passes.{unboundIn, bindName, bindersOf, bindersAll, bindersFields, bindersFrom}
+use Rattle.planner.specs.Post.{Walks, WalksChildren}
 use Rattle.planner.proofs.Walking.{walk-fits, walk-on, walk-child, walk-below}
 use Rattle.planner.proofs.NodeKinds.{Plain, plain-literal, plain-set, plain-other, plain-kind}
 

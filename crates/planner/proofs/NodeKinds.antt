@@ -1,19 +1,16 @@
 -- The kind of a node and the expression that it is.
-use Prim.Native.Nat.{ℕ, zero, suc, _+_, _-_, _*_, _^_, _≤_, _<_}
-use mathlib.Core.Path.{_≡_, refl, sym, ap, subst, _∙_}
-use mathlib.Core.List.{List}
-use mathlib.Core.Bool.{Bool, true, false, cond}
-use mathlib.Core.Option.{Option, none, some}
+use Prim.Native.Nat.{ℕ, _+_, _-_, _≤_, _<_}
+use mathlib.Core.Path.{_≡_, refl}
+use mathlib.Core.Bool.{Bool, true, false}
 use native.Mathlib.Omega.{arith}
-use borrow.Author.Tests.{eq-eqb, ne-eqb, eqb-true, eqb-false}
+use borrow.Author.Tests.{eqb-true, eqb-false}
 use lib.Dec.{eqb}
-use lib.ListN.{length, getD}
 use Rattle.literal.specs.Literal.{Literal}
-use Rattle.table.specs.Tables.{Tables, kindOf, firstOf, countOf, width, childAt}
-use Rattle.table.specs.Expr.{Expr, literal, name, wildcard, array, set, object, other, Exprs, Fields}
-use Rattle.table.specs.Decode.{expr, items, fields, literalAt}
+use Rattle.table.specs.Tables.{Tables, kindOf}
+use Rattle.table.specs.Expr.{Expr, literal, set, other, Exprs}
+use Rattle.table.specs.Decode.{expr}
 use Rattle.table.specs.Sound.{Node, WellFormed}
-use Rattle.table.proofs.Trees.{expr-literal, expr-set, expr-other, width-array, width-set, width-object}
+use Rattle.table.proofs.Trees.{expr-literal, expr-set, expr-other}
 
 -- what is left where a node is neither a name nor an array nor an object: it is a leaf or a set
 pub data Plain (kind n : ℕ) : Expr → Type 0 where

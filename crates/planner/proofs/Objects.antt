@@ -1,27 +1,26 @@
 -- An object's fields in order, as the second pass lays them out.
-use Prim.Native.Nat.{ℕ, zero, suc, _+_, _-_, _*_, _^_, _≤_, _<_, min}
+use Prim.Native.Nat.{ℕ, zero, suc, _+_, _-_, _*_, _≤_, _<_}
 use mathlib.Core.Path.{_≡_, refl, sym, ap, subst, _∙_}
 use mathlib.Core.List.{List, [], _∷_, _++_, map}
-use mathlib.Core.Bool.{Bool, true, false, cond}
+use mathlib.Core.Bool.{Bool, true, false}
 use mathlib.Core.Option.{Option}
 use mathlib.Core.Option as Option
 use native.Mathlib.Omega.{arith}
-use borrow.Author.Tests.{eq-eqb, ne-eqb, eqb-true, eqb-false, leb-true, leb-false}
+use borrow.Author.Tests.{ne-eqb, leb-true, leb-false}
 use lib.Dec.{eqb, leb}
 use lib.ListN.{length, getD, take, drop, length-take, length-map}
-use lib.Seq.{getD-take, take-take, take-suc, drop-cons}
+use lib.Seq.{getD-take, drop-cons}
 use Rattle.literal.specs.Literal.{Literal}
 use Rattle.table.specs.Tables.{Tables, kindOf, firstOf, countOf, width, childAt}
-use Rattle.table.specs.Expr.{Expr, literal, name, wildcard, array, set, object, other, Exprs, Fields, nodeOf}
-use Rattle.table.specs.Decode.{expr, items, fields, isWildcard, namedBy, headed, leafOf, literalAt, literalNode, refOf}
+use Rattle.table.specs.Expr.{Expr, object, Exprs, Fields, nodeOf}
+use Rattle.table.specs.Decode.{expr, fields, isWildcard, headed, literalAt, literalNode, refOf}
 use Rattle.table.specs.Sound.{Node, WellFormed}
 use Rattle.table.proofs.Trees.{expr-unfolds, expr-literal, expr-object, width-object, child-node}
 use Rattle.planner.specs.Layout.{Entry, entry, literalKey, Slot, heldIn, FieldOrder, noFields, inOrder, addField, concat}
 use Rattle.planner.specs.Passes.{layOut, layOutFields, orderFrom, concatAt, layOutOrdered, keyNode, valueNode, fieldKey, fieldEntries, orderOf}
-use Rattle.planner.specs.Post.{Walks, Laid, PutAt, LayAsks, LayObjectAsks, OrderAsks, OrderedBy, LayOrderedAsks}
+use Rattle.planner.specs.Post.{Laid, PutAt, LayObjectAsks, OrderAsks, OrderedBy, LayOrderedAsks}
 use Rattle.planner.proofs.FieldOrder as Fields
 use Rattle.planner.proofs.FieldOrder.{AllSlots, insert-all, order-entries}
-use Rattle.planner.proofs.Sizes.{order-few}
 use Rattle.planner.proofs.Written.{laid-put, laid-append}
 
 module _ (T : Tables) (w : WellFormed T) (n : ℕ) (v : Node T n) where

@@ -20,7 +20,7 @@ use Rattle.table.proofs.Bools.{and-true}
 use Rattle.table.proofs.Facts.{sound-table}
 use Rattle.planner.specs.declared.PlanAnswer.{PlanAnswer}
 use Rattle.planner.specs.declared.PlanAnswer.the-variants.{TableRefused, RootOutside}
-use Rattle.planner.specs.Plan.{DestructuringPlan, plan}
+use Rattle.planner.specs.Plan.{DestructuringPlan}
 use Rattle.planner.specs.Layout.{Entry, entries, words}
 use Rattle.planner.specs.Passes.{unboundIn}
 use Rattle.planner.specs.Entries.{readEntries}

@@ -1,25 +1,20 @@
 -- The plan by the states that the code asked for is the plan by the scope.
-use Prim.Native.Nat.{ℕ, zero, suc, _+_, _-_, _≤_, _<_}
+use Prim.Native.Nat.{ℕ, _-_}
 use mathlib.Core.Path.{_≡_, refl, sym, ap, _∙_}
-use mathlib.Core.List.{List, [], _∷_}
-use mathlib.Core.Bool.{Bool, true, false, cond, _&&_, _||_, not}
-use native.Mathlib.Omega.{arith}
-use borrow.Author.Tests.{eq-eqb, ne-eqb}
+use mathlib.Core.List.{List}
+use mathlib.Core.Bool.{Bool, true, false, _||_}
 use lib.Dec.{eqb}
-use lib.ListN.{length, getD, replicate}
 use Rattle.scope.specs.declared.Scope.{Scope}
 use Rattle.scope.specs.declared.ScopingMode.{ScopingMode}
 use Rattle.scope.specs.Scope.{isUnbound}
-use Rattle.table.specs.declared.NameClass.{NameClass}
-use Rattle.table.specs.declared.NameClass.the-variants.{Underscore, InputOrData, Ordinary}
-use Rattle.table.specs.Tables.{Tables, nameBytes, nameCount, kindOf, firstOf}
+use Rattle.table.specs.Tables.{Tables, nameBytes, firstOf}
 use Rattle.table.specs.Names.{classOf, sameBytes, underscoreBytes, inputBytes, dataBytes}
 use Rattle.table.specs.Expr.{Expr, literal, name, wildcard, array, object, other, Exprs, none, item, Fields, done, field}
 use Rattle.table.specs.Expr as Expr
-use Rattle.table.specs.Decode.{isWildcard, expr}
-use Rattle.table.specs.Sound.{Node, Named, WellFormed}
-use Rattle.planner.specs.Plan.{DestructuringPlan, Plans, FieldPlans, itemPlan, fieldPlan, fresh, plan, plans, fieldPlans, after, afterAll, afterFields, arrayPlan, objectPlan}
-use Rattle.planner.specs.Passes.{stateBy, unboundMark, unboundIn}
+use Rattle.table.specs.Decode.{expr}
+use Rattle.table.specs.Sound.{Node, WellFormed}
+use Rattle.planner.specs.Plan.{DestructuringPlan, itemPlan, fieldPlan, plan, plans, fieldPlans, after, afterAll, afterFields, arrayPlan, objectPlan}
+use Rattle.planner.specs.Passes.{stateBy, unboundIn}
 use Rattle.planner.specs.Post.{States, StatesOf}
 use Rattle.planner.proofs.Binders.{AllNames, AllNamesAll, AllNamesFields, names-all}
 

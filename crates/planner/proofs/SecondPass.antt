@@ -1,22 +1,22 @@
 -- The second pass: entries by binders, in plan order.
 use Prim.Native.Nat.{ℕ, zero, suc, _+_, _-_, _*_, _^_, _≤_, _<_}
 use mathlib.Core.Path.{_≡_, refl, sym, ap, subst, _∙_}
-use mathlib.Core.List.{List, [], _∷_, _++_, map, append-assoc, append-nil}
-use mathlib.Core.Bool.{Bool, true, false, cond, _&&_}
+use mathlib.Core.List.{List, [], _∷_, _++_, append-assoc, append-nil}
+use mathlib.Core.Bool.{Bool, true, false}
 use native.Mathlib.Omega.{arith}
 use mir.Val.{Fits}
 use mir.Syntax.{w64}
-use borrow.Author.Tests.{eq-eqb, ne-eqb, eqb-true, eqb-false, le-leb, lt-leb}
-use lib.Dec.{eqb, leb}
+use borrow.Author.Tests.{eq-eqb, ne-eqb, le-leb, lt-leb}
+use lib.Dec.{eqb}
 use lib.ListN.{length, getD, length-append}
-use Rattle.table.specs.Tables.{Tables, kindOf, firstOf, countOf, width, childAt}
-use Rattle.table.specs.Expr.{Expr, literal, name, wildcard, array, set, object, other, Exprs, none, item, Fields, done, field, count}
-use Rattle.table.specs.Decode.{expr, items, fields, isWildcard, namedBy}
-use Rattle.table.specs.Sound.{Node, Named, WellFormed}
-use Rattle.table.proofs.Trees.{expr-name, expr-array, expr-object, width-array, width-object, items-step, items-end, child-node}
-use Rattle.planner.specs.Layout.{Entry, entry, words}
-use Rattle.planner.specs.Passes.{nameKind, nameEntryKind, leafEntryKind, layOut, layOutAll, layOutItems, layOutOrdered, concatAt, fieldEntries, keyNode, valueNode}
-use Rattle.planner.specs.Post.{NameNumber, States, Walks, WalksChildren, Laid, PutAt, LayAsks, LayObjectAsks, LayItemsAsks, LayOrderedAsks}
+use Rattle.table.specs.Tables.{Tables, kindOf, firstOf, countOf, childAt}
+use Rattle.table.specs.Expr.{Expr, literal, name, wildcard, array, set, object, other, Exprs, count}
+use Rattle.table.specs.Decode.{expr, items, isWildcard}
+use Rattle.table.specs.Sound.{Node}
+use Rattle.table.proofs.Trees.{expr-name, expr-array, items-step, items-end}
+use Rattle.planner.specs.Layout.{Entry, entry}
+use Rattle.planner.specs.Passes.{nameKind, nameEntryKind, leafEntryKind, layOut, layOutAll, layOutItems, layOutOrdered, concatAt}
+use Rattle.planner.specs.Post.{NameNumber, Laid, PutAt, LayAsks, LayObjectAsks, LayItemsAsks, LayOrderedAsks}
 use Rattle.planner.proofs.NodeKinds.{Plain, plain-literal, plain-set, plain-other, plain-kind}
 use Rattle.planner.proofs.Walking as Walking
 use Rattle.planner.proofs.Written.{laid-none, laid-put, laid-append}

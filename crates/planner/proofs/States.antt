@@ -1,11 +1,11 @@
 -- What the scope says of the names, as the code asks it.
-use Prim.Native.Nat.{ℕ, zero, suc, _+_, _-_, _*_, _/_, _≤_, _<_}
+use Prim.Native.Nat.{ℕ, _+_, _-_, _/_, _≤_}
 use mathlib.Core.Path.{_≡_, refl, sym, ap, _∙_}
 use mathlib.Core.List.{List}
-use mathlib.Core.Bool.{Bool, true, false, cond, _&&_}
+use mathlib.Core.Bool.{Bool, true, false, cond}
 use native.Mathlib.Omega.{arith}
 use borrow.Author.Tests.{le-leb}
-use lib.ListN.{length, getD}
+use lib.ListN.{length}
 use Rattle.scope.specs.declared.Scope.{Scope}
 use Rattle.scope.specs.declared.ScopingMode.{ScopingMode}
 use Rattle.scope.specs.declared.Binding.{Binding}
@@ -14,12 +14,10 @@ use Rattle.scope.specs.Scope.{isName, isUnbound, bindingOf}
 use Rattle.scope.proofs.Laws.{answer-promise}
 use Rattle.table.specs.declared.NameClass.{NameClass}
 use Rattle.table.specs.declared.NameClass.the-variants.{Underscore, InputOrData, Ordinary}
-use Rattle.table.specs.Tables.{Tables, nameBytes, nameCount}
-use Rattle.table.specs.Names.{classOf, sameBytes, underscoreBytes}
-use Rattle.table.specs.Decode.{isWildcard}
-use Rattle.table.specs.Sound.{Named, WellFormed}
-use Rattle.planner.specs.Passes.{stateBy, unboundMark, unboundIn}
-use Rattle.planner.specs.Post.{NameNumber, States, StatesOf}
+use Rattle.table.specs.Tables.{nameBytes}
+use Rattle.table.specs.Names.{classOf}
+use Rattle.planner.specs.Passes.{stateBy, unboundMark}
+use Rattle.planner.specs.Post.{NameNumber, StatesOf}
 use Rattle.planner.proofs.Filling.{Filling}
 
 -- the scope's answer of a name's number

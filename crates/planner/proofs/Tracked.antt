@@ -1,13 +1,12 @@
 -- The two passes together: a pattern's plan from no names.
-use Prim.Native.Nat.{ℕ, _+_, _*_, _≤_, _<_}
-use mathlib.Core.Path.{_≡_, refl, sym, ap, subst, _∙_}
-use mathlib.Core.List.{List, []}
+use Prim.Native.Nat.{ℕ}
+use mathlib.Core.Path.{_≡_, ap, subst, _∙_}
+use mathlib.Core.List.{List}
 use native.Mathlib.Omega.{arith}
-use lib.ListN.{length, replicate}
+use lib.ListN.{replicate}
 use Rattle.table.specs.Tables.{Tables}
 use Rattle.table.specs.Decode.{expr}
-use Rattle.planner.specs.Plan.{plan}
-use Rattle.planner.specs.Layout.{Entry, entries}
+use Rattle.planner.specs.Layout.{Entry}
 use Rattle.planner.specs.Passes.{unboundIn, bindersOf, layOut}
 use Rattle.planner.specs.Post.{Walks, Laid, LayAsks, PlanAsks, PlannedBy}
 use Rattle.planner.proofs.Binders.{lay-plan-of}

@@ -1,5 +1,5 @@
 -- Validation: the first name of a pattern that is defined already.
-use Prim.Native.Nat.{ℕ, zero, suc, _+_, _-_, _*_, _/_, _^_, _≤_, _<_}
+use Prim.Native.Nat.{ℕ, zero, suc, _+_, _-_, _/_, _≤_, _<_}
 use mathlib.Core.Path.{_≡_, refl, sym, ap, subst, _∙_}
 use mathlib.Core.List.{List, [], _∷_, _++_}
 use mathlib.Core.Bool.{Bool, true, false, cond, _&&_, _||_, not}
@@ -8,7 +8,7 @@ use mathlib.Core.Option as Option
 use native.Mathlib.Omega.{arith}
 use mir.Val.{Fits}
 use mir.Syntax.{w64}
-use borrow.Author.Tests.{eq-eqb, ne-eqb, eqb-true, eqb-false}
+use borrow.Author.Tests.{eq-eqb, ne-eqb, eqb-true}
 use lib.Dec.{eqb}
 use lib.ListN.{length, getD, replicate}
 use Rattle.scope.specs.declared.Scope.{Scope}
@@ -18,7 +18,7 @@ use Rattle.scope.specs.Scope.{isUnbound}
 use Rattle.literal.specs.Literal.{Literal}
 use Rattle.table.specs.declared.NameClass.{NameClass}
 use Rattle.table.specs.declared.NameClass.the-variants.{Underscore, InputOrData, Ordinary}
-use Rattle.table.specs.Tables.{Tables, kindOf, firstOf, countOf, width, childAt, nameBytes}
+use Rattle.table.specs.Tables.{Tables, kindOf, firstOf, countOf, childAt, nameBytes}
 use Rattle.table.specs.Names.{classOf, sameBytes, underscoreBytes, inputBytes, dataBytes}
 use Rattle.table.specs.Expr.{Expr, literal, name, wildcard, array, set, object, other, Exprs, none, item, Fields, done, field}
 use Rattle.table.specs.Decode.{expr, items, fields, isWildcard, leafOf, literalAt}
@@ -26,12 +26,12 @@ use Rattle.table.specs.Rules.{elem}
 use Rattle.table.specs.Sound.{Node, Named, WellFormed}
 use Rattle.table.proofs.Trees.{expr-name, expr-array, expr-set, expr-object, expr-leaf}
 use Rattle.planner.specs.declared.PlanAnswer.{PlanAnswer}
-use Rattle.planner.specs.declared.PlanAnswer.the-variants.{Planned, VariableAlreadyDefined}
+use Rattle.planner.specs.declared.PlanAnswer.the-variants.{VariableAlreadyDefined}
 use Rattle.planner.specs.Plan.{after}
 use Rattle.planner.specs.Parameters.{Occurrence, occurrences, occurrencesAll, occurrencesFields, firstNode, alreadyDefined}
 use Rattle.planner.specs.Operations.{isReserved, reserved, validated, parameterCheck, parameterPlanned, patternPlanned, answered, written, Answered}
 use Rattle.planner.specs.Passes.{binderOf, unboundMark}
-use Rattle.planner.specs.Post.{NameNumber, States, Walks, WalksChildren, GoodRoot, PatternPlanned, Delivered}
+use Rattle.planner.specs.Post.{Walks, WalksChildren, GoodRoot, PatternPlanned, Delivered}
 use Rattle.planner.specs.Validation.{definedMark, definedState, DefinedBy, markedIn, occurrencesFrom, definedIn, firstDefined, parameterDefined}
 use Rattle.planner.proofs.Binders.{AllNames, AllNamesAll, AllNamesFields, names-all}
 use Rattle.planner.proofs.Walking.{walk-fits, walk-on, walk-child, walk-below}

@@ -1,13 +1,13 @@
 -- Walks over a table: from a node to its children, and from child to child.
-use Prim.Native.Nat.{ℕ, zero, suc, _+_, _-_, _*_, _^_, _≤_, _<_}
-use mathlib.Core.Path.{_≡_, refl, sym, ap, subst, _∙_}
+use Prim.Native.Nat.{ℕ, _+_, _-_, _*_, _^_, _<_}
+use mathlib.Core.Path.{_≡_, sym, ap, _∙_}
 use mathlib.Core.List.{List}
 use native.Mathlib.Omega.{arith}
 use native.Mathlib.Nat.{add-mul, one-mul}
 use mir.Val.{Fits}
 use mir.Syntax.{w64}
 use Rattle.table.specs.Tables.{Tables, kindOf, firstOf, countOf, width, childAt}
-use Rattle.table.specs.Sound.{Node, Named, WellFormed}
+use Rattle.table.specs.Sound.{Node}
 use Rattle.table.proofs.Trees.{width-array, width-set, width-object, child-node}
 use Rattle.planner.specs.Post.{NameNumber, Walks, WalksChildren}
 

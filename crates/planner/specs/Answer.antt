@@ -1,6 +1,5 @@
 -- What a planning operation answers, as document 01's four numbers.
 use Prim.Native.Nat.{ℕ}
-use Rattle.table.specs.declared.TableAnswer.{TableAnswer}
 use Rattle.table.specs.Check.{refusal}
 use Rattle.planner.specs.declared.PlanAnswer.{PlanAnswer}
 use Rattle.planner.specs.declared.PlanAnswer.the-variants.{Planned, TableRefused, RootOutside, PlanTooLarge, ColonEqualsRequiresBindableLeft, ArraySizeMismatch, ArrayLengthMismatch, ObjectLiteralKeysMismatch, ObjectFieldCountMismatch, ObjectKeyNotFound, VariableAlreadyDefined, IncompatibleDestructuringPatterns}

@@ -1,7 +1,7 @@
 -- The entries of a plan, in plan order: parents first, each child followed by its own children before the next child;
 -- an object's literal fields in key order, then its computed ones as written.
 use Prim.Native.Nat.{ℕ, _+_}
-use mathlib.Core.Bool.{Bool, true, false, _||_}
+use mathlib.Core.Bool.{Bool, false, _||_}
 use mathlib.Core.List.{List, [], _∷_, _++_, map}
 use mathlib.Core.Option.{Option}
 use mathlib.Core.Option as Option

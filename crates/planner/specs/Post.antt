@@ -1,12 +1,12 @@
 -- What the planner's own functions ask of their caller.
 use Prim.Native.Nat.{ℕ, zero, suc, _+_, _-_, _*_, _/_, _^_, _≤_, _<_}
 use mathlib.Core.Path.{_≡_}
-use mathlib.Core.Bool.{Bool, true, false, cond, not}
+use mathlib.Core.Bool.{cond, not}
 use mathlib.Core.List.{List, [], _∷_}
 use lib.Dec.{eqb, leb, ltb}
 use lib.ListN.{length, getD, take, replicate}
 use lib.Seq.{sets}
-use Rattle.table.specs.Tables.{Tables, kindOf, childAt, nameCount, nameBytes}
+use Rattle.table.specs.Tables.{Tables, kindOf, childAt, nameBytes}
 use Rattle.table.specs.Names.{classOf}
 use Rattle.scope.specs.declared.Scope.{Scope}
 use Rattle.scope.specs.declared.ScopingMode.{ScopingMode}

@@ -1,6 +1,6 @@
 // The second pass: a plan's entries in plan order (plans.rs, destructuring.rs).
 ghost use mathlib.Core.Path.{_≡_};
-ghost use Prim.Native.Nat.{_<_, _≤_};
+ghost use Prim.Native.Nat.{_<_};
 ghost use Rattle.table.specs.Tables.{tables};
 ghost use Rattle.table.specs.Decode.{expr};
 ghost use Rattle.planner.specs.Layout.{entry};

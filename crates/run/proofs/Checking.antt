@@ -1,17 +1,16 @@
 -- Simple patterns and values by their marks.
-use Prim.Native.Nat.{ℕ, zero, suc, _+_, _-_, _/_, _≤_, _<_}
-use mathlib.Core.Path.{_≡_, refl, sym, ap, _∙_}
+use Prim.Native.Nat.{ℕ, _+_, _-_, _≤_, _<_}
+use mathlib.Core.Path.{_≡_, sym, ap, _∙_}
 use mathlib.Core.List.{List}
-use mathlib.Core.Bool.{Bool, true, false, _&&_, _||_, not}
+use mathlib.Core.Bool.{Bool, true, false, _&&_, not}
 use native.Mathlib.Omega.{arith}
 use borrow.Author.Tests.{eq-eqb, ne-eqb, leb-true, le-leb, not-true, not-false}
 use lib.Dec.{eqb, leb}
 use lib.ListN.{length, getD}
 use Rattle.table.specs.Tables.{Tables, nodeCount, nameCount, isNode}
 use Rattle.table.specs.Decode.{expr}
-use Rattle.table.specs.Rules.{allFrom}
 use Rattle.table.specs.Sound.{Node, WellFormed}
-use Rattle.table.proofs.Bools.{and-true, told-no, told-yes}
+use Rattle.table.proofs.Bools.{and-true}
 use Rattle.table.proofs.Scan.{Scan, scan-start, scan-on, scan-fails, scan-ends}
 use Rattle.planner.specs.Post.{GoodRoot}
 use Rattle.planner.specs.Simple.{simple}

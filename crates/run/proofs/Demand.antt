@@ -1,13 +1,13 @@
 -- Demand 3, proved.
-use Prim.Native.Nat.{ℕ, zero, suc, _+_, _-_, _*_, _/_, _≤_, _<_}
+use Prim.Native.Nat.{ℕ, zero, suc, _+_, _-_, _/_, _≤_, _<_}
 use mathlib.Core.Path.{_≡_, refl, sym, ap, subst, _∙_}
 use mathlib.Core.Logic.{_⊎_, inl, inr}
 use mathlib.Core.List.{List, []}
 use mathlib.Core.Bool.{Bool, true, false, cond, _&&_, _||_, not, false≢true}
-use mathlib.Core.Option.{Option, none, some}
+use mathlib.Core.Option.{none, some}
 use native.Mathlib.Omega.{arith}
-use borrow.Author.Tests.{eq-eqb, ne-eqb, eqb-true, eqb-false, le-leb, leb-true, leb-false}
-use lib.Dec.{T as True, eqb, leb}
+use borrow.Author.Tests.{eqb-true, eqb-false, le-leb, leb-true, leb-false}
+use lib.Dec.{eqb, leb}
 use lib.ListN.{length, getD, List·getD-eq-default}
 use Rattle.scope.specs.declared.Scope.{Scope}
 use Rattle.scope.specs.declared.ScopingMode.{ScopingMode}
@@ -16,17 +16,14 @@ use Rattle.table.specs.declared.TableAnswer.{TableAnswer}
 use Rattle.table.specs.Tables.{Tables, nodeCount, nameCount, isNode}
 use Rattle.table.specs.Decode.{expr}
 use Rattle.table.specs.Rules.{allFrom}
-use Rattle.table.specs.Check.{checked}
-use Rattle.table.specs.Sound.{Node, Named, WellFormed}
+use Rattle.table.specs.Sound.{Node}
 use Rattle.table.proofs.Bools.{and-true}
 use Rattle.planner.specs.Layout.{entries}
 use Rattle.planner.specs.Operations.{planOf, fits}
 use Rattle.planner.specs.Plan.{plan}
-use Rattle.planner.specs.Simple.{simple, mentions}
+use Rattle.planner.specs.Simple.{mentions}
 use Rattle.planner.proofs.Filling.{length-tabulate, getD-tabulate}
-use Rattle.planner.specs.Post.{tabulate}
-use Rattle.value.specs.Value.{Value, isValue, valueOf, nodeᵛ, Same}
-use Rattle.value.specs.Post.{ValueNode}
+use Rattle.value.specs.Value.{Value, valueOf, nodeᵛ, Same}
 use Rattle.value.proofs.Keys.{is-true, true-is}
 use Rattle.value.proofs.Equal.{laws}
 use Rattle.run.specs.declared.RunAnswer.{RunAnswer}

@@ -1,28 +1,27 @@
 -- One entry, carried out by its kind.
-use Prim.Native.Nat.{ℕ, zero, suc, _+_, _-_, _*_, _≤_, _<_}
-use mathlib.Core.Path.{_≡_, refl, sym, ap, ap₂, subst, _∙_}
-use mathlib.Core.List.{List, [], _∷_}
+use Prim.Native.Nat.{ℕ, _+_, _-_, _*_, _≤_, _<_}
+use mathlib.Core.Path.{_≡_, refl, sym, ap, _∙_}
+use mathlib.Core.List.{List}
 use mathlib.Core.Bool.{Bool, true, false, cond, false≢true}
 use mathlib.Core.Option.{Option, none, some}
 use native.Mathlib.Omega.{arith}
-use borrow.Author.Tests.{eqb-true, eqb-false, eq-eqb, ne-eqb}
+use borrow.Author.Tests.{eq-eqb, ne-eqb}
 use lib.Dec.{eqb}
-use lib.ListN.{length, getD, set}
+use lib.ListN.{getD, set}
 use Rattle.literal.specs.Literal.{Literal}
-use Rattle.table.specs.Tables.{Tables, kindOf, firstOf, countOf, childAt}
-use Rattle.table.specs.Decode.{expr, items, fields}
+use Rattle.table.specs.Tables.{Tables, kindOf, firstOf}
+use Rattle.table.specs.Decode.{expr}
 use Rattle.table.specs.Expr as Expr
-use Rattle.table.specs.Expr.{Expr, literal, name, wildcard, array, object, nodeOf, depth}
-use Rattle.table.specs.Sound.{Node, WellFormed}
+use Rattle.table.specs.Expr.{Expr, literal, name, array, object}
+use Rattle.table.specs.Sound.{WellFormed}
 use Rattle.planner.specs.Post.{NameNumber}
-use Rattle.planner.specs.Simple.{simple}
 use Rattle.planner.proofs.Objects.{node-of}
-use Rattle.value.specs.Value.{Value, literalᵛ, isValue, valueOf, valueAt, same}
-use Rattle.value.specs.Post.{fieldsOf, ValueNode, SameAsks}
-use Rattle.run.specs.Matching.{Env, Outcome, matched, missed, fault, assign, setting, comparing, provided, run}
-use Rattle.run.specs.Post.{nodeAt, placeOf, kindAt, readPlan, visited, entryKind, EntryOf, envOf, ListOk, runAt, MatchAsks, EntryAsks, ItemsAsks, FieldsAsks, Came, CompareAsks}
+use Rattle.value.specs.Value.{Value, isValue, valueOf, same}
+use Rattle.value.specs.Post.{SameAsks}
+use Rattle.run.specs.Matching.{Outcome, matched, missed, assign, setting, comparing, provided, run}
+use Rattle.run.specs.Post.{nodeAt, kindAt, readPlan, entryKind, EntryOf, envOf, ListOk, runAt, MatchAsks, EntryAsks, ItemsAsks, FieldsAsks, Came, CompareAsks}
 use Rattle.run.proofs.Patterns.{PatternShape, pattern-literal, pattern-wildcard, pattern-name, pattern-array, pattern-object, pattern-shape, visits-self, some-depth}
-use Rattle.run.proofs.Lists.{node-value, value-some, env-at, set-ok, env-set}
+use Rattle.run.proofs.Lists.{node-value, env-at, set-ok, env-set}
 
 -- a comparison that decides
 pub compared-came : (T : Tables) {o : Outcome} {list : List ℕ} {r : Bool} → ListOk T list → o ≡ provided r (matched (envOf T list)) → Came T o list r

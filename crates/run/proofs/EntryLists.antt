@@ -1,22 +1,19 @@
 -- Lists of entries: what holds of every entry, and of some.
 use Prim.Native.Nat.{ℕ, zero, suc, _+_, _-_, _*_, _≤_, _<_}
-use mathlib.Core.Path.{_≡_, refl, sym, ap, ap₂, subst, _∙_}
-use mathlib.Core.Logic.{_⊎_, inl, inr, ⊎-elim}
+use mathlib.Core.Path.{_≡_, refl, sym, ap, _∙_}
 use mathlib.Core.List.{List, [], _∷_, _++_, map}
-use mathlib.Core.Bool.{Bool, true, false, cond, _&&_, _||_, not, false≢true}
+use mathlib.Core.Bool.{false, false≢true}
 use mathlib.Core.Option.{Option}
 use mathlib.Core.Option as Option
 use native.Mathlib.Omega.{arith}
-use native.Mathlib.Numerals.{add-one, add-two}
-use borrow.Author.Tests.{not-true}
 use lib.ListN.{length, getD, replicate, length-replicate, List·getD-append}
 use lib.Seq.{sets, sets-eq}
 use Rattle.literal.specs.Literal.{Literal}
 use Rattle.literal.specs.Order.{Order, keyOrder}
 use Rattle.literal.proofs.Orders.{key-order}
-use Rattle.planner.specs.Layout.{Entry, entry, literalKey, Slot, placed, insert, FieldOrder, noFields, addField, heldIn, inOrder, concat, words}
+use Rattle.planner.specs.Layout.{Entry, entry, Slot, placed, insert, FieldOrder, noFields, addField, heldIn, inOrder, concat, words}
 use Rattle.table.specs.Names.{isSame}
-use Rattle.planner.specs.Simple.{sameKey, hasKey}
+use Rattle.planner.specs.Simple.{sameKey}
 use Rattle.planner.proofs.Written.{length-words}
 use Rattle.planner.proofs.FieldOrder.{AllSlots, insert-all}
 

@@ -1,7 +1,7 @@
 -- Every simple pattern's plan runs well: without a fault, and to a match just where some filling fits.
 use Prim.Native.Nat.{ℕ}
 use mathlib.Core.Bool.{Bool, true, false, _&&_, _||_, false≢true}
-use mathlib.Core.List.{List, [], _∷_}
+use mathlib.Core.List.{List, _∷_}
 use mathlib.Core.Option.{Option, none, some}
 use mathlib.Core.Path.{_≡_, refl, ap, sym, _∙_}
 use lib.Dec.{T, eqb-refl}
@@ -12,10 +12,10 @@ use Rattle.planner.specs.Plan.{plan, plans, fieldPlans, after, afterAll, afterF
 use Rattle.planner.specs.Layout.{literalKey}
 use Rattle.planner.specs.Simple.{sameKey, differing, addKey, keysOf, isLiteral, simple, simpleAll, simpleFields, mentions, mentionsAny, mentionsFields}
 use Rattle.value.specs.Value.{Value, literalᵛ, arrayᵛ, objectᵛ, Values, noneᵛ, itemᵛ, ValueFields, doneᵛ, fieldᵛ, filledField, keysᵛ, sameKeys, firstOf, under, proper, properAll, properFields, Proper, holds, same, sameItems, sameFields, Same}
-use Rattle.run.specs.Matching.{Env, Outcome, matched, missed, fault, provided, next, at, underKey, planKeys, sameLength, run, runItems, runFields, Blanks, BlanksAll, BlanksFields, fill, fillAll, fillFields, SameBlanks, SameBlanksAll, SameBlanksFields}
+use Rattle.run.specs.Matching.{Env, Outcome, next, at, underKey, planKeys, sameLength, run, runItems, runFields, Blanks, BlanksAll, BlanksFields, fill, fillAll, fillFields, SameBlanks, SameBlanksAll, SameBlanksFields}
 use Rattle.value.proofs.Keys.{and-left, and-right, both, or-left, or-right}
 use Rattle.value.proofs.Equal.{same-refl, same-to}
-use Rattle.run.proofs.Good.{State, Good, hit, miss, pass, when, also, andThen, named}
+use Rattle.run.proofs.Good.{State, Good, miss, pass, when, also, andThen, named}
 
 abbrev pub Fits : Expr → Value → (ℕ → Value) → Type 0
 Fits e v ρ = (b : Blanks e) × Same (fill ρ e b) v

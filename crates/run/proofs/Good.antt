@@ -1,15 +1,15 @@
 -- A run that keeps to the written order: what holds of each part of a pattern, and how parts are put together.
 use Prim.Native.Nat.{ℕ}
 use mathlib.Core.Bool.{Bool, true, false, cond, _&&_, _||_, not, false≢true, and-false}
-use mathlib.Core.List.{List, [], _∷_}
+use mathlib.Core.List.{List, _∷_}
 use mathlib.Core.Option.{Option, none, some}
-use mathlib.Core.Path.{_≡_, refl, ap, ap₂, sym, _∙_}
+use mathlib.Core.Path.{_≡_, refl, ap, sym, _∙_}
 use lib.Dec.{T, eqb, eqb→eq, eqb-refl}
 use Rattle.table.specs.Expr.{name}
 use Rattle.table.specs.Rules.{elem}
-use Rattle.planner.specs.Plan.{DestructuringPlan, var, equalityExpr, fresh}
+use Rattle.planner.specs.Plan.{var, equalityExpr, fresh}
 use Rattle.value.specs.Value.{Value, Proper, same, Same}
-use Rattle.run.specs.Matching.{Env, Outcome, matched, missed, fault, pickValue, assign, setting, comparing, provided, next, run}
+use Rattle.run.specs.Matching.{Env, Outcome, matched, missed, pickValue, assign, provided, next, run}
 use Rattle.value.proofs.Keys.{or-left, or-right, or-elim, is-true, is-false, true-is}
 use Rattle.value.proofs.Equal.{same-refl, same-from}
 

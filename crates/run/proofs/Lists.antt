@@ -1,19 +1,19 @@
 -- The list of value nodes by name number, as the values that names have.
-use Prim.Native.Nat.{ℕ, zero, suc, _+_, _-_, _≤_, _<_}
+use Prim.Native.Nat.{ℕ, _-_, _≤_}
 use mathlib.Core.Path.{_≡_, refl, sym, ap, _∙_, fun-ext}
-use mathlib.Core.List.{List, [], _∷_}
-use mathlib.Core.Bool.{Bool, true, false, cond}
-use mathlib.Core.Option.{Option, none, some}
+use mathlib.Core.List.{List}
+use mathlib.Core.Bool.{Bool, true, false}
+use mathlib.Core.Option.{some}
 use native.Mathlib.Omega.{arith}
-use borrow.Author.Tests.{eqb-true, eqb-false, eq-eqb, ne-eqb}
+use borrow.Author.Tests.{eqb-true, eqb-false, ne-eqb}
 use lib.Dec.{eqb}
-use lib.ListN.{length, getD, set, length-set}
+use lib.ListN.{getD, set, length-set}
 use lib.Seq.{getD-set-same, getD-set-other}
 use Rattle.table.specs.Tables.{Tables}
 use Rattle.table.specs.Decode.{expr}
-use Rattle.value.specs.Value.{Value, valueOf, valueAt}
+use Rattle.value.specs.Value.{valueOf, valueAt}
 use Rattle.value.specs.Post.{ValueNode}
-use Rattle.run.specs.Matching.{Env, pickValue, assign}
+use Rattle.run.specs.Matching.{pickValue, assign}
 use Rattle.run.specs.Post.{envOf, ListOk}
 
 -- a value's node has a value

@@ -1,39 +1,37 @@
 -- The items of an array and the fields of an object, taken as written.
-use Prim.Native.Nat.{ℕ, zero, suc, _+_, _-_, _*_, _^_, _≤_, _<_}
-use mathlib.Core.Path.{_≡_, refl, sym, ap, ap₂, subst, _∙_}
-use mathlib.Core.List.{List, [], _∷_}
-use mathlib.Core.Bool.{Bool, true, false, cond, _&&_, _||_, not, false≢true}
-use mathlib.Core.Option.{Option, none, some}
+use Prim.Native.Nat.{ℕ, zero, suc, _+_, _-_, _*_, _≤_, _<_}
+use mathlib.Core.Path.{_≡_, refl, sym, ap, ap₂, _∙_}
+use mathlib.Core.List.{List}
+use mathlib.Core.Bool.{Bool, true, false, not, false≢true}
+use mathlib.Core.Option.{Option, some}
 use native.Mathlib.Omega.{arith}
 use mir.Val.{Fits}
 use mir.Syntax.{w64}
-use borrow.Author.Tests.{eq-eqb, ne-eqb, not-true, not-false}
-use lib.Dec.{T as True, eqb}
-use lib.ListN.{length, getD}
+use borrow.Author.Tests.{eq-eqb, not-true, not-false}
 use Rattle.literal.specs.Literal.{Literal}
-use Rattle.table.specs.Tables.{Tables, kindOf, firstOf, countOf, width, childAt}
+use Rattle.table.specs.Tables.{Tables, kindOf, firstOf, countOf, childAt}
 use Rattle.table.specs.Decode.{expr, items, fields, literalAt}
 use Rattle.table.specs.Expr as Expr
-use Rattle.table.specs.Expr.{Expr, literal, array, object, Exprs, item, Fields, done, field, nodeOf}
+use Rattle.table.specs.Expr.{Expr, array, object, Fields, done, field}
 use Rattle.table.specs.Rules.{elem}
 use Rattle.table.specs.Sound.{Node, WellFormed}
 use Rattle.table.proofs.Bools.{and-true, told-no, told-yes}
-use Rattle.table.proofs.Trees.{expr-array, expr-object, child-node, width-array, width-object}
+use Rattle.table.proofs.Trees.{expr-array, expr-object}
 use Rattle.planner.specs.Layout.{literalKey}
 use Rattle.planner.specs.Passes.{keyNode, valueNode}
-use Rattle.planner.specs.Plan.{arrayPlan, objectPlan, Plans, FieldPlans, fieldPlan}
-use Rattle.planner.specs.Simple.{simple, addKey, keysOf, hasKey}
+use Rattle.planner.specs.Plan.{arrayPlan, objectPlan}
+use Rattle.planner.specs.Simple.{addKey, keysOf}
 use Rattle.planner.proofs.Objects.{node-of}
-use Rattle.value.specs.Value.{Value, Values, ValueFields, valueOf, valuesOf, valueFieldsOf, valueAt, keysᵛ, under, within, sameKeys}
-use Rattle.value.specs.Post.{admitted, ChildrenAsks, underFrom, underIn, fieldsOf, KeyedObject, KeySetsAsk, ValueNode}
+use Rattle.value.specs.Value.{Value, valueOf, valuesOf, valueFieldsOf, valueAt, under, within, sameKeys}
+use Rattle.value.specs.Post.{admitted, underFrom, underIn, fieldsOf, KeyedObject, KeySetsAsk, ValueNode}
 use Rattle.value.proofs.Keys.{is-true, true-is, within→}
 use Rattle.value.proofs.Admitted.{value-keys, array-item, object-value, array-children, object-children, value-node, keyed-object, value-admitted, admitted-value}
 use Rattle.value.proofs.Under.{Fielded, object-fielded, key-of, found-field, found-key, found-value, has-key-at, position-fits, position-key-fits, position-value-fits}
 use Rattle.value.proofs.SameValues.{ValueShape, value-literal, value-array, value-object, value-shape}
-use Rattle.run.specs.Matching.{Env, Outcome, matched, missed, fault, provided, next, at, underKey, planKeys, sameLength, run, runItems, runFields}
-use Rattle.run.specs.Post.{nodeAt, placeOf, kindAt, readPlan, readPlans, readFields, visited, EntryOf, envOf, ListOk, runAt, MatchAsks, EntryAsks, ItemsAsks, FieldsAsks, Came}
+use Rattle.run.specs.Matching.{Env, Outcome, missed, fault, provided, next, at, underKey, planKeys, sameLength, run, runItems, runFields}
+use Rattle.run.specs.Post.{nodeAt, placeOf, kindAt, readPlan, readPlans, readFields, visited, envOf, ListOk, runAt, MatchAsks, EntryAsks, ItemsAsks, FieldsAsks, Came}
 use Rattle.run.proofs.Patterns.{simple-admitted, admitted-simple, visits-item, visits-value, visits-self, item-deep, value-deep}
-use Rattle.run.proofs.Lists.{node-value, value-some}
+use Rattle.run.proofs.Lists.{node-value}
 use Rattle.run.proofs.Entries.{missed-came, matched-came}
 
 -- lengths of items

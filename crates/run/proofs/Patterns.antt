@@ -1,8 +1,8 @@
 -- The nodes of a simple pattern: what they are, what is below them, how deep they go.
 use Prim.Native.Nat.{ℕ, zero, suc, _+_, _-_, _*_, _≤_, _<_, max}
-use mathlib.Core.Path.{_≡_, refl, sym, ap, subst, _∙_}
-use mathlib.Core.List.{List, [], _∷_, _++_}
-use mathlib.Core.Bool.{Bool, true, false, cond, _&&_, false≢true}
+use mathlib.Core.Path.{_≡_, refl, sym, _∙_}
+use mathlib.Core.List.{List, []}
+use mathlib.Core.Bool.{Bool, true, false, cond, false≢true}
 use native.Mathlib.Omega.{arith}
 use native.Mathlib.Nat.{le-max-left, le-max-right}
 use borrow.Author.Tests.{eqb-true, eqb-false}
@@ -11,13 +11,13 @@ use Rattle.literal.specs.Literal.{Literal}
 use Rattle.table.specs.Tables.{Tables, kindOf, firstOf, countOf, childAt}
 use Rattle.table.specs.Decode.{expr, items, fields, isWildcard}
 use Rattle.table.specs.Expr as Expr
-use Rattle.table.specs.Expr.{Expr, literal, name, wildcard, array, object, other, Exprs, item, Fields, done, field, depth, depthAll, depthFields}
+use Rattle.table.specs.Expr.{Expr, literal, name, wildcard, array, object, other, depth, depthAll, depthFields}
 use Rattle.table.specs.Rules.{elem}
-use Rattle.table.specs.Sound.{Node, Named, WellFormed}
+use Rattle.table.specs.Sound.{Node, WellFormed}
 use Rattle.table.proofs.Lists.{elem-head, elem-tail, elem-left, elem-right}
 use Rattle.table.proofs.Trees.{expr-name, expr-array, expr-object}
 use Rattle.planner.specs.Passes.{valueNode}
-use Rattle.planner.specs.Simple.{simple, keysOf, differing}
+use Rattle.planner.specs.Simple.{simple}
 use Rattle.planner.proofs.NodeKinds.{Plain, plain-literal, plain-set, plain-other, plain-kind}
 use Rattle.value.specs.Post.{admitted, fieldsOf}
 use Rattle.value.proofs.Admitted.{admits-simple}

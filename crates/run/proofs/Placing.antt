@@ -1,33 +1,29 @@
 -- Each node that a plan goes into has its entry at the place that is noted for it.
-use Prim.Native.Nat.{ℕ, zero, suc, _+_, _-_, _*_, _^_, _≤_, _<_}
-use mathlib.Core.Path.{_≡_, refl, sym, ap, ap₂, subst, _∙_}
-use mathlib.Core.List.{List, [], _∷_}
-use mathlib.Core.Bool.{Bool, true, false, cond, false≢true}
+use Prim.Native.Nat.{ℕ, _+_, _-_, _*_, _^_, _≤_, _<_}
+use mathlib.Core.Path.{_≡_, refl, sym, ap, subst, _∙_}
+use mathlib.Core.List.{List, []}
+use mathlib.Core.Bool.{Bool, true, false, cond}
 use native.Mathlib.Omega.{arith}
-use mir.Val.{Fits}
-use mir.Syntax.{w64}
-use borrow.Author.Tests.{eqb-true, eqb-false, eq-eqb, ne-eqb}
+use borrow.Author.Tests.{eqb-true, eqb-false}
 use lib.Dec.{eqb}
 use lib.ListN.{length, getD, set, replicate, length-set, length-replicate}
 use lib.Seq.{getD-set-same, getD-set-other}
-use Rattle.table.specs.Tables.{Tables, kindOf, countOf}
+use Rattle.table.specs.Tables.{Tables}
 use Rattle.table.specs.Decode.{expr}
 use Rattle.table.specs.Expr as Expr
-use Rattle.table.specs.Expr.{Expr, literal, name, wildcard, array, object, other, nodeOf, depth}
+use Rattle.table.specs.Expr.{Expr, literal, name, wildcard, array, object, other, nodeOf}
 use Rattle.table.specs.Rules.{elem}
-use Rattle.table.specs.Sound.{Node, WellFormed}
+use Rattle.table.specs.Sound.{WellFormed}
 use Rattle.planner.specs.Plan.{DestructuringPlan, var, equalityExpr, fresh, plan}
 use Rattle.planner.specs.Layout.{Entry, entries}
 use Rattle.planner.specs.Passes.{bindersOf, layOut}
-use Rattle.planner.specs.Simple.{simple}
 use Rattle.planner.proofs.Binders.{lay-plan-of}
 use Rattle.planner.proofs.Sizes.{lay-few-of}
 use Rattle.planner.proofs.Objects.{node-of}
 use Rattle.value.specs.Value.{valueOf}
-use Rattle.run.specs.Matching.{Env, Outcome, fault, run}
-use Rattle.run.specs.Post.{nodeAt, placeOf, kindAt, readPlan, visited, entryKind, EntryOf, envOf, ListOk, runAt, MatchAsks, EntryAsks, Came, PlacesAsks, Noted, PlanIn, PatternAsks, PatternCame}
-use Rattle.run.proofs.Patterns.{visits-self}
-use Rattle.run.proofs.EntryLists.{AllE, all-at, Has, here, has-at, blank, scratch-kind, scratch-node, scratch-count}
+use Rattle.run.specs.Matching.{Outcome, run}
+use Rattle.run.specs.Post.{nodeAt, placeOf, kindAt, readPlan, visited, entryKind, EntryOf, envOf, runAt, EntryAsks, Came, PlacesAsks, Noted, PlanIn, PatternAsks, PatternCame}
+use Rattle.run.proofs.EntryLists.{all-at, Has, here, has-at, blank, scratch-kind, scratch-node, scratch-count}
 use Rattle.run.proofs.Shown.{bindsBy, Truthful, entries-true, Shown, plan-shown, visited-has, reads-plan}
 
 -- noting from the last entry on

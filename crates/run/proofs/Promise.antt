@@ -1,18 +1,18 @@
 -- The promise of Matching, proved.
 use Prim.Native.Nat.{ℕ}
-use mathlib.Core.Bool.{Bool, true, false, _&&_, _||_, false≢true, and-true, and-false}
-use mathlib.Core.List.{List, [], _∷_}
+use mathlib.Core.Bool.{Bool, true, false, _&&_, false≢true}
+use mathlib.Core.List.{List, []}
 use mathlib.Core.Option.{Option, none, some}
-use mathlib.Core.Path.{_≡_, refl, ap, sym, _∙_}
+use mathlib.Core.Path.{_≡_, refl, sym, _∙_}
 use lib.Dec.{T}
-use Rattle.literal.specs.Literal.{Literal, null}
+use Rattle.literal.specs.Literal.{null}
 use Rattle.table.specs.Expr.{Expr}
 use Rattle.table.specs.Rules.{elem}
-use Rattle.planner.specs.Plan.{plan, after, fresh}
-use Rattle.planner.specs.Simple.{simple, mentions}
-use Rattle.value.specs.Value.{Value, literalᵛ, proper, Proper, same, Same}
-use Rattle.run.specs.Matching.{Env, Outcome, matched, missed, fault, pickValue, run, ProperValue, Blanks, fill, SameBlanks, Filling, orElse, start, Planned, outcome, Makes, Asked, Promise}
-use Rattle.value.proofs.Keys.{and-left, and-right, both, is-true, is-false, true-is}
+use Rattle.planner.specs.Plan.{after}
+use Rattle.planner.specs.Simple.{mentions}
+use Rattle.value.specs.Value.{Value, literalᵛ, proper, Proper, Same}
+use Rattle.run.specs.Matching.{Env, Outcome, matched, fault, pickValue, Filling, orElse, start, Planned, outcome, Makes, Asked, Promise}
+use Rattle.value.proofs.Keys.{and-left, and-right, is-true, true-is}
 use Rattle.value.proofs.Equal.{same-refl, same-sym, same-from}
 use Rattle.run.proofs.Good.{State, Hit, Good, hit, miss, isNone, Agree, Extends}
 use Rattle.run.proofs.Fits.{Fits, good, only}

@@ -1,12 +1,11 @@
 -- The names report, from its marks to the list at the end.
-use Prim.Native.Nat.{ℕ, zero, suc, _+_, _-_, _*_, _/_, _≤_, _<_}
-use mathlib.Core.Path.{_≡_, refl, sym, ap, ap₂, subst, _∙_}
-use mathlib.Core.Logic.{_⊎_, inl, inr, ⊎-elim}
-use mathlib.Core.List.{List, [], _∷_, _++_}
-use mathlib.Core.Bool.{Bool, true, false, cond, _&&_, _||_, not, false≢true}
-use mathlib.Core.Option.{Option}
+use Prim.Native.Nat.{ℕ, suc, _+_, _-_, _*_, _/_, _≤_, _<_}
+use mathlib.Core.Path.{_≡_, refl, sym, ap, ap₂, _∙_}
+use mathlib.Core.Logic.{_⊎_, ⊎-elim}
+use mathlib.Core.List.{List, [], _∷_}
+use mathlib.Core.Bool.{Bool, true, false, cond, _||_, not, false≢true}
 use native.Mathlib.Omega.{arith}
-use borrow.Author.Tests.{eqb-true, eqb-false, eq-eqb, ne-eqb, le-leb, lt-leb, lt-ltb, le-ltb, ltb-true, ltb-false, not-true, not-false}
+use borrow.Author.Tests.{eqb-true, eqb-false, eq-eqb, ne-eqb, le-leb, lt-leb, lt-ltb, le-ltb, ltb-true, ltb-false, not-true}
 use lib.Dec.{T as True, eqb, leb, ltb}
 use lib.ListN.{length, getD, set, replicate, length-set}
 use lib.Seq.{getD-set-same, getD-set-other, ext-getD}
@@ -21,13 +20,13 @@ use Rattle.table.specs.Expr.{Expr, literal, name, wildcard, array, object, othe
 use Rattle.table.specs.Decode.{expr}
 use Rattle.table.specs.Rules.{elem}
 use Rattle.table.specs.Check.{checked}
-use Rattle.table.specs.Sound.{Node, Named, WellFormed}
+use Rattle.table.specs.Sound.{Named}
 use Rattle.table.proofs.Bools.{told-no, told-yes}
 use Rattle.table.proofs.Lists.{elem-nil, elem-cons, elem-append}
-use Rattle.planner.specs.Plan.{DestructuringPlan, var, equalityExpr, fresh, plan, plans, fieldPlans, after}
-use Rattle.planner.specs.Layout.{Entry, entry, literalKey, FieldOrder, noFields, addField, inOrder, concat, entries, entriesAll, fieldOrder}
+use Rattle.planner.specs.Plan.{var, equalityExpr, fresh, plan, plans, fieldPlans, after}
+use Rattle.planner.specs.Layout.{Entry, literalKey, FieldOrder, noFields, addField, concat, entries, entriesAll, fieldOrder}
 use Rattle.planner.specs.Operations.{isSound, planOf}
-use Rattle.planner.specs.Post.{NameNumber, GoodRoot, PatternAsks, PatternPlanned, tabulate}
+use Rattle.planner.specs.Post.{PatternAsks, PatternPlanned, tabulate}
 use Rattle.planner.specs.Simple.{mentions, mentionsAny, mentionsFields}
 use Rattle.planner.proofs.Binders.{AllNames, AllNamesAll, AllNamesFields, names-all}
 use Rattle.planner.proofs.Filling.{length-tabulate, getD-tabulate}
@@ -35,7 +34,7 @@ use Rattle.planner.proofs.Operations.{table-passes, sound-well, root-node}
 use Rattle.value.proofs.Keys.{or-left, or-right, true-is}
 use Rattle.run.specs.declared.ReportAnswer.{ReportAnswer}
 use Rattle.run.specs.declared.ReportAnswer.the-variants.{Reported, TableRefused, RootOutside, ListTooShort}
-use Rattle.run.specs.Report.{boundIn, namesMet, namesMetAll, namesMetFields, reportedBy, reported, answerAfter, reportAnswer, reportList, ReportedBy}
+use Rattle.run.specs.Report.{boundIn, namesMet, namesMetAll, namesMetFields, reported, answerAfter, reportAnswer, reportList, ReportedBy}
 use Rattle.run.specs.NamesPost.{MetBy}
 use Rattle.run.specs.ReportPost.{metMark, EntryBound, markedBy, boundFrom, BoundAsks, BoundMarked, ReportAsks, PlannedMarked, ReportMarked}
 use Rattle.run.proofs.EntryLists.{AllE, all-append, all-at, AllOrder, all-none, all-add, all-order, blank, scratch-kind, scratch-node}

@@ -1,9 +1,9 @@
 -- A run, from the checks to the list at the end.
-use Prim.Native.Nat.{ℕ, zero, suc, _+_, _-_, _*_, _/_, _≤_, _<_}
-use mathlib.Core.Path.{_≡_, refl, sym, ap, ap₂, subst, _∙_, fun-ext}
-use mathlib.Core.List.{List, [], _∷_}
+use Prim.Native.Nat.{ℕ, _+_, _-_, _*_, _/_, _≤_, _<_}
+use mathlib.Core.Path.{_≡_, refl, sym, ap, subst, _∙_, fun-ext}
+use mathlib.Core.List.{List, []}
 use mathlib.Core.Bool.{Bool, true, false, cond, _&&_, _||_, not, false≢true}
-use mathlib.Core.Option.{Option, none, some}
+use mathlib.Core.Option.{none, some}
 use native.Mathlib.Omega.{arith}
 use borrow.Author.Tests.{eqb-true, eqb-false, eq-eqb, ne-eqb, le-leb, lt-leb, leb-true, leb-false, not-true, not-false}
 use lib.Dec.{T as True, eqb, leb}
@@ -16,40 +16,39 @@ use Rattle.table.specs.declared.TableAnswer.{TableAnswer}
 use Rattle.table.specs.declared.TableAnswer.the-variants.{Sound, OverLimit, BreaksRules, TooDeep, EqualNames}
 use Rattle.table.specs.Tables.{Tables, nodeCount, nameCount, isNode}
 use Rattle.table.specs.Expr as Expr
-use Rattle.table.specs.Expr.{Expr, literal, name, wildcard, array, object, other, Exprs, item, Fields, done, field, depth, nodeOf}
+use Rattle.table.specs.Expr.{Expr, literal, name, wildcard, array, object, other, Exprs, item, Fields, done, field}
 use Rattle.table.specs.Decode.{expr}
-use Rattle.table.specs.Rules.{allFrom, elem}
+use Rattle.table.specs.Rules.{elem}
 use Rattle.table.specs.Check.{checked}
 use Rattle.table.specs.Sound.{Node, Named, WellFormed, SoundTable}
-use Rattle.table.proofs.Bools.{and-true, or-true, told-no, told-yes}
+use Rattle.table.proofs.Bools.{and-true, told-no, told-yes}
 use Rattle.table.proofs.Facts.{sound-table}
 use Rattle.table.proofs.Scan.{all-at}
 use Rattle.planner.specs.Plan.{plan, after}
-use Rattle.planner.specs.Layout.{Entry, entries}
-use Rattle.planner.specs.Operations.{isSound, planned, fits, zeros, written, planOf}
-use Rattle.planner.specs.Post.{NameNumber, GoodRoot, Laid, PatternAsks, PatternPlanned, Delivered, wordAt, tabulate}
+use Rattle.planner.specs.Layout.{entries}
+use Rattle.planner.specs.Operations.{isSound, planned, fits, written, planOf}
+use Rattle.planner.specs.Post.{GoodRoot, Laid, PatternAsks, PatternPlanned, Delivered, wordAt, tabulate}
 use Rattle.planner.specs.declared.PlanAnswer.{PlanAnswer}
 use Rattle.planner.specs.Simple.{simple, mentions, mentionsAny, mentionsFields}
 use Rattle.planner.proofs.Binders.{AllNames, AllNamesAll, AllNamesFields, names-all}
 use Rattle.planner.proofs.Filling.{length-tabulate, getD-tabulate}
 use Rattle.planner.proofs.Operations.{delivered, table-passes, root-node}
 use Rattle.planner.proofs.Objects.{node-of}
-use Rattle.value.specs.Value.{Value, isValue, valueOf, valueAt, nodeᵛ, Proper}
+use Rattle.value.specs.Value.{Value, isValue, valueOf, valueAt, Proper}
 use Rattle.value.specs.Post.{ValueNode}
 use Rattle.value.proofs.Keys.{true-is, is-true, or-elim}
 use Rattle.value.proofs.Admitted.{value-proper}
 use Rattle.value.proofs.Node as Node·
 use Rattle.run.specs.declared.RunAnswer.{RunAnswer}
 use Rattle.run.specs.declared.RunAnswer.the-variants.{Match, NoMatch, TableRefused, RootOutside, ListTooShort, PatternNotSimple, NotAValue, NameWithoutValue, PlanTooLarge}
-use Rattle.run.specs.Matching.{Env, Outcome, matched, missed, fault, pickValue, run, start, outcome, Asked, Promise}
+use Rattle.run.specs.Matching.{Env, Outcome, matched, pickValue, run, start, Asked, Promise}
 use Rattle.run.specs.Operations.{listedNode, isName, allNames, isValueNode, listed, valuesListed, knownListed, RunOutcome, refused, carriedOut, tableFirst, ran, runChecked, runOutcome, answerOf, runAnswer, planAfter, nodeIn, setNames, plannedName, valuesAfter, Ran}
 use Rattle.run.specs.Post as Post
 use Rattle.run.specs.Post.{envOf, ListOk, PlanIn, Came, PatternCame, RunAsks, MatchValuesAsks, ValuesCame, CheckedAsks}
 use Rattle.run.specs.NamesPost.{ListAsks, StartOf, NamesSet, KnownAsks}
 use Rattle.run.specs.ChecksPost.{AllAsks}
-use Rattle.run.specs.Report.{namesMet}
 use Rattle.run.proofs.Promise as Promise·
-use Rattle.run.proofs.Lists.{node-value, env-at}
+use Rattle.run.proofs.Lists.{env-at}
 use Rattle.run.proofs.Valued.{after-met, mentions-met}
 
 -- what holds of each name of a pattern holds of the names in it

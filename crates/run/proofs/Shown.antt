@@ -1,15 +1,14 @@
 -- A simple pattern's plan has an entry for each node that it goes into, and what an entry says goes by its node.
 use Prim.Native.Nat.{ℕ, zero, suc, _+_, _-_, _*_, _≤_, _<_}
-use mathlib.Core.Path.{_≡_, refl, sym, ap, ap₂, subst, _∙_}
-use mathlib.Core.Logic.{_⊎_, inl, inr, ⊎-elim}
-use mathlib.Core.List.{List, [], _∷_, _++_}
+use mathlib.Core.Path.{_≡_, refl, sym, ap, ap₂}
+use mathlib.Core.Logic.{_⊎_, ⊎-elim}
+use mathlib.Core.List.{List, [], _∷_}
 use mathlib.Core.Bool.{Bool, true, false, cond, _&&_, _||_, not, false≢true}
 use mathlib.Core.Option.{Option}
 use mathlib.Core.Option as Option
 use native.Mathlib.Omega.{arith}
-use borrow.Author.Tests.{eq-eqb, ne-eqb, not-true}
+use borrow.Author.Tests.{not-true}
 use lib.Dec.{eqb}
-use lib.ListN.{length, getD}
 use Rattle.literal.specs.Literal.{Literal}
 use Rattle.table.specs.Tables.{Tables, kindOf, firstOf, countOf, childAt}
 use Rattle.table.specs.Decode.{expr, items, fields}
@@ -19,13 +18,12 @@ use Rattle.table.specs.Rules.{elem}
 use Rattle.table.specs.Sound.{Node, WellFormed}
 use Rattle.table.proofs.Bools.{and-true}
 use Rattle.table.proofs.Lists.{elem-nil, elem-cons, elem-append}
-use Rattle.table.proofs.Trees.{child-node, width-array, width-object, expr-array, expr-object}
-use Rattle.planner.specs.Plan.{DestructuringPlan, var, equalityExpr, arrayPlan, objectPlan, itemPlan, fieldPlan, fresh, plan, plans, fieldPlans, after, afterAll, afterFields}
-use Rattle.planner.specs.Layout.{Entry, entry, literalKey, Slot, FieldOrder, noFields, addField, inOrder, concat, entries, entriesAll, fieldOrder}
+use Rattle.table.proofs.Trees.{child-node, width-array, width-object}
+use Rattle.planner.specs.Plan.{var, equalityExpr, arrayPlan, objectPlan, itemPlan, fieldPlan, fresh, plan, plans, fieldPlans, after}
+use Rattle.planner.specs.Layout.{Entry, entry, literalKey, FieldOrder, noFields, addField, entries, entriesAll, fieldOrder}
 use Rattle.planner.specs.Passes.{binderOf, layOut, layOutAll, layOutFields}
 use Rattle.planner.specs.Simple.{sameKey, hasKey, differing, addKey, keysOf, isLiteral, simple, simpleAll, simpleFields}
-use Rattle.value.specs.Post.{admitted, fieldsOf}
-use Rattle.value.proofs.Distinct.{same-key-sym}
+use Rattle.value.specs.Post.{fieldsOf}
 use Rattle.value.proofs.Admitted.{array-item, object-value}
 use Rattle.run.specs.Post.{visited, visitedAll, visitedFields, entryKind, readPlan, readPlans, readFields}
 use Rattle.run.proofs.Patterns.{PatternShape, pattern-literal, pattern-wildcard, pattern-name, pattern-array, pattern-object, pattern-shape, simple-admitted, admitted-simple}

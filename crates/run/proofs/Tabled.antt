@@ -1,15 +1,14 @@
 -- A run sets names to values of the table: each is the value at its own node.
 use Prim.Native.Nat.{ℕ, zero, suc, _+_, _-_, _*_, _≤_, _<_}
-use mathlib.Core.Path.{_≡_, refl, sym, ap, ap₂, subst, _∙_}
-use mathlib.Core.List.{List}
-use mathlib.Core.Bool.{Bool, true, false, cond, false≢true}
+use mathlib.Core.Path.{_≡_, refl, sym, ap, _∙_}
+use mathlib.Core.Bool.{Bool, true, false, false≢true}
 use mathlib.Core.Option.{Option, none, some}
 use native.Mathlib.Omega.{arith}
 use lib.Dec.{eqb}
 use Rattle.literal.specs.Literal.{Literal}
 use Rattle.table.specs.Tables.{Tables, kindOf, firstOf, countOf, childAt}
 use Rattle.table.specs.Expr as Expr
-use Rattle.table.specs.Expr.{Expr, literal, array, object, nodeOf}
+use Rattle.table.specs.Expr.{Expr}
 use Rattle.table.specs.Decode.{expr, items, fields}
 use Rattle.table.specs.Sound.{Node, WellFormed}
 use Rattle.table.proofs.Trees.{width-array, width-object}
@@ -18,7 +17,7 @@ use Rattle.planner.specs.Plan.{DestructuringPlan, var, ignore, equalityExpr, eq
 use Rattle.planner.specs.Simple.{sameKey}
 use Rattle.planner.proofs.Objects.{node-of}
 use Rattle.value.specs.Value.{Value, literalᵛ, arrayᵛ, objectᵛ, Values, noneᵛ, itemᵛ, ValueFields, doneᵛ, fieldᵛ, filledField, valueOf, valuesOf, valueFieldsOf, nodeᵛ, firstOf as firstUnder, under, keysᵛ, sameKeys, same}
-use Rattle.value.specs.Post.{fieldsOf, ValueNode}
+use Rattle.value.specs.Post.{ValueNode}
 use Rattle.value.proofs.Node as Node·
 use Rattle.value.proofs.Admitted.{array-item, object-value, array-children, object-children, value-node, value-admitted, admitted-value}
 use Rattle.value.proofs.SameValues.{ValueShape, value-literal, value-array, value-object, value-shape}

@@ -1,11 +1,11 @@
 -- The values of names: at the start, after a match, and whether each that is needed is there.
-use Prim.Native.Nat.{ℕ, zero, suc, _+_, _-_, _*_, _/_, _≤_, _<_}
-use mathlib.Core.Path.{_≡_, refl, sym, ap, ap₂, subst, _∙_}
+use Prim.Native.Nat.{ℕ, zero, suc, _+_, _-_, _/_, _≤_, _<_}
+use mathlib.Core.Path.{_≡_, refl, sym, ap, ap₂, _∙_}
 use mathlib.Core.List.{List, [], _∷_, _++_}
-use mathlib.Core.Bool.{Bool, true, false, cond, _&&_, _||_, not, false≢true, and-false}
+use mathlib.Core.Bool.{Bool, true, false, cond, _&&_, _||_, not, false≢true}
 use native.Mathlib.Omega.{arith}
 use borrow.Author.Tests.{eqb-true, eqb-false, eq-eqb, ne-eqb, not-true, not-false}
-use lib.Dec.{T as True, eqb, leb}
+use lib.Dec.{eqb}
 use lib.ListN.{length, getD, set, replicate, length-set, length-replicate}
 use lib.Seq.{getD-set-same, getD-set-other}
 use Rattle.scope.specs.declared.Scope.{Scope}
@@ -20,18 +20,17 @@ use Rattle.table.specs.Expr as Expr
 use Rattle.table.specs.Expr.{Expr, literal, name, wildcard, array, object, other, Exprs, item, Fields, done, field}
 use Rattle.table.specs.Decode.{expr}
 use Rattle.table.specs.Rules.{allFrom, elem}
-use Rattle.table.specs.Sound.{WellFormed}
 use Rattle.table.proofs.Scan.{Scan, scan-start, scan-on, scan-fails, scan-ends}
-use Rattle.planner.specs.Plan.{fresh, after, afterAll, afterFields}
+use Rattle.planner.specs.Plan.{after, afterAll, afterFields}
 use Rattle.planner.specs.Layout.{literalKey}
 use Rattle.planner.specs.Passes.{unboundMark}
-use Rattle.planner.specs.Post.{NameNumber, GoodRoot, PatternPlanned}
+use Rattle.planner.specs.Post.{NameNumber, PatternPlanned}
 use Rattle.planner.specs.Simple.{isLiteral, keysOf, differing, simple, simpleAll, simpleFields, mentions, mentionsAny, mentionsFields}
 use Rattle.planner.proofs.States.{mark-never}
 use Rattle.table.proofs.Bools.{and-true}
 use Rattle.value.proofs.Keys.{true-is}
 use Rattle.run.specs.Report.{namesMet, namesMetAll, namesMetFields}
-use Rattle.run.specs.Operations.{listedNode, allNames, knownListed}
+use Rattle.run.specs.Operations.{listedNode, knownListed}
 use Rattle.run.specs.NamesPost.{ListAsks, StartOf, NamesSet, MetBy, hasValue, allHaveValues, KnownAsks}
 use Rattle.run.proofs.Fits.{silent}
 

@@ -1,6 +1,4 @@
 -- What a run and a names report answer, as document 01's four numbers; 0 is no refusal.
-use Prim.Native.Nat.{ℕ}
-use Rattle.table.specs.declared.TableAnswer.{TableAnswer}
 use Rattle.table.specs.Check.{refusal}
 use Rattle.planner.specs.Answer.{Line, line}
 use Rattle.run.specs.declared.RunAnswer.{RunAnswer}

@@ -1,7 +1,7 @@
 -- What a pattern's plan does when it is carried out on a value, what it means that pattern and value match, and what is promised of the run.
 use Prim.Native.Nat.{ℕ}
-use mathlib.Core.Bool.{Bool, true, false, _&&_, _||_}
-use mathlib.Core.List.{List, [], _∷_}
+use mathlib.Core.Bool.{Bool, true, false, _&&_}
+use mathlib.Core.List.{List, []}
 use mathlib.Core.Option.{Option, none, some}
 use mathlib.Core.Path.{_≡_}
 use lib.Dec.{T, eqb}
@@ -11,7 +11,7 @@ use Rattle.table.specs.Expr.{Expr, literal, name, wildcard, array, set, object,
 use Rattle.planner.specs.Plan.{DestructuringPlan, var, ignore, equalityExpr, equalityValue, arrayPlan, objectPlan, Plans, noPlan, itemPlan, FieldPlans, noField, fieldPlan, plan}
 use Rattle.planner.specs.Layout.{literalKey}
 use Rattle.planner.specs.Simple.{addKey, simple, mentions}
-use Rattle.value.specs.Value.{Value, literalᵛ, arrayᵛ, objectᵛ, Values, noneᵛ, itemᵛ, ValueFields, doneᵛ, fieldᵛ, filledField, keysᵛ, sameKeys, under, Proper, same, Same}
+use Rattle.value.specs.Value.{Value, literalᵛ, arrayᵛ, objectᵛ, Values, noneᵛ, itemᵛ, ValueFields, doneᵛ, filledField, keysᵛ, sameKeys, under, Proper, same, Same}
 
 -- 1. The run of a plan on a value, in written order.
 

@@ -1,5 +1,5 @@
 // What a run turns back before it plans: a pattern that is not simple, a node that is no value.
-ghost use Prim.Native.Nat.{_-_, _/_, _≤_};
+ghost use Prim.Native.Nat.{_-_, _/_};
 ghost use mathlib.Core.Path.{_≡_};
 ghost use mathlib.Core.Bool.{_&&_};
 ghost use Rattle.table.specs.Tables.{tables};

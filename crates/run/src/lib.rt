@@ -1,5 +1,4 @@
 // Carrying a pattern's plan out on a value, and the report of a pattern's names.
-ghost use mathlib.Core.Path.{_≡_};
 ghost use Rattle.scope.specs.Scope.{isUnbound};
 ghost use Rattle.table.specs.Tables.{tables};
 ghost use Rattle.table.specs.Decode.{expr};

@@ -1,9 +1,9 @@
 // The names report of a pattern.
-ghost use Prim.Native.Nat.{_+_, _-_, _<_, _≤_};
+ghost use Prim.Native.Nat.{_+_, _-_, _<_};
 ghost use mathlib.Core.Path.{_≡_};
 ghost use lib.ListN.{length};
 ghost use Rattle.table.specs.Tables.{tables};
-ghost use Rattle.planner.specs.Post.{tabulate, GoodRoot};
+ghost use Rattle.planner.specs.Post.{tabulate};
 ghost use Rattle.run.specs.Report.{ReportedBy};
 ghost use Rattle.run.specs.ReportPost.{metMark, EntryBound, markedBy, BoundAsks, BoundMarked, ReportAsks, PlannedMarked, ReportMarked};
 use crate::ReportAnswer;

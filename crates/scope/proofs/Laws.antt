@@ -8,7 +8,7 @@ use Rattle.scope.specs.declared.Scope.{Scope}
 use Rattle.scope.specs.declared.ScopingMode.{ScopingMode}
 use Rattle.scope.specs.declared.ScopingMode.the-variants.{RespectParent, AllowShadowing}
 use Rattle.scope.specs.declared.Binding.the-variants as Binding
-use Rattle.scope.specs.Scope.{isName, has, markOf, isUnderscore, byScoping, isUnbound, sameScope, bound, declaredUnbound, local, global, upperMarks, withLower, bindVariable, addUnboundVariable, withoutSame, childOf, newScope, smallMarks, marksOk, refusal, answerOf, bindingOf, questionRefusal}
+use Rattle.scope.specs.Scope.{isName, has, markOf, isUnderscore, byScoping, isUnbound, sameScope, bound, declaredUnbound, local, global, upperMarks, withLower, bindVariable, addUnboundVariable, withoutSame, childOf, newScope, smallMarks, marksOk, questionRefusal}
 use Rattle.scope.specs.Promises.{Sized, SameFrame, Kept, Alike, ChangedAt, BindPromise, AddPromise, ChildPromise, NewPromise, ScopePromise, AnswerPromise}
 use Rattle.scope.proofs.Marks.{lower-1, lower-2, lower-4, lower-8, lower-16, without-1, without-2, without-4, without-8, without-16, marks-at, marks-elsewhere, marks-child, getD-zeros, marks-bounded, small-set, small-without}
 

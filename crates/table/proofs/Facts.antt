@@ -1,7 +1,7 @@
 -- What a table that passed the check gives, rule by rule.
 use Prim.Native.Nat.{ℕ, _+_, _-_, _*_, _%_, _≤_, _<_}
 use mathlib.Core.Path.{_≡_, refl, sym, _∙_}
-use mathlib.Core.Bool.{Bool, true, false, not, _&&_, false≢true}
+use mathlib.Core.Bool.{Bool, true, false, _&&_, false≢true}
 use mathlib.Core.Option.{Option, some}
 use mathlib.Core.Option as Option
 use native.Mathlib.Omega.{arith}
@@ -13,7 +13,7 @@ use Rattle.literal.specs.Reading.{part, literalOf}
 use Rattle.scope.specs.declared.Scope.{Scope}
 use Rattle.table.specs.declared.TableAnswer.the-variants.{Sound, OverLimit, BreaksRules, TooDeep, EqualNames}
 use Rattle.table.specs.Tables.{Tables, kindOf, startOf, endOf, firstOf, countOf, nodeCount, numberCount, nameCount, width, childAt, nameStart, nameLength, nameBytes}
-use Rattle.table.specs.Expr.{depth, other}
+use Rattle.table.specs.Expr.{depth}
 use Rattle.table.specs.Decode.{expr, literalAt, literalNode, refOf}
 use Rattle.table.specs.Names.{sameBytes}
 use Rattle.table.specs.Rules.{allFrom, noRepeat, withinLimits, wholeRecords, inside, spanOk, nameTextOk, wordsOk, belowAt, childrenBelow, nodeOk, nodeOkAt, entryOk, usedPlaces, numberOk, nameOk, nameOkAt, scopeOk, followsRules, depthOkAt, shallow, differAt, newNameAt, namesDiffer}

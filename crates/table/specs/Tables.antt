@@ -1,5 +1,5 @@
 -- The lent tables, and how their words are read. Nodes, names and numbers are counted from their lists; nodes and names are numbered from 1, places from 0.
-use Prim.Native.Nat.{ℕ, zero, _+_, _-_, _*_, _/_}
+use Prim.Native.Nat.{ℕ, _+_, _-_, _*_, _/_}
 use mathlib.Core.Bool.{Bool, cond, _&&_}
 use mathlib.Core.List.{List}
 use lib.Dec.{eqb, leb}

@@ -1,6 +1,6 @@
 -- The starred rules on trial hold of the definitions, in one computed test.
 use mathlib.Core.Path.{_≡_, refl}
-use mathlib.Core.List.{List, map}
+use mathlib.Core.List.{map}
 use Rattle.literal.specs.Literal.{isNumber}
 use Rattle.literal.specs.Reading.{literalOf}
 use Rattle.literal.specs.Order.{bytesOrder, keyOrder}

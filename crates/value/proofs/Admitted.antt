@@ -1,29 +1,28 @@
 -- Simple patterns and values by one definition, and what is admitted of a node is admitted of its parts.
 use Prim.Native.Nat.{ℕ, zero, suc, _+_, _-_, _*_, _≤_, _<_}
-use mathlib.Core.Path.{_≡_, refl, sym, ap, ap₂, subst, _∙_}
-use mathlib.Core.List.{List, [], _∷_}
+use mathlib.Core.Path.{_≡_, refl, sym, ap, ap₂, _∙_}
+use mathlib.Core.List.{List, _∷_}
 use mathlib.Core.Bool.{Bool, true, false, cond, _&&_, false≢true}
 use mathlib.Core.Option.{Option}
 use mathlib.Core.Option as Option
 use native.Mathlib.Omega.{arith}
-use borrow.Author.Tests.{eqb-true, eqb-false, leb-true, leb-false}
-use lib.Dec.{T, eqb, leb}
-use lib.ListN.{length}
+use borrow.Author.Tests.{eqb-true, eqb-false}
+use lib.Dec.{T, eqb}
 use Rattle.literal.specs.Literal.{Literal}
-use Rattle.table.specs.Tables.{Tables, kindOf, firstOf, countOf, width, childAt}
+use Rattle.table.specs.Tables.{Tables, kindOf, firstOf, countOf, childAt}
 use Rattle.table.specs.Expr as Expr
 use Rattle.table.specs.Expr.{Expr, literal, name, wildcard, array, set, object, other, Exprs, item, Fields, done, field}
-use Rattle.table.specs.Decode.{expr, items, fields, isWildcard, literalAt}
-use Rattle.table.specs.Sound.{Node, Named, WellFormed}
-use Rattle.table.proofs.Bools.{and-true, never}
+use Rattle.table.specs.Decode.{expr, items, fields, isWildcard}
+use Rattle.table.specs.Sound.{Node, WellFormed}
+use Rattle.table.proofs.Bools.{and-true}
 use Rattle.table.proofs.Trees.{expr-name, expr-array, expr-object, width-array, width-object, child-node}
 use Rattle.planner.specs.Layout.{literalKey}
 use Rattle.planner.specs.Passes.{keyNode, valueNode}
 use Rattle.planner.specs.Simple.{addKey, keysOf, isLiteral, differing, simple, simpleAll, simpleFields}
 use Rattle.planner.proofs.NodeKinds.{Plain, plain-literal, plain-set, plain-other, plain-kind}
-use Rattle.value.specs.Value.{Value, Values, ValueFields, isValue, areValues, holdValues, filledField, valueOf, valuesOf, valueFieldsOf, keysᵛ, proper, properAll, properFields, Proper}
+use Rattle.value.specs.Value.{isValue, areValues, holdValues, filledField, valueOf, valuesOf, valueFieldsOf, keysᵛ, proper, properAll, properFields, Proper}
 use Rattle.value.specs.Post.{admitted, admittedAll, admittedFields, ChildrenAsks, fieldsOf, KeyedObject, ValueNode}
-use Rattle.value.proofs.Keys.{and-left, and-right, both, true-is}
+use Rattle.value.proofs.Keys.{and-left, and-right, both}
 
 mutual
   unfolding admitted simple

@@ -1,7 +1,7 @@
 -- Fields in key order are as many as written exactly where their literal keys differ.
 use Prim.Native.Nat.{ℕ, zero, suc, _+_, _-_, _*_, _≤_, _<_}
-use mathlib.Core.Path.{_≡_, refl, sym, ap, ap₂, subst, _∙_}
-use mathlib.Core.List.{List, [], _∷_, _++_, map}
+use mathlib.Core.Path.{_≡_, refl, sym, ap, ap₂, _∙_}
+use mathlib.Core.List.{List, [], _∷_, map}
 use mathlib.Core.Bool.{Bool, true, false, cond, _&&_, _||_, not, and-false}
 use mathlib.Core.Option.{Option}
 use mathlib.Core.Option as Option
@@ -12,17 +12,17 @@ use lib.ListN.{length, length-append, length-map}
 use Rattle.literal.specs.Literal.{Literal}
 use Rattle.literal.specs.Order.{Order, less, same, more, opposite, keyOrder}
 use Rattle.literal.proofs.Orders.{key-order}
-use Rattle.table.specs.Tables.{Tables, kindOf, childAt}
-use Rattle.table.specs.Decode.{expr, fields, literalAt}
+use Rattle.table.specs.Tables.{Tables}
+use Rattle.table.specs.Decode.{expr, fields}
 use Rattle.table.specs.Sound.{Node, WellFormed}
-use Rattle.planner.specs.Layout.{literalKey, Slot, placed, insert, FieldOrder, noFields, addField, heldIn, inOrder}
+use Rattle.planner.specs.Layout.{Slot, placed, insert, FieldOrder, noFields, addField, heldIn, inOrder}
 use Rattle.planner.specs.Passes.{keyNode, fieldKey, orderFrom, orderOf}
 use Rattle.planner.specs.Post.{OrderAsks, OrderedBy}
 use Rattle.table.specs.Names.{isSame}
 use Rattle.planner.specs.Simple.{sameKey, hasKey, differing, addKey, keysOf}
 use Rattle.planner.proofs.FieldOrder.{AllSlots, Above, Sorted, none-sorted, insert-sorted}
 use Rattle.planner.proofs.Objects.{key-literal}
-use Rattle.value.specs.Post.{ChildrenAsks, KeysAsks}
+use Rattle.value.specs.Post.{KeysAsks}
 use Rattle.value.proofs.Admitted.{key-node}
 
 opposite-same : (o : Order) → isSame (opposite o) ≡ isSame o

@@ -1,14 +1,12 @@
 -- Equality of values is equality of what they mean, where an object means a function of its keys. So it is reflexive, symmetric and transitive.
-use Prim.Native.Nat.{ℕ}
-use mathlib.Core.Bool.{Bool, true, false, _&&_, _||_, not, false≢true}
-use mathlib.Core.List.{List, [], _∷_}
+use mathlib.Core.Bool.{Bool, true, false, _||_, not, false≢true}
 use mathlib.Core.Option.{Option, none, some}
 use mathlib.Core.Path.{_≡_, refl, ap, ap₂, sym, _∙_, fun-ext}
 use lib.Dec.{T, T-not}
 use Rattle.literal.specs.Literal.{Literal}
 use Rattle.planner.specs.Simple.{sameKey, hasKey, differing}
 use Rattle.value.specs.Value.{Value, literalᵛ, arrayᵛ, objectᵛ, Values, noneᵛ, itemᵛ, ValueFields, doneᵛ, fieldᵛ, within, sameKeys, keysᵛ, firstOf, under, proper, properAll, properFields, Proper, holds, same, sameItems, sameFields, Same, EqualityLaws}
-use Rattle.value.proofs.Keys.{and-left, and-right, both, or-left, or-right, or-elim, is-true, is-false, true-is, key→, key-refl, within→, within←}
+use Rattle.value.proofs.Keys.{and-left, and-right, both, or-left, or-right, is-true, is-false, true-is, key→, key-refl, within→, within←}
 
 mutual
   data Meaning : Type 0 where

@@ -1,31 +1,30 @@
 -- The marks of nodes, from the lowest number on.
-use Prim.Native.Nat.{ℕ, zero, suc, _+_, _-_, _*_, _/_, _^_, _≤_, _<_}
-use mathlib.Core.Path.{_≡_, refl, sym, ap, ap₂, subst, _∙_}
-use mathlib.Core.List.{List, [], _∷_}
+use Prim.Native.Nat.{ℕ, zero, suc, _+_, _-_, _*_, _≤_, _<_}
+use mathlib.Core.Path.{_≡_, refl, sym, ap, ap₂, _∙_}
+use mathlib.Core.List.{List}
 use mathlib.Core.Bool.{Bool, true, false, cond, _&&_, not, false≢true, and-false}
 use mathlib.Core.Option.{Option}
 use mathlib.Core.Option as Option
 use native.Mathlib.Omega.{arith}
 use mir.Val.{Fits}
 use mir.Syntax.{w64}
-use borrow.Author.Tests.{eq-eqb, ne-eqb, eqb-true, eqb-false, le-leb, lt-leb, leb-true, leb-false, not-true, not-false}
+use borrow.Author.Tests.{eq-eqb, ne-eqb, eqb-true, eqb-false, le-leb, lt-leb, leb-true, leb-false}
 use lib.Dec.{eqb, leb}
 use lib.ListN.{length, getD, set, replicate, length-set, length-replicate}
 use lib.Seq.{getD-set-same, getD-set-other}
-use Rattle.literal.specs.Literal.{Literal}
 use Rattle.table.specs.Tables.{Tables, kindOf, firstOf, countOf, nodeCount, childAt}
-use Rattle.table.specs.Expr.{Expr, literal, name, wildcard, array, object, other, Exprs, item, Fields, done, field}
+use Rattle.table.specs.Expr.{Expr, literal, name, wildcard}
 use Rattle.table.specs.Expr as Expr
-use Rattle.table.specs.Decode.{expr, items, fields, isWildcard, literalAt}
+use Rattle.table.specs.Decode.{expr, items, fields, isWildcard}
 use Rattle.table.specs.Sound.{Node, WellFormed}
 use Rattle.table.proofs.Bools.{and-true, told-no, told-yes}
 use Rattle.table.proofs.Trees.{expr-literal, expr-name, expr-array, expr-object, child-node, width-array, width-object}
 use Rattle.planner.specs.Layout.{literalKey}
-use Rattle.planner.specs.Passes.{keyNode, valueNode}
+use Rattle.planner.specs.Passes.{keyNode}
 use Rattle.planner.specs.Simple.{keysOf, isLiteral, differing}
 use Rattle.planner.proofs.NodeKinds.{Plain, plain-literal, plain-set, plain-other, plain-kind}
 use Rattle.value.specs.Post.{admitted, admittedAll, admittedFields, isMarked, markOf, itemsMarked, fieldsMarked, ChildrenAsks, MarkAsks, Marked, KeysAsks, fieldsOf}
-use Rattle.value.proofs.Admitted.{literal-kind, array-children, object-children, key-node}
+use Rattle.value.proofs.Admitted.{literal-kind, array-children, object-children}
 
 -- the first of the children, and the rest
 module _ {T : Tables} {at left : ℕ} (more : 0 < left) where

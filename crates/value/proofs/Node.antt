@@ -1,5 +1,4 @@
 -- A value stands at the node of the expression that it is.
-use Prim.Native.Nat.{ℕ}
 use mathlib.Core.Path.{_≡_, refl}
 use Rattle.table.specs.Expr.{Expr, literal, name, wildcard, array, set, object, other, nodeOf}
 use Rattle.value.specs.Value.{valueOf, nodeᵛ}

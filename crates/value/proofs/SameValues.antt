@@ -1,33 +1,31 @@
 -- Equality of two value nodes, by their kinds.
-use Prim.Native.Nat.{ℕ, zero, suc, _+_, _-_, _*_, _^_, _≤_, _<_}
-use mathlib.Core.Path.{_≡_, refl, sym, ap, ap₂, subst, _∙_}
-use mathlib.Core.List.{List, [], _∷_}
+use Prim.Native.Nat.{ℕ, zero, suc, _+_, _-_, _*_, _≤_, _<_}
+use mathlib.Core.Path.{_≡_, refl, sym, ap, ap₂, _∙_}
+use mathlib.Core.List.{List}
 use mathlib.Core.Bool.{Bool, true, false, cond, _&&_, _||_, not, false≢true, and-false}
 use mathlib.Core.Option.{Option}
 use mathlib.Core.Option as Option
 use native.Mathlib.Omega.{arith}
 use mir.Val.{Fits}
 use mir.Syntax.{w64}
-use borrow.Author.Tests.{eq-eqb, ne-eqb, eqb-true, eqb-false, not-true, not-false}
+use borrow.Author.Tests.{ne-eqb, eqb-true, eqb-false, not-true, not-false}
 use lib.Dec.{T as True, eqb}
-use lib.ListN.{length}
 use Rattle.literal.specs.Literal.{Literal}
-use Rattle.table.specs.Tables.{Tables, kindOf, firstOf, countOf, width, childAt}
+use Rattle.table.specs.Tables.{Tables, kindOf, firstOf, countOf, childAt}
 use Rattle.table.specs.Decode.{expr, items, fields, isWildcard, literalAt}
 use Rattle.table.specs.Expr as Expr
-use Rattle.table.specs.Expr.{Expr, literal, name, wildcard, array, set, object, other, Exprs, item, Fields, done, field}
-use Rattle.table.specs.Sound.{Node, WellFormed}
-use Rattle.table.proofs.Bools.{told-no, told-yes}
-use Rattle.table.proofs.Trees.{expr-literal, expr-name, expr-array, expr-object, child-node, width-array, width-object, items-step}
+use Rattle.table.specs.Expr.{Expr, literal, name, wildcard, array, object, other}
+use Rattle.table.specs.Sound.{WellFormed}
+use Rattle.table.proofs.Trees.{expr-literal, expr-name, expr-array, expr-object, child-node, width-array, width-object}
 use Rattle.planner.specs.Layout.{literalKey}
-use Rattle.planner.specs.Passes.{keyNode, valueNode}
-use Rattle.planner.specs.Simple.{sameKey, hasKey, differing, keysOf}
+use Rattle.planner.specs.Passes.{valueNode}
+use Rattle.planner.specs.Simple.{sameKey, hasKey, keysOf}
 use Rattle.planner.proofs.NodeKinds.{Plain, plain-literal, plain-set, plain-other, plain-kind}
 use Rattle.planner.proofs.Objects.{key-literal}
-use Rattle.value.specs.Value.{Value, literalᵛ, arrayᵛ, objectᵛ, Values, noneᵛ, itemᵛ, ValueFields, doneᵛ, fieldᵛ, isValue, filledField, valueOf, valuesOf, valueFieldsOf, valueAt, keysᵛ, firstOf as firstUnder, under, within, sameKeys, holds, same, sameItems, sameFields}
-use Rattle.value.specs.Post.{admitted, ChildrenAsks, sameLiterals, underFrom, underIn, fieldsOf, KeyedObject, ValueNode, SameAsks, SameItemsAsks, SameFieldsAsks}
-use Rattle.value.proofs.Keys.{and-left, and-right, both, or-left, or-right, is-true, is-false, true-is, sets-by-count, sets-uneven}
-use Rattle.value.proofs.Admitted.{value-keys, array-item, object-value, array-children, object-children, key-node, value-node, keyed-object, value-admitted, admitted-value}
+use Rattle.value.specs.Value.{Value, literalᵛ, ValueFields, doneᵛ, fieldᵛ, isValue, filledField, valueOf, valuesOf, valueFieldsOf, valueAt, keysᵛ, firstOf as firstUnder, under, within, sameKeys, holds, same, sameItems, sameFields}
+use Rattle.value.specs.Post.{sameLiterals, underFrom, underIn, fieldsOf, KeyedObject, ValueNode, SameAsks, SameItemsAsks, SameFieldsAsks}
+use Rattle.value.proofs.Keys.{and-left, and-right, both, is-true, is-false, true-is, sets-by-count, sets-uneven}
+use Rattle.value.proofs.Admitted.{value-keys, array-item, object-value, array-children, value-node, keyed-object, value-admitted, admitted-value}
 use Rattle.value.proofs.Under.{Fielded, object-fielded, keys-length, found-field, found-value, key-of, position-fits, position-key-fits, position-value-fits}
 
 -- what a value node is

@@ -1,14 +1,14 @@
 -- The value under a key, found in the table.
-use Prim.Native.Nat.{ℕ, zero, suc, _+_, _-_, _*_, _^_, _≤_, _<_}
-use mathlib.Core.Path.{_≡_, refl, sym, ap, ap₂, subst, _∙_}
-use mathlib.Core.List.{List, [], _∷_}
+use Prim.Native.Nat.{ℕ, zero, suc, _+_, _-_, _*_, _≤_, _<_}
+use mathlib.Core.Path.{_≡_, refl, sym, ap, _∙_}
+use mathlib.Core.List.{List, _∷_}
 use mathlib.Core.Bool.{Bool, true, false, cond, _&&_, _||_, not, false≢true}
 use mathlib.Core.Option.{Option}
 use mathlib.Core.Option as Option
 use native.Mathlib.Omega.{arith}
 use mir.Val.{Fits}
 use mir.Syntax.{w64}
-use borrow.Author.Tests.{eq-eqb, ne-eqb, eqb-true, eqb-false, not-true, not-false}
+use borrow.Author.Tests.{eq-eqb, ne-eqb, not-true}
 use lib.Dec.{T as True, eqb}
 use lib.ListN.{length}
 use Rattle.literal.specs.Literal.{Literal}
@@ -17,19 +17,17 @@ use Rattle.literal.specs.declared.Comparison.{Comparison}
 use Rattle.literal.specs.declared.Comparison.the-variants.{Less, Equal, Greater, NoLiteral}
 use Rattle.table.specs.Tables.{Tables, kindOf, firstOf, countOf, childAt}
 use Rattle.table.specs.Decode.{expr, fields, literalAt}
-use Rattle.table.specs.Expr.{Fields, done, field}
-use Rattle.table.specs.Sound.{Node, WellFormed}
 use Rattle.table.proofs.Bools.{and-true}
 use Rattle.planner.specs.Layout.{literalKey}
 use Rattle.planner.specs.Passes.{keyNode, valueNode}
 use Rattle.table.specs.Names.{isSame}
 use Rattle.planner.specs.Simple.{sameKey, hasKey, differing, addKey, keysOf}
 use Rattle.planner.proofs.Objects.{key-literal}
-use Rattle.value.specs.Value.{Value, filledField, valueOf, valueFieldsOf, valueAt, firstOf as firstUnder, under, within, sameKeys}
+use Rattle.value.specs.Value.{filledField, valueOf, valueFieldsOf, valueAt, firstOf as firstUnder, under, within, sameKeys}
 use Rattle.value.specs.Post.{ChildrenAsks, sameLiterals, underFrom, underIn, fieldsOf, KeyedObject, KeySetsAsk}
 use Rattle.value.proofs.Keys.{or-left, or-right, is-true, is-false, true-is, key→, key-refl, sets-by-count, sets-uneven}
-use Rattle.value.proofs.Admitted.{object-children, key-node, value-node}
-use Rattle.value.proofs.Marking.{fields-on, first-key, first-value, fields-fit, value-fits}
+use Rattle.value.proofs.Admitted.{object-children, key-node}
+use Rattle.value.proofs.Marking.{fields-on, fields-fit, value-fits}
 
 -- the comparison of two literals
 module _ {way : Comparison} (a b : Option Literal) (is : way ≡ compared a b) where

@@ -1,6 +1,6 @@
 -- Values, and when two are equal. A value is a literal, an array of values, or an object of values under literal keys that differ; each part keeps the number of its node.
 use Prim.Native.Nat.{ℕ}
-use mathlib.Core.Bool.{Bool, true, false, cond, _&&_, _||_, not}
+use mathlib.Core.Bool.{Bool, true, false, cond, _&&_}
 use mathlib.Core.List.{List, [], _∷_}
 use mathlib.Core.Option.{Option, none, some}
 use lib.Dec.{T, eqb}

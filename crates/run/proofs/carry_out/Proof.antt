@@ -1,4 +1,4 @@
-use Rattle.run.proofs.Running.{ask-plan, few-entries, ask-values, too-large, carried}
+use Rattle.run.proofs.Running.{ask-plan, ask-values, too-large, carried}
 use borrow.Author.Needs.{needs}
 use Rattle.run.proofs.carry_out.Statement.{statement}
 use Rattle.run.proofs.carry_out.Tie as tie

@@ -1,5 +1,4 @@
 use Prim.Native.Nat.{_-_, _≤_}
-use lib.ListN.{length}
 use borrow.Author.Needs.{needs}
 use Rattle.run_test.proofs.print_words.Statement.{statement}
 use Rattle.run_test.proofs.print_words.Tie as tie

@@ -1,5 +1,4 @@
 use Rattle.assignment.proofs.Sides.{turned, equals-both, equals-left, equals-right, equals-none}
-use Rattle.assignment.specs.Post.{BindAsks}
 use borrow.Author.Needs.{needs}
 use Rattle.assignment.proofs.assignment.equals_from.Statement.{statement}
 use Rattle.assignment.proofs.assignment.equals_from.Tie as tie

@@ -1,4 +1,4 @@
-use Rattle.assignment.proofs.Sides.{ask-first, ask-bind, colon-planned}
+use Rattle.assignment.proofs.Sides.{ask-first, colon-planned}
 use borrow.Author.Needs.{needs}
 use Rattle.assignment.proofs.assignment.plan_colon_equals.Statement.{statement}
 use Rattle.assignment.proofs.assignment.plan_colon_equals.Tie as tie

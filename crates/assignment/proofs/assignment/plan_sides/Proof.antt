@@ -1,4 +1,4 @@
-use Rattle.assignment.proofs.Sides.{ask-first, ask-second, ask-equals, sides-planned}
+use Rattle.assignment.proofs.Sides.{ask-first, ask-second, sides-planned}
 use borrow.Author.Needs.{needs}
 use Rattle.assignment.proofs.assignment.plan_sides.Statement.{statement}
 use Rattle.assignment.proofs.assignment.plan_sides.Tie as tie

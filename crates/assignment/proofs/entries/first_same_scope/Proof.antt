@@ -1,5 +1,4 @@
 use Prim.Native.Nat.{_-_, _≤_}
-use native.Mathlib.Omega.{arith}
 use Rattle.assignment.specs.Assignment.{firstSameScope}
 use Rattle.assignment.proofs.Reading.{Scanning, scanning-start, first-found, first-on, first-ends}
 use borrow.Author.Needs.{needs}

@@ -1,5 +1,4 @@
-use Prim.Native.Nat.{_-_, _≤_}
-use native.Mathlib.Omega.{arith}
+use Prim.Native.Nat.{_-_}
 use Rattle.planner.specs.Layout.{bindsAny}
 use Rattle.assignment.specs.Post.{ReadAsks}
 use Rattle.assignment.proofs.Reading.{Scanning, scanning-start, any-binds, any-ignores, any-on, any-ends}

@@ -1,4 +1,4 @@
-use Prim.Native.Nat.{_-_, _≤_}
+use Prim.Native.Nat.{_-_}
 use lib.ListN.{length, getD}
 use Rattle.planner.proofs.Filling.{Filling, filling-begin, filling-on, copied-ends}
 use borrow.Author.Needs.{needs}

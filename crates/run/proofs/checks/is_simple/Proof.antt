@@ -1,4 +1,4 @@
-use Rattle.run.proofs.Checking.{simple-told, root-low, root-place}
+use Rattle.run.proofs.Checking.{simple-told}
 use borrow.Author.Needs.{needs}
 use Rattle.run.proofs.checks.is_simple.Statement.{statement}
 use Rattle.run.proofs.checks.is_simple.Tie as tie

@@ -1,5 +1,4 @@
 use Prim.Native.Nat.{_+_, _-_, _*_}
-use native.Mathlib.Omega.{arith}
 use Rattle.table.specs.Tables.{tables}
 use Rattle.run.proofs.Entries.{ask-bind, bound, ignored, ask-compare, compared, ask-literal, literal-compared, some-rest, ask-items, ask-fields, parts-fall, entry-falls}
 use Rattle.run.proofs.Parts.{not-array, uneven-items, TakingItems, taking-start, taking-place-fits, taking-from-fits, taking-range, taking-asks, taking-fails, taking-on, taking-ends, not-object, ask-key-sets, other-keys, TakingFields, fields-start, fields-object, fields-twice, fields-key-fits, fields-value-fits, fields-range, fields-asks, fields-fail, fields-on, fields-end}

@@ -1,4 +1,4 @@
-use Rattle.run.proofs.Reporting.{ask-planned, ask-bound, planned-marked}
+use Rattle.run.proofs.Reporting.{ask-bound, planned-marked}
 use borrow.Author.Needs.{needs}
 use Rattle.run.proofs.report.mark_planned.Statement.{statement}
 use Rattle.run.proofs.report.mark_planned.Tie as tie

@@ -1,4 +1,4 @@
-use Rattle.run.proofs.Reporting.{ask-marks, report-marked}
+use Rattle.run.proofs.Reporting.{report-marked}
 use borrow.Author.Needs.{needs}
 use Rattle.run.proofs.report.report_names.Statement.{statement}
 use Rattle.run.proofs.report.report_names.Tie as tie

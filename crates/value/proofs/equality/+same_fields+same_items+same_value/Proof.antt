@@ -1,5 +1,4 @@
 use Prim.Native.Nat.{_-_, _*_}
-use native.Mathlib.Omega.{arith}
 use Rattle.table.specs.Tables.{tables}
 use Rattle.value.proofs.SameValues.{same-literal, kinds-differ, counts-differ, ask-items, same-array, ask-fields, same-object, Pairing, pairing-start, pairing-left-fits, pairing-right-fits, pairing-ask, pairing-below, pairing-fails, pairing-on, pairing-ends, ByKey, by-key-start, by-key-object, by-key-twice, by-key-place, by-key-value, by-key-missing, by-key-ask, by-key-below, by-key-fails, by-key-on, by-key-ends, child-falls, parts-fall}
 use borrow.Author.Needs.{needs}
