@@ -1,19 +1,17 @@
--- Line 1, line 2 and the whole layout, as the code tests them.
-use Prim.Native.Nat.{ℕ, _+_, _*_, _^_, _<_, _≤_}
-use mathlib.Core.Bool.{Bool, true, false, not, _&&_, and-false}
+-- Line 1 and line 2, as the code tests them.
+use Prim.Native.Nat.{ℕ, _<_, _≤_}
+use mathlib.Core.Bool.{Bool, false, not, _&&_, and-false}
 use mathlib.Core.List.{List}
-use mathlib.Core.Path.{_≡_, refl, sym, ap, _∙_}
-use native.Mathlib.Omega.{arith}
-use borrow.Author.Tests.{le-leb, lt-leb, leb-true, eq-eqb, ne-eqb}
-use lib.Dec.{eqb, leb}
-use lib.ListN.{length}
-use Rattle.table.proofs.Bools.{and-true, told-no, told-yes}
+use mathlib.Core.Path.{_≡_}
+use borrow.Author.Tests.{le-leb, lt-leb, leb-true}
+use lib.Dec.{leb}
+use lib.ListN.{getD}
+use Rattle.table.proofs.Bools.{and-true, told-yes}
 use Rattle.sheet.specs.declared.layout.Counts.{Counts}
-use Rattle.sheet.specs.declared.layout.Places.{Places}
 use Rattle.sheet.specs.declared.operation.Operation.{Operation}
-use Rattle.sheet.specs.Lines.{numberAt, isLine, linesOk, numberLinesOk}
-use Rattle.sheet.specs.Sheet.{countsOf, withinLimits, childrenPlace, numbersPlace, namesPlace, endPlace, placesOf, operationOf, operationOk, marksOk, layoutOk}
-use Rattle.sheet.specs.Post.{Inside, Lines, Limited, WordAsks}
+use Rattle.sheet.specs.Lines.{numberAt}
+use Rattle.sheet.specs.Sheet.{countsOf, withinLimits, operationOf, operationOk}
+use Rattle.sheet.specs.Post.{Limited, countsIn}
 
 -- limits
 module _ (c : Counts) where
@@ -81,68 +79,6 @@ module _ (o : Operation) where
   unfolding operationOk
   scoping-high a b d e = simp (le-leb 1 (o .number) a, le-leb (o .number) 6 b, le-leb (o .scheduler) 1 d, le-leb 1 (o .scoping) e)
 
--- what each test asks
-module _ {c : Counts} {p : Places} (few : Limited c) (is : p ≡ placesOf c) where
-  pub nodes-lines : Lines 74 5 (c .nodes)
-  nodes-lines = record { lines = record { below = omega (arith, few) }; few = omega arith }
-
-  pub children-lines : Lines (p .children) 1 (c .children)
-  children-lines = rw is (record { lines = record { below = omega (arith, few) }; few = omega arith })
-
-  pub numbers-lines : Inside (p .numbers) 21 (c .numbers)
-  numbers-lines = rw is (record { below = omega (arith, few) })
-
-  pub names-lines : Lines (p .names) 3 (c .names)
-  names-lines = rw is (record { lines = record { below = omega (arith, few) }; few = omega arith })
-
-  pub marks-words : WordAsks (p .names + 12) 19 1 (c .names)
-  marks-words = rw is (record { low = omega (arith, few); short = omega arith; some = omega arith; few = omega (arith, few) })
-
--- the tests, one after the other
-module _ (sheet : List ℕ) (c : Counts) {p : Places} (is : p ≡ placesOf c) where
-  pub length-differs : (length sheet ≡ p .end → ⊥) → false ≡ layoutOk sheet c
-  unfolding layoutOk
-  length-differs h = simp (ne-eqb (length sheet) (endPlace c) (rw is at h))
-
-  pub line-2-fails : {r : Bool} → r ≡ isLine sheet 37 6 → not r ≡ true → false ≡ layoutOk sheet c
-  unfolding layoutOk
-  line-2-fails e t = simp (told-no e t, and-false)
-
-  pub operation-fails : {o : Operation} {r : Bool} → o ≡ operationOf sheet → r ≡ operationOk o → not r ≡ true → false ≡ layoutOk sheet c
-  unfolding layoutOk
-  operation-fails q e t = simp (told-no (rw q at e) t, and-false)
-
-  pub nodes-fail : {r : Bool} → r ≡ linesOk sheet 74 5 (c .nodes) → not r ≡ true → false ≡ layoutOk sheet c
-  unfolding layoutOk
-  nodes-fail e t = simp (told-no e t, and-false)
-
-  pub children-fail : {r : Bool} → r ≡ linesOk sheet (p .children) 1 (c .children) → not r ≡ true → false ≡ layoutOk sheet c
-  unfolding layoutOk
-  children-fail e t = simp (told-no (rw is at e) t, and-false)
-
-  pub numbers-fail : {r : Bool} → r ≡ numberLinesOk sheet (p .numbers) (c .numbers) → not r ≡ true → false ≡ layoutOk sheet c
-  unfolding layoutOk
-  numbers-fail e t = simp (told-no (rw is at e) t, and-false)
-
-  pub names-fail : {r : Bool} → r ≡ linesOk sheet (p .names) 3 (c .names) → not r ≡ true → false ≡ layoutOk sheet c
-  unfolding layoutOk
-  names-fail e t = simp (told-no (rw is at e) t, and-false)
-
-  pub layout-tested : {o : Operation} {line-2 operation nodes children numbers names marks : Bool}
-      → length sheet ≡ p .end
-      → line-2 ≡ isLine sheet 37 6 → not line-2 ≡ false
-      → o ≡ operationOf sheet → operation ≡ operationOk o → not operation ≡ false
-      → nodes ≡ linesOk sheet 74 5 (c .nodes) → not nodes ≡ false
-      → children ≡ linesOk sheet (p .children) 1 (c .children) → not children ≡ false
-      → numbers ≡ numberLinesOk sheet (p .numbers) (c .numbers) → not numbers ≡ false
-      → names ≡ linesOk sheet (p .names) 3 (c .names) → not names ≡ false
-      → marks ≡ marksOk sheet (p .names) (c .names)
-      → marks ≡ layoutOk sheet c
-  unfolding layoutOk
-  layout-tested l e1 t1 q e2 t2 e3 t3 e4 t4 e5 t5 e6 t6 e7 =
-      simp (eq-eqb (length sheet) (endPlace c) (rw is at l), told-yes e1 t1, told-yes (rw q at e2) t2, told-yes e3 t3, told-yes (rw is at e4) t4, told-yes (rw is at e5) t5, told-yes (rw is at e6) t6)
-      (rw is at e7)
-
 -- the two lines as they are read
 module _ (sheet : List ℕ) where
   pub counts-read : {n k m x s t : ℕ} → n ≡ numberAt sheet 0 → k ≡ numberAt sheet 6 → m ≡ numberAt sheet 12 → x ≡ numberAt sheet 18 → s ≡ numberAt sheet 24 → t ≡ numberAt sheet 30
@@ -152,3 +88,7 @@ module _ (sheet : List ℕ) where
   pub operation-read : {n d g f s k : ℕ} → n ≡ numberAt sheet 37 → d ≡ numberAt sheet 43 → g ≡ numberAt sheet 49 → f ≡ numberAt sheet 55 → s ≡ numberAt sheet 61 → k ≡ numberAt sheet 67
       → _≡_ {A = Operation} (record { number = n; scheduler = d; scoping = g; first = f; second = s; key = k }) (operationOf sheet)
   operation-read a b c d e f = cc
+
+pub counts-in : (line : List ℕ) {n k m x s t : ℕ} → n ≡ getD line 0 0 → k ≡ getD line 1 0 → m ≡ getD line 2 0 → x ≡ getD line 3 0 → s ≡ getD line 4 0 → t ≡ getD line 5 0
+    → _≡_ {A = Counts} (record { nodes = n; children = k; numbers = m; names = x; strings = s; text = t }) (countsIn line)
+counts-in line a b c d e f = cc

@@ -1,5 +1,5 @@
 pub mod LineTests
-pub mod WordTables
+pub mod NameWords
 pub mod LayoutTests
 pub mod ListingLines
 pub mod OneLine

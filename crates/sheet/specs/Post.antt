@@ -1,27 +1,24 @@
 -- What the private functions ask and answer.
-use Prim.Native.Nat.{ℕ, _+_, _-_, _*_, _^_, _<_, _≤_}
-use mathlib.Core.Bool.{true, cond}
+use Prim.Native.Nat.{ℕ, _+_, _-_, _*_, _/_, _%_, _^_, _<_, _≤_}
+use mathlib.Core.Bool.{Bool, true, cond, _&&_}
 use mathlib.Core.List.{List, [], _∷_, _++_, map}
 use mathlib.Core.Path.{_≡_}
-use lib.Dec.{eqb, ltb}
-use lib.ListN.{length, take, replicate}
-use Rattle.columns.specs.Columns.{writeColumn}
+use lib.Dec.{eqb, leb}
+use lib.ListN.{length, getD, set, replicate}
+use Rattle.table.specs.Rules.{allFrom}
+use Rattle.columns.specs.Columns.{columnAt, writeColumn}
 use Rattle.planner.specs.Answer.{Line, line}
-use Rattle.planner.specs.Post.{tabulate}
 use Rattle.planner.specs.Entries.{readEntries}
 use Rattle.sheet.specs.declared.layout.Counts.{Counts}
 use Rattle.sheet.specs.declared.listing.Row.{Row}
-use Rattle.sheet.specs.Lines.{lineLength, wordAt}
-use Rattle.sheet.specs.Sheet.{marksOk, layoutOk, nodesOf, childrenOf, numbersOf, namesOf}
-use Rattle.sheet.specs.Listing.{entryLine, linesBytes}
+use Rattle.sheet.specs.declared.operation.Operation.{Operation}
+use Rattle.sheet.specs.Lines.{isReadable, numberAt, lineLength, linesOk, numberLinesOk, wordAt, numberWord}
+use Rattle.sheet.specs.Sheet.{childrenPlace, numbersPlace, namesPlace, endPlace, operationOf, marksOk, layoutOk, nodesOf, childrenOf, numbersOf, namesOf, marksOf, sheetOf, unparsed, parsed}
+use Rattle.sheet.specs.Listing.{entryLine, linesBytes, linesOfSheet}
 
 -- so many parts of `line` bytes each, below 2^32
 pub record Inside (at line count : ℕ) : Type 0 where
   pub below : at + count * line < 2 ^ 32
-
-pub record Lines (at columns count : ℕ) : Type 0 where
-  pub lines : Inside at (lineLength columns) count
-  pub few : columns ≤ 6
 
 -- counts within the limits
 pub record Limited (c : Counts) : Type 0 where
@@ -32,41 +29,90 @@ pub record Limited (c : Counts) : Type 0 where
   pub strings-few : c .strings ≤ 8192
   pub text-few : c .text ≤ 16384
 
--- word w of a table: a sheet's tables are small
-pub record WordAsks (at line columns w : ℕ) : Type 0 where
-  pub low : at < 2 ^ 32
-  pub short : line ≤ 31
-  pub some : 0 < columns
-  pub few : w ≤ 4096
-
-pub record FillWords (at line columns count : ℕ) (out : List ℕ) : Type 0 where
-  pub words : WordAsks at line columns count
-  pub room : count ≤ length out
+-- what was read of a column, into word w
+pub record WordRead (sheet : List ℕ) (at w : ℕ) (before after : List ℕ) (r : Bool) : Type 0 where
+  pub ok : r ≡ isReadable (columnAt sheet at)
+  pub stored : r ≡ true → after ≡ set before w (numberAt sheet at)
 
 -- the first words of an array
-pub record Filled (f : ℕ → ℕ) (count : ℕ) (out : List ℕ) : Type 0 where
-  pub first : take count out ≡ tabulate f 0 count
+pub record Filled (f : ℕ → ℕ) (count : ℕ) (array : List ℕ) : Type 0 where
+  pub each : (k : ℕ) → k < count → getD array k 0 ≡ f k
 
-pub record TableAsks (at words size : ℕ) : Type 0 where
-  pub low : at < 2 ^ 32
-  pub room : words ≤ size
+-- lines that were read into an array: whether they are good, and their words if they are
+pub record Read (f : ℕ → ℕ) (words : ℕ) (good : Bool) (array : List ℕ) (r : Bool) : Type 0 where
+  pub ok : r ≡ good
+  pub filled : r ≡ true → Filled f words array
 
--- an array's first words
-pub record Words (f : ℕ → ℕ) (count size : ℕ) (array : List ℕ) : Type 0 where
-  pub long : length array ≡ size
-  pub first : take count array ≡ tabulate f 0 count
+-- so many lines, or line i after those before it
+pub record LinesAsked (at columns count : ℕ) (out : List ℕ) : Type 0 where
+  pub lines : Inside at (lineLength columns) count
+  pub few : columns ≤ 6
+  pub room : count * columns ≤ length out
 
--- the marks of at most 128 names
-pub record Marks (sheet : List ℕ) (at count : ℕ) : Type 0 where
-  pub low : at < 2 ^ 31
+pub record LineAsked (sheet : List ℕ) (at columns i : ℕ) (out : List ℕ) : Type 0 where
+  pub asked : LinesAsked at columns (i + 1) out
+  pub before : Filled (wordAt sheet at (lineLength columns) columns) (i * columns) out
+
+pub record NumbersAsked (at count : ℕ) (out : List ℕ) : Type 0 where
+  pub lines : Inside at 21 count
+  pub room : count * 2 ≤ length out
+
+pub record NumberAsked (sheet : List ℕ) (at i : ℕ) (out : List ℕ) : Type 0 where
+  pub asked : NumbersAsked at (i + 1) out
+  pub before : Filled (numberWord sheet at) (i * 2) out
+
+-- names and marks, from three words a name
+abbrev pub nameWord : List ℕ → ℕ → ℕ
+nameWord rows w = getD rows (w / 2 * 3 + w % 2) 0
+
+abbrev pub rowMark : List ℕ → ℕ → ℕ
+rowMark rows x = getD rows (x * 3 + 2) 0
+
+abbrev pub rowMarkOk : List ℕ → ℕ → Bool
+rowMarkOk rows x = leb (rowMark rows x) 31
+
+pub record NamesAsked (rows : List ℕ) (count : ℕ) (names : List ℕ) : Type 0 where
   pub few : count ≤ 128
-  pub small : marksOk sheet at count ≡ true
+  pub there : count * 3 ≤ length rows
+  pub room : count * 2 ≤ length names
 
-abbrev pub markAt : List ℕ → ℕ → ℕ → ℕ → ℕ
-markAt sheet at count x = cond (ltb x count) (wordAt sheet (at + 12) 19 1 x) 0
+pub record MarksAsked (rows : List ℕ) (count : ℕ) (marks : List ℕ) : Type 0 where
+  pub few : count ≤ 128
+  pub there : count * 3 ≤ length rows
+  pub room : count ≤ length marks
 
-pub record ScopeMarks (sheet : List ℕ) (at count : ℕ) (marks : List ℕ) : Type 0 where
-  pub all : marks ≡ tabulate (wordAt sheet (at + 12) 19 1) 0 count ++ replicate (128 - count) 0
+-- the marks of the names, and what was there after them
+pub record Marked (rows : List ℕ) (count : ℕ) (before after : List ℕ) : Type 0 where
+  pub long : length after ≡ length before
+  pub first : (x : ℕ) → x < count → getD after x 0 ≡ rowMark rows x
+  pub rest : (x : ℕ) → count ≤ x → getD after x 0 ≡ getD before x 0
+
+pub record MarksRead (rows : List ℕ) (count : ℕ) (before after : List ℕ) (r : Bool) : Type 0 where
+  pub ok : r ≡ allFrom (rowMarkOk rows) 0 count
+  pub marked : r ≡ true → Marked rows count before after
+
+-- line 1 and line 2, by their words
+abbrev pub countsIn : List ℕ → Counts
+countsIn line =
+    record {
+      nodes = getD line 0 0;
+      children = getD line 1 0;
+      numbers = getD line 2 0;
+      names = getD line 3 0;
+      strings = getD line 4 0;
+      text = getD line 5 0;
+    }
+
+abbrev pub operationIn : List ℕ → Operation
+operationIn line =
+    record {
+      number = getD line 0 0;
+      scheduler = getD line 1 0;
+      scoping = getD line 2 0;
+      first = getD line 3 0;
+      second = getD line 4 0;
+      key = getD line 5 0;
+    }
 
 -- the listing of an answer and the plan's words
 abbrev pub rowLine : Row → Line
@@ -94,15 +140,44 @@ pub record EntriesAsked (out plan : List ℕ) (count : ℕ) : Type 0 where
 abbrev pub refusalLine : ℕ → List ℕ
 refusalLine number = linesBytes (line number 0 0 0 ∷ [])
 
--- a sheet of a good layout
-pub record Laid (sheet : List ℕ) (c : Counts) : Type 0 where
-  pub limited : Limited c
-  pub layout : layoutOk sheet c ≡ true
+-- a sheet whose line 1 keeps the limits
+abbrev pub laidListing : List ℕ → Counts → List ℕ
+laidListing sheet c = linesBytes (linesOfSheet (cond (layoutOk sheet c) (parsed (sheetOf sheet c)) (unparsed 7)))
 
--- and its tables in arrays
-pub record Tabled (sheet : List ℕ) (c : Counts) (nodes children numbers names : List ℕ) : Type 0 where
-  pub laid : Laid sheet c
+-- the tests of the layout that are left after line 2, and after the child entries
+abbrev pub namesLeft : List ℕ → Counts → Bool
+namesLeft sheet c =
+    numberLinesOk sheet (numbersPlace c) (c .numbers)
+    && (linesOk sheet (namesPlace c) 3 (c .names)
+    && marksOk sheet (namesPlace c) (c .names))
+
+abbrev pub nodesLeft : List ℕ → Counts → Bool
+nodesLeft sheet c =
+    linesOk sheet 74 5 (c .nodes) && (linesOk sheet (childrenPlace c) 1 (c .children) && namesLeft sheet c)
+
+-- a sheet of the length that line 1 says, with a good line 2
+pub record Sized (sheet : List ℕ) (c : Counts) (o : Operation) : Type 0 where
+  pub limited : Limited c
+  pub size : length sheet ≡ endPlace c
+  pub operation-is : o ≡ operationOf sheet
+
+pub record Headed (sheet : List ℕ) (c : Counts) (o : Operation) : Type 0 where
+  pub sized : Sized sheet c o
+  pub left : layoutOk sheet c ≡ nodesLeft sheet c
+
+-- and the first two tables in arrays
+pub record HalfRead (sheet : List ℕ) (c : Counts) (o : Operation) (nodes children : List ℕ) : Type 0 where
+  pub sized : Sized sheet c o
+  pub left : layoutOk sheet c ≡ namesLeft sheet c
+  pub nodes-are : nodes ≡ nodesOf sheet c
+  pub children-are : children ≡ childrenOf sheet c
+
+-- and all tables, with the marks
+pub record Tabled (sheet : List ℕ) (c : Counts) (o : Operation) (nodes children numbers names marks : List ℕ) : Type 0 where
+  pub sized : Sized sheet c o
+  pub layout : layoutOk sheet c ≡ true
   pub nodes-are : nodes ≡ nodesOf sheet c
   pub children-are : children ≡ childrenOf sheet c
   pub numbers-are : numbers ≡ numbersOf sheet c
   pub names-are : names ≡ namesOf sheet c
+  pub marks-are : marks ≡ marksOf sheet c ++ replicate (128 - c .names) 0

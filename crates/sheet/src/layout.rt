@@ -1,14 +1,7 @@
-// Line 1, the places of the parts, and the test of the whole layout.
+// Line 1, and the places of the parts.
 ghost use mathlib.Core.Path.{_≡_};
-ghost use Rattle.sheet.specs.Sheet.{countsOf, withinLimits, placesOf, layoutOk};
-ghost use Rattle.sheet.specs.Post.{Limited};
-use super::lines::is_line;
-use super::lines::lines_ok;
-use super::lines::number_at;
-use super::lines::number_lines_ok;
-use super::operation::operation_of;
-use super::operation::operation_ok;
-use super::tables::marks_ok;
+ghost use Rattle.sheet.specs.Sheet.{withinLimits, placesOf};
+ghost use Rattle.sheet.specs.Post.{countsIn, Limited};
 
 // What line 1 says.
 pub(crate) struct Counts {
@@ -30,16 +23,22 @@ pub(crate) struct Places {
     pub end: usize,
 }
 
-pub(crate) fn counts_of(sheet: &[u8]) -> Counts
-    ensures { λ r. ⌜ r ≡ countsOf (now (sheet .entry)) ⌝ }
+fn wide(x: u32) -> usize
+    ensures { λ r. ⌜ r ≡ x ⌝ }
+{
+    x as usize
+}
+
+pub(crate) fn counts_of(line: [u32; 6]) -> Counts
+    ensures { λ r. ⌜ r ≡ countsIn line ⌝ }
 {
     Counts {
-        nodes: number_at(sheet, 0) as usize,
-        children: number_at(sheet, 6) as usize,
-        numbers: number_at(sheet, 12) as usize,
-        names: number_at(sheet, 18) as usize,
-        strings: number_at(sheet, 24) as usize,
-        text: number_at(sheet, 30) as usize,
+        nodes: wide(line[0]),
+        children: wide(line[1]),
+        numbers: wide(line[2]),
+        names: wide(line[3]),
+        strings: wide(line[4]),
+        text: wide(line[5]),
     }
 }
 
@@ -81,34 +80,4 @@ pub(crate) fn places_of(counts: Counts) -> Places
         text,
         end: text + counts.text,
     }
-}
-
-pub(crate) fn layout_ok(sheet: &[u8], counts: Counts) -> bool
-    requires { ⌜ Limited counts ⌝ }
-    ensures { λ r. ⌜ r ≡ layoutOk (now (sheet .entry)) counts ⌝ }
-{
-    let places = places_of(counts);
-    let end = places.end;
-    if sheet.len() != end {
-        return false;
-    }
-    if !is_line(sheet, 37, 6) {
-        return false;
-    }
-    if !operation_ok(operation_of(sheet)) {
-        return false;
-    }
-    if !lines_ok(sheet, 74, 5, counts.nodes) {
-        return false;
-    }
-    if !lines_ok(sheet, places.children, 1, counts.children) {
-        return false;
-    }
-    if !number_lines_ok(sheet, places.numbers, counts.numbers) {
-        return false;
-    }
-    if !lines_ok(sheet, places.names, 3, counts.names) {
-        return false;
-    }
-    marks_ok(sheet, places.names, counts.names)
 }

@@ -1,38 +1,25 @@
-// Lines of columns of six, and of one column of twenty.
+// Lines of columns of six, and of one column of twenty, read into arrays.
 ghost use mathlib.Core.Path.{_≡_};
-ghost use Rattle.columns.specs.Columns.{columnAt, signedColumnAt};
-ghost use Rattle.sheet.specs.Lines.{numberAt, isReadable, isSigned, isLineFeed, isLine, lineLength, linesOk, isNumberLine, numberLinesOk};
-ghost use Rattle.sheet.specs.Post.{Inside, Lines};
+ghost use Prim.Native.Nat.{_+_, _*_, _<_};
+ghost use lib.ListN.{length};
+ghost use Rattle.sheet.specs.Lines.{isLineFeed, lineLength, lineOk, linesOk, numberLineOk, numberLinesOk, wordAt, numberWord};
+ghost use Rattle.sheet.specs.Post.{WordRead, LineAsked, LinesAsked, NumberAsked, NumbersAsked, Read};
 use columns::Column;
 use columns::SignedColumn;
 use columns::read_column;
 use columns::read_signed_column;
 
-// 0 where there is no number.
-pub(crate) fn number_at(sheet: &[u8], at: usize) -> u32
-    ensures { λ r. ⌜ r ≡ numberAt (now (sheet .entry)) at ⌝ }
+// Whether the column has a number, which is then word w.
+fn read_word(sheet: &[u8], at: usize, w: usize, out: &mut [u32]) -> bool
+    requires { ⌜ w < length (now out) ⌝ }
+    ensures { λ r. ⌜ WordRead (now (sheet .entry)) at w (now (out .entry)) (now (out .exit)) r ⌝ }
 {
     match read_column(sheet, at) {
-        Column::Number(n) => n,
-        Column::Unreadable => 0,
-    }
-}
-
-fn is_readable(sheet: &[u8], at: usize) -> bool
-    ensures { λ r. ⌜ r ≡ isReadable (columnAt (now (sheet .entry)) at) ⌝ }
-{
-    match read_column(sheet, at) {
-        Column::Number(_) => true,
+        Column::Number(n) => {
+            out[w] = n;
+            true
+        }
         Column::Unreadable => false,
-    }
-}
-
-fn is_signed(sheet: &[u8], at: usize) -> bool
-    ensures { λ r. ⌜ r ≡ isSigned (signedColumnAt (now (sheet .entry)) at) ⌝ }
-{
-    match read_signed_column(sheet, at) {
-        SignedColumn::Number { below: _, size: _ } => true,
-        SignedColumn::Unreadable => false,
     }
 }
 
@@ -45,28 +32,36 @@ fn is_line_feed(sheet: &[u8], at: usize) -> bool
     false
 }
 
-// Columns of six, then LF.
-pub(crate) fn is_line(sheet: &[u8], at: usize, columns: usize) -> bool
-    requires { ⌜ Inside at 6 columns ⌝ }
-    ensures { λ r. ⌜ r ≡ isLine (now (sheet .entry)) at columns ⌝ }
+// Line i: columns of six, then LF.
+fn read_line(sheet: &[u8], at: usize, columns: usize, i: usize, out: &mut [u32]) -> bool
+    requires { ⌜ LineAsked (now sheet) at columns i (now out) ⌝ }
+    ensures { λ r. ⌜ Read (wordAt (now (sheet .entry)) at (lineLength columns) columns) (i * columns + columns) (lineOk (now (sheet .entry)) at columns i) (now (out .exit)) r ⌝ }
 {
+    let place = at + i * (columns * 6 + 1);
+    let first = i * columns;
     let mut j: usize = 0;
     while j < columns {
-        if !is_readable(sheet, at + j * 6) {
+        if !read_word(sheet, place + j * 6, first + j, out) {
             return false;
         }
         j += 1;
     }
-    is_line_feed(sheet, at + columns * 6)
+    is_line_feed(sheet, place + columns * 6)
 }
 
-pub(crate) fn lines_ok(sheet: &[u8], at: usize, columns: usize, count: usize) -> bool
-    requires { ⌜ Lines at columns count ⌝ }
-    ensures { λ r. ⌜ r ≡ linesOk (now (sheet .entry)) at columns count ⌝ }
+pub(crate) fn read_lines(
+    sheet: &[u8],
+    at: usize,
+    columns: usize,
+    count: usize,
+    out: &mut [u32],
+) -> bool
+    requires { ⌜ LinesAsked at columns count (now out) ⌝ }
+    ensures { λ r. ⌜ Read (wordAt (now (sheet .entry)) at (lineLength columns) columns) (count * columns) (linesOk (now (sheet .entry)) at columns count) (now (out .exit)) r ⌝ }
 {
     let mut i: usize = 0;
     while i < count {
-        if !is_line(sheet, at + i * (columns * 6 + 1), columns) {
+        if !read_line(sheet, at, columns, i, out) {
             return false;
         }
         i += 1;
@@ -74,24 +69,29 @@ pub(crate) fn lines_ok(sheet: &[u8], at: usize, columns: usize, count: usize) ->
     true
 }
 
-// A column of twenty, then LF.
-fn is_number_line(sheet: &[u8], at: usize) -> bool
-    requires { ⌜ Inside at 21 1 ⌝ }
-    ensures { λ r. ⌜ r ≡ isNumberLine (now (sheet .entry)) at ⌝ }
+// Line i: a column of twenty, then LF. Its words are 1 for below zero or 0, and the size.
+fn read_number(sheet: &[u8], at: usize, i: usize, out: &mut [u64]) -> bool
+    requires { ⌜ NumberAsked (now sheet) at i (now out) ⌝ }
+    ensures { λ r. ⌜ Read (numberWord (now (sheet .entry)) at) (i * 2 + 2) (numberLineOk (now (sheet .entry)) at i) (now (out .exit)) r ⌝ }
 {
-    if !is_signed(sheet, at) {
-        return false;
+    let place = at + i * 21;
+    match read_signed_column(sheet, place) {
+        SignedColumn::Number { below, size } => {
+            out[i * 2] = below;
+            out[i * 2 + 1] = size;
+            is_line_feed(sheet, place + 20)
+        }
+        SignedColumn::Unreadable => false,
     }
-    is_line_feed(sheet, at + 20)
 }
 
-pub(crate) fn number_lines_ok(sheet: &[u8], at: usize, count: usize) -> bool
-    requires { ⌜ Inside at 21 count ⌝ }
-    ensures { λ r. ⌜ r ≡ numberLinesOk (now (sheet .entry)) at count ⌝ }
+pub(crate) fn read_numbers(sheet: &[u8], at: usize, count: usize, out: &mut [u64]) -> bool
+    requires { ⌜ NumbersAsked at count (now out) ⌝ }
+    ensures { λ r. ⌜ Read (numberWord (now (sheet .entry)) at) (count * 2) (numberLinesOk (now (sheet .entry)) at count) (now (out .exit)) r ⌝ }
 {
     let mut i: usize = 0;
     while i < count {
-        if !is_number_line(sheet, at + i * 21) {
+        if !read_number(sheet, at, i, out) {
             return false;
         }
         i += 1;

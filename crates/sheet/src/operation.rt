@@ -2,9 +2,9 @@
 ghost use mathlib.Core.Path.{_≡_};
 ghost use Rattle.table.specs.Tables.{tables};
 ghost use Rattle.planner.specs.Operations.{Answered};
-ghost use Rattle.sheet.specs.Sheet.{operationOf, operationOk, scopingOf};
+ghost use Rattle.sheet.specs.Sheet.{operationOk, scopingOf};
+ghost use Rattle.sheet.specs.Post.{operationIn};
 ghost use Rattle.sheet.specs.Listing.{operated};
-use super::lines::number_at;
 use assignment::AssignOp;
 use assignment::assignment::create_assignment_binding_plan;
 use planner::PlanAnswer;
@@ -25,16 +25,16 @@ pub(crate) struct Operation {
     pub key: u32,
 }
 
-pub(crate) fn operation_of(sheet: &[u8]) -> Operation
-    ensures { λ r. ⌜ r ≡ operationOf (now (sheet .entry)) ⌝ }
+pub(crate) fn operation_of(line: [u32; 6]) -> Operation
+    ensures { λ r. ⌜ r ≡ operationIn line ⌝ }
 {
     Operation {
-        number: number_at(sheet, 37),
-        scheduler: number_at(sheet, 43),
-        scoping: number_at(sheet, 49),
-        first: number_at(sheet, 55),
-        second: number_at(sheet, 61),
-        key: number_at(sheet, 67),
+        number: line[0],
+        scheduler: line[1],
+        scoping: line[2],
+        first: line[3],
+        second: line[4],
+        key: line[5],
     }
 }
 

@@ -1,6 +1,5 @@
-use Rattle.table.proofs.Bools.{told-yes}
 use Rattle.sheet.proofs.LayoutTests.{limited}
-use Rattle.sheet.proofs.Parsing.{sheet-unread, sheet-large, sheet-broken, sheet-parsed}
+use Rattle.sheet.proofs.Parsing.{sheet-unread, sheet-large, sheet-counted}
 use borrow.Author.Needs.{needs}
 use Rattle.sheet.proofs.plan_sheet.Statement.{statement}
 use Rattle.sheet.proofs.plan_sheet.Tie as tie
@@ -9,6 +8,7 @@ pub plan-sheet-spec : {M : Type 1} → statement M
 plan-sheet-spec =
     tie.close
     (tie.spec
+    (λ c. search needs)
     (λ c κs. search needs)
     (λ c κs. search needs)
     (λ c. search needs)
@@ -19,9 +19,5 @@ plan-sheet-spec =
     (λ c. search needs)
     (λ c. search (sheet-large, needs))
     (λ c κs. search (limited, needs))
-    (λ c κs. search needs)
     (λ c. search needs)
-    (λ c. search (sheet-broken, needs))
-    (λ c κs. record { limited = search (limited, needs); layout = told-yes (c .before .before .layout-ok .ensures) (c .before .if3 .left) })
-    (λ c. search needs)
-    (λ c. search (sheet-parsed, needs)))
+    (λ c. search (sheet-counted, needs)))

@@ -1,4 +1,4 @@
-use Rattle.sheet.proofs.Parsing.{marks-asked, strings-before, text-before, text-inside, end-inside, tables-listed}
+use Rattle.sheet.proofs.Parsing.{strings-before, text-before, text-inside, end-inside, tables-listed}
 use borrow.Author.Needs.{needs}
 use Rattle.sheet.proofs.plan_tables.Statement.{statement}
 use Rattle.sheet.proofs.plan_tables.Tie as tie
@@ -8,8 +8,6 @@ plan-tables-spec =
     tie.close
     (tie.spec
     (λ c κs. search needs)
-    (λ c κs. search needs)
-    (λ c κs. search (marks-asked, needs))
     (λ c. search (strings-before, needs))
     (λ c. search (strings-before, needs))
     (λ c. search (text-inside, needs))

@@ -1,4 +1,4 @@
-use Rattle.sheet.proofs.LayoutTests.{counts-read}
+use Rattle.sheet.proofs.LayoutTests.{counts-in}
 use borrow.Author.Needs.{needs}
 use Rattle.sheet.proofs.layout.counts_of.Statement.{statement}
 use Rattle.sheet.proofs.layout.counts_of.Tie as tie
@@ -7,7 +7,6 @@ pub counts-of-spec : {M : Type 1} → statement M
 counts-of-spec =
     tie.close
     (tie.spec
-    (λ c κs. search needs)
     (λ c. search needs)
     (λ c κs. search needs)
     (λ c. search needs)
@@ -19,4 +18,5 @@ counts-of-spec =
     (λ c. search needs)
     (λ c κs. search needs)
     (λ c. search needs)
-    (λ c. search (counts-read, needs)))
+    (λ c κs. search needs)
+    (λ c. search (counts-in, needs)))
