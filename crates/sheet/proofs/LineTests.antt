@@ -1,13 +1,12 @@
 -- Lines, as the code reads them.
-use Prim.Native.Nat.{ℕ, zero, suc, _+_, _-_, _*_, _/_, _%_, _^_, _<_, _≤_}
-use mathlib.Core.Bool.{Bool, true, false, not, _&&_, false≢true}
+use Prim.Native.Nat.{ℕ, _+_, _-_, _*_, _/_, _%_, _^_, _<_, _≤_}
+use mathlib.Core.Bool.{Bool, true, false, not, false≢true}
 use mathlib.Core.List.{List}
 use mathlib.Core.Path.{_≡_, refl, sym, ap, _∙_}
 use native.Mathlib.Omega.{arith}
 use native.Mathlib.Nat.{mul-le-mul-right, mul-add-div-right, mul-add-mod-self-right, div-eq-of-lt, mod-eq-of-lt}
-use borrow.Author.Tests.{not-true, not-false}
-use lib.Dec.{eqb}
-use lib.ListN.{length, getD, take, set, length-set, List·getD-eq-default}
+use borrow.Author.Tests.{not-false}
+use lib.ListN.{length, take, set, length-set, List·getD-eq-default}
 use lib.Seq.{ext-getD, getD-take, length-take-le}
 use mir.Syntax.{w64}
 use mir.Val.{Fits}
@@ -16,11 +15,10 @@ use Rattle.columns.specs.declared.Column.the-variants as Column
 use Rattle.columns.specs.declared.SignedColumn.{SignedColumn}
 use Rattle.columns.specs.declared.SignedColumn.the-variants as SignedColumn
 use Rattle.columns.specs.Columns.{columnAt, signedColumnAt}
-use Rattle.table.specs.Rules.{allFrom}
 use Rattle.table.proofs.Scan.{Scan, scan-start, scan-ends, all-on, all-fails}
 use Rattle.planner.specs.Post.{tabulate}
-use Rattle.planner.proofs.Filling.{Filling, filling-next, length-tabulate, getD-tabulate}
-use Rattle.sheet.specs.Lines.{isReadable, numberOf, numberAt, isLineFeed, columnOk, isLine, lineLength, lineOk, linesOk, isSigned, isNumberLine, numberLineOk, numberLinesOk, wordAt, signedWord, numberWord}
+use Rattle.planner.proofs.Filling.{filling-next, length-tabulate, getD-tabulate}
+use Rattle.sheet.specs.Lines.{numberAt, isLineFeed, columnOk, isLine, lineLength, lineOk, linesOk, isNumberLine, numberLineOk, numberLinesOk, wordAt, numberWord}
 use Rattle.sheet.specs.Post.{Inside, WordRead, Filled, Read, LinesAsked, LineAsked, NumbersAsked, NumberAsked}
 
 -- a column, by what was read

@@ -1,19 +1,17 @@
 -- Names and their marks, from three words a name.
-use Prim.Native.Nat.{ℕ, zero, suc, _+_, _-_, _*_, _/_, _%_, _^_, _<_, _≤_}
+use Prim.Native.Nat.{ℕ, _+_, _-_, _*_, _/_, _%_, _<_, _≤_}
 use mathlib.Core.Bool.{Bool, true, false, false≢true}
-use mathlib.Core.List.{List, _++_}
-use mathlib.Core.Path.{_≡_, refl, sym, ap, _∙_}
+use mathlib.Core.List.{List}
+use mathlib.Core.Path.{_≡_, refl, _∙_}
 use native.Mathlib.Omega.{arith}
-use borrow.Author.Tests.{eqb-true, eqb-false, ltb-true, ltb-false, le-leb, lt-leb, leb-true}
-use lib.Dec.{eqb, leb, ltb}
-use lib.ListN.{length, getD, take, set, replicate, length-set, length-append, length-replicate, getD-replicate, List·getD-append}
-use lib.Seq.{ext-getD, getD-set-same, getD-set-other, getD-append-add}
+use borrow.Author.Tests.{eqb-true, eqb-false, le-leb, lt-leb}
+use lib.Dec.{eqb}
+use lib.ListN.{length, getD, set, length-set}
+use lib.Seq.{getD-set-same, getD-set-other}
 use mir.Syntax.{w8, w64}
 use mir.Val.{Fits}
-use Rattle.table.specs.Rules.{allFrom}
 use Rattle.table.proofs.Scan.{Scan, scan-start, scan-on, scan-fails, scan-ends}
-use Rattle.planner.specs.Post.{tabulate}
-use Rattle.planner.proofs.Filling.{Filling, length-tabulate, getD-tabulate}
+use Rattle.planner.proofs.Filling.{Filling}
 use Rattle.sheet.specs.Post.{Filled, nameWord, rowMark, rowMarkOk, NamesAsked, MarksAsked, Marked, MarksRead}
 
 -- names

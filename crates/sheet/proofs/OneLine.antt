@@ -1,7 +1,7 @@
 -- A refusal is one line: no operation is refused with a planned answer.
 use Prim.Native.Nat.{ℕ}
 use mathlib.Core.Bool.{Bool, true, false, cond, _&&_, _||_}
-use mathlib.Core.List.{List, [], _∷_, _++_}
+use mathlib.Core.List.{List, [], _++_}
 use mathlib.Core.Option.{Option}
 use mathlib.Core.Option as Option
 use mathlib.Core.Path.{_≡_, refl}
@@ -16,10 +16,10 @@ use Rattle.table.specs.Expr.{Expr, literal, name, wildcard, array, set, object,
 use Rattle.table.specs.Tables.{Tables, isNode}
 use Rattle.table.specs.Decode.{expr}
 use Rattle.table.specs.Check.{checked}
-use Rattle.planner.specs.declared.PlanAnswer.the-variants.{RootOutside, ColonEqualsRequiresBindableLeft, VariableAlreadyDefined, IncompatibleDestructuringPatterns, ObjectKeyNotFound, ArraySizeMismatch, ObjectFieldCountMismatch}
+use Rattle.planner.specs.declared.PlanAnswer.the-variants.{RootOutside, ColonEqualsRequiresBindableLeft, VariableAlreadyDefined, IncompatibleDestructuringPatterns, ArraySizeMismatch, ObjectFieldCountMismatch}
 use Rattle.planner.specs.Answer.{lineOf}
 use Rattle.planner.specs.Layout.{Entry, entries, bindsAny, literalKey}
-use Rattle.planner.specs.Operations.{Outcome, refused, planned, tableFirst, rootInside, planOf, patternPlanned, patternOutcome, indexOutcome, parameterCheck, parameterPlanned, parameterOutcome, validated}
+use Rattle.planner.specs.Operations.{Outcome, refused, planned, tableFirst, rootInside, planOf, patternPlanned, patternOutcome, parameterCheck, parameterPlanned, parameterOutcome, validated}
 use Rattle.checks.specs.declared.LiteralStructureCheck.{LiteralStructureCheck}
 use Rattle.checks.specs.declared.LiteralStructureCheck.the-variants.{Match, Unknown, ArrayMismatch, ObjectMismatch}
 use Rattle.checks.specs.Structure.{structure}
@@ -27,7 +27,7 @@ use Rattle.checks.specs.Refusals.{unlessMismatch, unlessDefined}
 use Rattle.assignment.specs.declared.AssignOp.{AssignOp}
 use Rattle.assignment.specs.declared.AssignOp.the-variants.{ColEq, Eq}
 use Rattle.assignment.specs.Pairs.{Pair, Flat, failed, paired, before, further, Shape, items, fields, single, shapeOf, lastUnder, hasPartner, checkKeys, onPartner, binds, side, whole, inParts, arrays, objects, allLiteral, distinctKeys, flatten, flattenAll, flattenFields}
-use Rattle.assignment.specs.Assignment.{opposed, bindSide, firstSameScope, bothInside, colonEqualsFrom, colonEqualsPlanned, sideOf, flatOutcome, bySides, equalsSides, equalsPlanned, byOperator, assignmentOutcome}
+use Rattle.assignment.specs.Assignment.{opposed, bindSide, firstSameScope, bothInside, colonEqualsPlanned, sideOf, flatOutcome, bySides, equalsSides, equalsPlanned, byOperator, assignmentOutcome}
 use Rattle.some_in.specs.SomeIn.{someInOutcome, someInPlanned, rootsInside, keyCheck, keyEntries, keyForm, collectionStructure}
 use Rattle.sheet.specs.declared.operation.Operation.{Operation}
 use Rattle.sheet.specs.Sheet.{scopingOf}

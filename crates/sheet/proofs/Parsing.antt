@@ -1,27 +1,26 @@
 -- A sheet, part by part: what of its layout is left to test, its tables, and its listing.
-use Prim.Native.Nat.{ℕ, zero, suc, _+_, _-_, _*_, _/_, _%_, _^_, _<_, _≤_}
+use Prim.Native.Nat.{ℕ, zero, suc, _+_, _-_, _*_, _/_, _%_, _<_, _≤_}
 use mathlib.Core.Bool.{Bool, true, false, cond, not, _&&_, and-false}
-use mathlib.Core.List.{List, [], _∷_, _++_}
+use mathlib.Core.List.{List, _++_}
 use mathlib.Core.Path.{_≡_, refl, sym, ap, _∙_}
 use native.Mathlib.Omega.{arith}
 use native.Mathlib.Nat.{div-one, mod-one}
-use borrow.Author.Tests.{eq-eqb, ne-eqb, ltb-true, ltb-false, not-true, not-false}
-use lib.Dec.{eqb, leb, ltb}
+use borrow.Author.Tests.{eq-eqb, ne-eqb, ltb-true, ltb-false, not-false}
+use lib.Dec.{eqb, ltb}
 use lib.ListN.{length, getD, take, drop, replicate, length-append, length-replicate, getD-replicate, List·getD-append}
 use lib.Seq.{ext-getD, length-take-le, getD-append-add}
-use Rattle.scope.specs.declared.Scope.{Scope}
 use Rattle.table.specs.Rules.{allFrom}
-use Rattle.table.specs.Tables.{Tables, tables}
+use Rattle.table.specs.Tables.{tables}
 use Rattle.table.proofs.Bools.{told-no, told-yes}
 use Rattle.planner.specs.Post.{tabulate}
 use Rattle.planner.proofs.Filling.{length-tabulate, getD-tabulate}
 use Rattle.sheet.specs.declared.layout.Counts.{Counts}
 use Rattle.sheet.specs.declared.layout.Places.{Places}
 use Rattle.sheet.specs.declared.operation.Operation.{Operation}
-use Rattle.sheet.specs.Lines.{numberAt, isLine, lineOk, linesOk, numberLinesOk, wordAt, numberWord}
-use Rattle.sheet.specs.Sheet.{countsOf, withinLimits, childrenPlace, numbersPlace, namesPlace, stringsPlace, textPlace, endPlace, placesOf, operationOf, operationOk, markOk, marksOk, layoutOk, nodesOf, childrenOf, numbersOf, namesOf, marksOf, sheetOf, unparsed, parsed, parse, parsedBy}
-use Rattle.sheet.specs.Listing.{operated, linesOf, linesBytes, linesOfSheet, listingOf, Printed}
-use Rattle.sheet.specs.Post.{Inside, Limited, Filled, Read, LinesAsked, NumbersAsked, nameWord, rowMark, rowMarkOk, NamesAsked, MarksAsked, Marked, MarksRead, countsIn, operationIn, refusalLine, laidListing, namesLeft, nodesLeft, Sized, Headed, HalfRead, Tabled}
+use Rattle.sheet.specs.Lines.{numberAt, isLine, linesOk, numberLinesOk, wordAt, numberWord}
+use Rattle.sheet.specs.Sheet.{countsOf, withinLimits, namesPlace, stringsPlace, textPlace, endPlace, placesOf, operationOf, operationOk, markOk, marksOk, layoutOk, marksOf, sheetOf, unparsed, parsed, parse, parsedBy}
+use Rattle.sheet.specs.Listing.{operated, linesOf, linesBytes, listingOf, Printed}
+use Rattle.sheet.specs.Post.{Limited, Filled, Read, LinesAsked, NumbersAsked, nameWord, rowMark, rowMarkOk, NamesAsked, MarksAsked, Marked, MarksRead, countsIn, operationIn, refusalLine, laidListing, Headed, HalfRead, Tabled}
 use Rattle.sheet.proofs.LineTests.{filled-first, word-in-line}
 use Rattle.sheet.proofs.LayoutTests.{counts-read, operation-read}
 

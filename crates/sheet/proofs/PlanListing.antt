@@ -1,12 +1,12 @@
 -- The operation that was carried out, and the listing of its answer and plan.
-use Prim.Native.Nat.{ℕ, zero, suc, _+_, _-_, _*_, _/_, _<_, _≤_}
+use Prim.Native.Nat.{ℕ, _+_, _-_, _*_, _≤_}
 use mathlib.Core.Bool.{Bool, true, false, cond}
-use mathlib.Core.List.{List, [], _∷_, _++_, map}
-use mathlib.Core.Path.{_≡_, refl, sym, ap, _∙_}
+use mathlib.Core.List.{List, _++_}
+use mathlib.Core.Path.{_≡_, refl, ap, _∙_}
 use native.Mathlib.Omega.{arith}
-use borrow.Author.Tests.{eq-eqb, ne-eqb, eqb-true, leb-true}
+use borrow.Author.Tests.{eq-eqb, ne-eqb, eqb-true}
 use lib.Dec.{eqb, leb}
-use lib.ListN.{length, getD, drop, replicate, length-append, length-replicate, List·getD-append}
+use lib.ListN.{length, drop, replicate, length-append, List·getD-append}
 use Rattle.scope.specs.declared.Scope.{Scope}
 use Rattle.scope.specs.declared.ScopingMode.{ScopingMode}
 use Rattle.scope.specs.declared.ScopingMode.the-variants.{RespectParent, AllowShadowing}
@@ -15,7 +15,7 @@ use Rattle.planner.specs.declared.PlanAnswer.{PlanAnswer}
 use Rattle.planner.specs.declared.PlanAnswer.the-variants.{Planned, PlanTooLarge}
 use Rattle.planner.specs.Answer.{Line, line, lineOf}
 use Rattle.planner.specs.Layout.{Entry, words}
-use Rattle.planner.specs.Operations.{Outcome, refused, planned, zeros, answered, written, Answered, patternOutcome, indexOutcome, parameterOutcome}
+use Rattle.planner.specs.Operations.{Outcome, refused, planned, answered, written, Answered, patternOutcome, indexOutcome, parameterOutcome}
 use Rattle.planner.specs.Entries.{readEntries}
 use Rattle.planner.proofs.ReadBack.{read-words}
 use Rattle.planner.proofs.Written.{length-words}
@@ -24,8 +24,8 @@ use Rattle.assignment.specs.Assignment.{assignmentOutcome}
 use Rattle.some_in.specs.SomeIn.{someInOutcome}
 use Rattle.sheet.specs.declared.operation.Operation.{Operation}
 use Rattle.sheet.specs.Sheet.{scopingOf}
-use Rattle.sheet.specs.Listing.{operated, entryLine, linesOf, linesBytes, Printed}
-use Rattle.sheet.specs.Post.{entriesIn, entryLines, answerLines, refusalLine}
+use Rattle.sheet.specs.Listing.{operated, linesOf, linesBytes, Printed}
+use Rattle.sheet.specs.Post.{entriesIn, answerLines, refusalLine}
 use Rattle.sheet.proofs.OneLine.{oneLine, one-line}
 
 -- the scoping
