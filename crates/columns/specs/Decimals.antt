@@ -4,6 +4,8 @@ use mathlib.Core.Bool.{Bool, cond, _&&_}
 use mathlib.Core.List.{List}
 use lib.Dec.{eqb, leb}
 use Rattle.literal.specs.Text.{value}
+use Rattle.columns.specs.declared.Column.{Column}
+use Rattle.columns.specs.declared.Column.the-variants as Column
 use Rattle.columns.specs.declared.decimal.Decimal.{Decimal}
 use Rattle.columns.specs.declared.decimal.Decimal.the-variants.{Number, NoNumber}
 use Rattle.columns.specs.Columns.{allDigits, isDecimal}
@@ -17,3 +19,8 @@ readDecimal ds = cond (isDecimal ds && leb (value 0 ds) (2 ^ 63)) (Number (value
 
 abbrev pub areBlank : ℕ → ℕ → ℕ → ℕ → Bool
 areBlank a b c d = eqb a 32 && (eqb b 32 && (eqb c 32 && eqb d 32))
+
+-- the number in a column of six, or 1,000,000 for none
+abbrev pub columnWord : Column → ℕ
+columnWord (Column.Number n) = n
+columnWord Column.Unreadable = 1000000

@@ -10,7 +10,7 @@ ghost use mathlib.Core.List.{[], _∷_};
 ghost use Prim.Native.Nat.{_+_, _≤_};
 ghost use lib.ListN.{length};
 ghost use Rattle.columns.specs.Columns.{readColumn, columnBytes, columnAt, signedColumnAt, signedNumber, columnStored};
-ghost use Rattle.columns.specs.Decimals.{areBlank};
+ghost use Rattle.columns.specs.Decimals.{areBlank, columnWord};
 ghost use Rattle.columns.specs.Written.{columnByte, writeRest};
 
 pub enum Column {
@@ -43,52 +43,64 @@ fn are_blank(a: u8, b: u8, c: u8, d: u8) -> bool
     a as u32 + b as u32 * 256 + c as u32 * 65536 + d as u32 * 16777216 == 0x20202020
 }
 
-// A number of one or two digits.
-fn read_two(tens: u8, units: u8) -> Column
-    ensures { λ r. ⌜ r ≡ readColumn (tens ∷ units ∷ []) ⌝ }
+// A number of one or two digits, or 1,000,000 for none.
+fn read_two(tens: u8, units: u8) -> u32
+    ensures { λ r. ⌜ r ≡ columnWord (readColumn (tens ∷ units ∷ [])) ⌝ }
 {
-    if units < 48 {
-        return Column::Unreadable;
+    let high = tens as u32;
+    let low = units as u32;
+    if low < 48 {
+        return 1000000;
     }
-    if 57 < units {
-        return Column::Unreadable;
+    if 57 < low {
+        return 1000000;
     }
-    if tens == 32 {
-        return Column::Number((units - 48) as u32);
+    if high == 32 {
+        return low - 48;
     }
-    if tens < 49 {
-        return Column::Unreadable;
+    if high < 49 {
+        return 1000000;
     }
-    if 57 < tens {
-        return Column::Unreadable;
+    if 57 < high {
+        return 1000000;
     }
-    Column::Number((tens - 48) as u32 * 10 + (units - 48) as u32)
+    (high - 48) * 10 + (low - 48)
 }
 
-fn read_six(bytes: &[u8]) -> Column
+fn read_six(bytes: &[u8]) -> u32
     requires { ⌜ length (now bytes) ≤ 6 ⌝ }
-    ensures { λ r. ⌜ r ≡ readColumn (now (bytes .entry)) ⌝ }
+    ensures { λ r. ⌜ r ≡ columnWord (readColumn (now (bytes .entry))) ⌝ }
 {
     match read_decimal(after_blanks(bytes)) {
-        Decimal::Number(n) => Column::Number(n as u32),
-        Decimal::NoNumber => Column::Unreadable,
+        Decimal::Number(n) => n as u32,
+        Decimal::NoNumber => 1000000,
     }
+}
+
+fn column_word(bytes: &[u8], at: usize) -> u32
+    ensures { λ r. ⌜ r ≡ columnWord (columnAt (now (bytes .entry)) at) ⌝ }
+{
+    if bytes.len() < 6 {
+        return 1000000;
+    }
+    if bytes.len() - 6 < at {
+        return 1000000;
+    }
+    if are_blank(bytes[at], bytes[at + 1], bytes[at + 2], bytes[at + 3]) {
+        return read_two(bytes[at + 4], bytes[at + 5]);
+    }
+    read_six(&bytes[at..at + 6])
 }
 
 // The column of six bytes at a place.
 pub fn read_column(bytes: &[u8], at: usize) -> Column
     ensures { λ r. ⌜ r ≡ columnAt (now (bytes .entry)) at ⌝ }
 {
-    if bytes.len() < 6 {
-        return Column::Unreadable;
+    let word = column_word(bytes, at);
+    if word < 1000000 {
+        return Column::Number(word);
     }
-    if bytes.len() - 6 < at {
-        return Column::Unreadable;
-    }
-    if are_blank(bytes[at], bytes[at + 1], bytes[at + 2], bytes[at + 3]) {
-        return read_two(bytes[at + 4], bytes[at + 5]);
-    }
-    read_six(&bytes[at..at + 6])
+    Column::Unreadable
 }
 
 fn signed_number(below: u64, digits: &[u8]) -> SignedColumn

@@ -9,12 +9,9 @@ read-two-spec =
     (tie.spec
     (λ c. search (units-low, needs))
     (λ c. search (units-high, needs))
-    (λ c. search needs)
     (λ c. search (one-digit, needs))
     (λ c. search (tens-low, needs))
     (λ c. search (tens-high, needs))
-    (λ c. search needs)
-    (λ c. search needs)
     (λ c. search needs)
     (λ c. search needs)
     (λ c. search needs)

@@ -1,0 +1,32 @@
+use Rattle.columns.proofs.Six.{column-short-unread, column-past-unread, column-two, column-six}
+use borrow.Author.Needs.{needs}
+use Rattle.columns.proofs.column_word.Statement.{statement}
+use Rattle.columns.proofs.column_word.Tie as tie
+
+pub column-word-spec : {M : Type 1} → statement M
+column-word-spec =
+    tie.close
+    (tie.spec
+    (λ c. search (column-short-unread, needs))
+    (λ c. search needs)
+    (λ c. search (column-past-unread, needs))
+    (λ c. search needs)
+    (λ c. search needs)
+    (λ c. search needs)
+    (λ c. search needs)
+    (λ c. search needs)
+    (λ c. search needs)
+    (λ c. search needs)
+    (λ c κs. search needs)
+    (λ c. search needs)
+    (λ c. search needs)
+    (λ c. search needs)
+    (λ c. search needs)
+    (λ c κs. search needs)
+    (λ c. search (column-two, needs))
+    (λ c. search needs)
+    (λ c. search needs)
+    (λ c. search needs)
+    (λ c. search needs)
+    (λ c κs. search needs)
+    (λ c. search (column-six, needs)))
