@@ -4,7 +4,7 @@ use mathlib.Core.Bool.{Bool, true, false, cond}
 use mathlib.Core.List.{List, _++_}
 use mathlib.Core.Path.{_≡_, refl, ap, _∙_}
 use native.Mathlib.Omega.{arith}
-use borrow.Author.Tests.{eq-eqb, ne-eqb, eqb-true}
+use borrow.Author.Tests.{eq-eqb, ne-eqb, eqb-true, leb-true, le-leb}
 use lib.Dec.{eqb, leb}
 use lib.ListN.{length, drop, replicate, length-append, List·getD-append}
 use Rattle.scope.specs.declared.Scope.{Scope}
@@ -77,10 +77,10 @@ listed-refused a plan e =
     record { held = omega arith; lines = rw z }
 
 module _ (form side : ℕ) (es : List Entry) {plan : List ℕ} where
-  listed-planned : leb (length es) 1536 ≡ true → plan ≡ words es ++ drop (4 * length es) (replicate 6144 0) → Listed (planned form side es) (line 0 form side (length es)) plan
+  listed-planned : (size : ℕ) → leb (length es) 1536 ≡ true → plan ≡ words es ++ drop (4 * length es) (replicate size 0) → Listed (planned form side es) (line 0 form side (length es)) plan
   unfolding linesOf
-  listed-planned fits e =
-      let rest : List ℕ = drop (4 * length es) (replicate 6144 0) in
+  listed-planned size fits e =
+      let rest : List ℕ = drop (4 * length es) (replicate size 0) in
       let w = length-words es in
       let long : length plan ≡ length (words es) + length rest = ap length e ∙ length-append (words es) rest in
       let read : readEntries plan 0 (length es) ≡ es =
@@ -101,7 +101,7 @@ listed-as (planned form side es) {blank} {plan} {a} long one done = go (leb (len
     go : (b : Bool) → leb (length es) 1536 ≡ b → a ≡ cond b (Planned form side (length es)) (PlanTooLarge (length es))
         → plan ≡ cond b (words es ++ drop (4 * length es) (replicate 6144 0)) (replicate 6144 0)
         → Listed (planned form side es) (lineOf a) plan
-    go true p e f = rw e (listed-planned form side es p f)
+    go true p e f = rw e (listed-planned form side es 6144 p f)
     go false p e f = rw e (listed-large form side es p)
 
 module _ (o : Operation) (T : Tables) (s : Scope) {blank plan : List ℕ} {a : PlanAnswer} {first : Line}
@@ -111,6 +111,31 @@ module _ (o : Operation) (T : Tables) (s : Scope) {blank plan : List ℕ} {a : P
 
   pub operation-listed : {before after : List ℕ} {r : ℕ} → Printed (linesBytes (answerLines first plan)) before after r → Printed (linesBytes (linesOf (operated o T s))) before after r
   operation-listed p = rw (← listed-as (operated o T s) long (one-line o T s) done .lines, ← is) p
+
+-- in a smaller space, where that suffices
+listed-small : (o : Outcome) {blank plan : List ℕ} {a : PlanAnswer} → length blank ≡ 256 → oneLine o ≡ true → Answered o blank plan a → (lineOf a .number ≡ 6 → ⊥) → Listed o (lineOf a) plan
+unfolding answered written
+listed-small (refused b) {plan = plan} long one done other = rw (done .answer) (listed-refused b plan one)
+listed-small (planned form side es) {blank} {plan} {a} long one done other = go (leb (length es) 64) refl (rw long at (done .answer)) (rw long at (done .buffer))
+  where
+    go : (b : Bool) → leb (length es) 64 ≡ b → a ≡ cond b (Planned form side (length es)) (PlanTooLarge (length es))
+        → plan ≡ cond b (words es ++ drop (4 * length es) (replicate 256 0)) (replicate 256 0)
+        → Listed (planned form side es) (lineOf a) plan
+    go true p e f =
+        let few = leb-true (length es) 64 p in
+        rw e (listed-planned form side es 256 (le-leb (length es) 1536 (omega arith)) f)
+    go false p e f = absurd (other (ap (λ (x : PlanAnswer). lineOf x .number) e))
+
+module _ (o : Operation) (T : Tables) (s : Scope) {blank plan : List ℕ} {a : PlanAnswer} {first : Line}
+    (long : length blank ≡ 256) (done : Answered (operated o T s) blank plan a) (is : first ≡ lineOf a) (other : first .number ≡ 6 → ⊥) where
+  small-listed : Listed (operated o T s) (lineOf a) plan
+  small-listed = listed-small (operated o T s) long (one-line o T s) done (λ e. other (ap (λ (l : Line). l .number) is ∙ e))
+
+  pub small-held : entriesIn first * 4 ≤ length plan
+  small-held = rw is (small-listed .held)
+
+  pub operation-small : {before after : List ℕ} {r : ℕ} → Printed (linesBytes (answerLines first plan)) before after r → Printed (linesBytes (linesOf (operated o T s))) before after r
+  operation-small p = rw (← small-listed .lines, ← is) p
 
 -- a refusal of the sheet itself
 module _ {first : Line} {n : ℕ} (is : first ≡ line n 0 0 0) (plan : List ℕ) where

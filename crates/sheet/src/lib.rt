@@ -35,8 +35,8 @@ fn blank_plan() -> [u32; 6144]
     [0; 6144]
 }
 
-// An operation, planned into 1,536 entries and listed.
-fn plan_listed(
+// An operation, planned into space for 1,536 entries and listed.
+fn plan_large(
     nodes: &[u32],
     children: &[u32],
     numbers: &[u64],
@@ -62,6 +62,62 @@ fn plan_listed(
         &mut plan,
     );
     write_lines(out, row_of(answer), &plan)
+}
+
+// The same; few nodes are planned into space for 64 entries first, since clearing the larger takes longer than a small plan.
+fn plan_listed(
+    nodes: &[u32],
+    children: &[u32],
+    numbers: &[u64],
+    names: &[u32],
+    strings: &[u8],
+    text: &[u8],
+    scope: Scope,
+    operation: Operation,
+    out: &mut [u8],
+) -> usize
+    ensures { λ r. ⌜ Printed (linesBytes (linesOf (operated operation (tables (now (nodes .entry)) (now (children .entry)) (now (numbers .entry)) (now (names .entry)) (now (strings .entry)) (now (text .entry))) scope))) (now (out .entry)) (now (out .exit)) r ⌝ }
+{
+    if 320 < nodes.len() {
+        return plan_large(
+            nodes,
+            children,
+            numbers,
+            names,
+            strings,
+            text,
+            scope,
+            operation,
+            out,
+        );
+    }
+    let mut plan = [0u32; 256];
+    let answer = operate(
+        nodes,
+        children,
+        numbers,
+        names,
+        strings,
+        text,
+        scope,
+        operation,
+        &mut plan,
+    );
+    let first = row_of(answer);
+    if first.number == 6 {
+        return plan_large(
+            nodes,
+            children,
+            numbers,
+            names,
+            strings,
+            text,
+            scope,
+            operation,
+            out,
+        );
+    }
+    write_lines(out, first, &plan)
 }
 
 fn refuse(number: u64, out: &mut [u8]) -> usize

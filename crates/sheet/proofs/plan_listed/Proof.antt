@@ -1,4 +1,4 @@
-use Rattle.sheet.proofs.PlanListing.{entries-held, operation-listed}
+use Rattle.sheet.proofs.PlanListing.{small-held, operation-small}
 use borrow.Author.Needs.{needs}
 use Rattle.sheet.proofs.plan_listed.Statement.{statement}
 use Rattle.sheet.proofs.plan_listed.Tie as tie
@@ -9,9 +9,14 @@ plan-listed-spec =
     (tie.spec
     (λ c κs. search needs)
     (λ c. search needs)
+    (λ c. search needs)
+    (λ c. search needs)
+    (λ c κs. search needs)
     (λ c κs. search needs)
     (λ c κs. search needs)
     (λ c. search needs)
-    (λ c κs. search (entries-held, needs))
     (λ c. search needs)
-    (λ c. search (operation-listed, needs)))
+    (λ c. search needs)
+    (λ c κs. search (small-held, needs))
+    (λ c. search needs)
+    (λ c. search (operation-small, needs)))

@@ -1,0 +1,17 @@
+use Rattle.sheet.proofs.PlanListing.{entries-held, operation-listed}
+use borrow.Author.Needs.{needs}
+use Rattle.sheet.proofs.plan_large.Statement.{statement}
+use Rattle.sheet.proofs.plan_large.Tie as tie
+
+pub plan-large-spec : {M : Type 1} → statement M
+plan-large-spec =
+    tie.close
+    (tie.spec
+    (λ c κs. search needs)
+    (λ c. search needs)
+    (λ c κs. search needs)
+    (λ c κs. search needs)
+    (λ c. search needs)
+    (λ c κs. search (entries-held, needs))
+    (λ c. search needs)
+    (λ c. search (operation-listed, needs)))
