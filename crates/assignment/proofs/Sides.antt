@@ -29,7 +29,7 @@ use Rattle.planner.specs.Operations.{planned, answered, written, Answered, isSo
 use Rattle.planner.specs.Post.{GoodRoot, PatternAsks, PatternPlanned}
 use Rattle.planner.proofs.NodeKinds.{Plain, plain-literal, plain-set, plain-other, plain-kind}
 use Rattle.planner.proofs.SamePlan.{class-wild}
-use Rattle.planner.proofs.Operations.{refuses, sound-well, root-node, table-passes, read-plan}
+use Rattle.planner.proofs.Operations.{refuses, table-passes, read-plan}
 use Rattle.assignment.specs.declared.AssignOp.{AssignOp}
 use Rattle.assignment.specs.declared.AssignOp.the-variants.{ColEq, Eq}
 use Rattle.checks.specs.declared.LiteralStructureCheck.{LiteralStructureCheck}
@@ -37,7 +37,7 @@ use Rattle.checks.specs.PatternStructure.{structureBy}
 use Rattle.planner.specs.Entries.{readEntries}
 use Rattle.assignment.specs.Assignment.{bindSide, firstSameScope, colonEqualsFrom, colonEqualsPlanned, isUnderscore, sideOf, pairsOutcome, equalsFrom, equalsSides, equalsPlanned, byOperator, assignmentOutcome}
 use Rattle.checks.specs.Post.{GoodPair}
-use Rattle.assignment.specs.Post.{BindAsks, EqualsAsks}
+use Rattle.assignment.specs.Post.{BindAsks}
 use Rattle.checks.proofs.Refused.{passes-undefined, refuses-defined}
 use Rattle.checks.proofs.PlanStructure.{structure-plan}
 
@@ -86,9 +86,6 @@ module _ (T : Tables) (a b : ℕ) (g : GoodPair T a b) where
 
   pub ask-bind : (s : Scope) (mode : ScopingMode) {binders scratch : List ℕ} {count : ℕ} → PatternPlanned T s mode a (replicate 2048 0) binders scratch count → BindAsks T a b count
   ask-bind s mode p = record { pair = g; few = p .few }
-
-  pub ask-equals : (s : Scope) (mode : ScopingMode) {lb ls rb rs : List ℕ} {m n : ℕ} → PatternPlanned T s mode a (replicate 2048 0) lb ls m → PatternPlanned T s mode b (replicate 2048 0) rb rs n → EqualsAsks T a b m n
-  ask-equals s mode p q = record { pair = g; few-left = p .few; few-right = q .few }
 
 pub colon-planned : (T : Tables) (s : Scope) (left right : ℕ) {binders scratch before later : List ℕ} {count : ℕ} {r : PlanAnswer} → PatternPlanned T s AllowShadowing left (replicate 2048 0) binders scratch count
     → Answered (colonEqualsFrom T s left right (structureBy (expr T right) (expr T left)) (readEntries scratch 0 count)) before later r → Answered (colonEqualsPlanned T s left right) before later r
@@ -207,8 +204,3 @@ module _ (T : Tables) (s : Scope) (op : AssignOp) (left right : ℕ) {c : TableA
 
         pub assigns-equals : op ≡ Eq → Answered (equalsPlanned T s left right) before later answer → Answered (assignmentOutcome T s op left right) before later answer
         assigns-equals e a = both-inside (simp e a)
-
-pub good-pair : (T : Tables) (s : Scope) {c : TableAnswer} → c ≡ checked T s → {ok : Bool} → ok ≡ isSound c → not ok ≡ false
-    → (left : ℕ) {l : Bool} → l ≡ isNode T left → not l ≡ false → (right : ℕ) {r : Bool} → r ≡ isNode T right → not r ≡ false → GoodPair T left right
-good-pair T s is of passes left in-left at-left right in-right at-right =
-    record { table = sound-well T s is of passes; first = root-node T left in-left at-left; second = root-node T right in-right at-right }

@@ -76,9 +76,6 @@ same-nat a b e = go (three-ways a b)
 nat-transitive : (a b c : ℕ) → natOrder a b ≡ less → natOrder b c ≡ less → natOrder a c ≡ less
 nat-transitive a b c h k = nat-less a c (omega (arith, less-nat a b h, less-nat b c k))
 
-pub nat-order : TotalOrder natOrder
-nat-order = by-laws natOrder (λ a. nat-same a a refl) same-nat nat-antisymmetric nat-transitive
-
 -- one order after another
 then-same : (o p : Order) → then o p ≡ same → (o ≡ same) × (p ≡ same)
 then-same less p h = never (cc)

@@ -193,11 +193,6 @@ module _ (u : ℕ → Bool) where
   -- a tree
 
   module _ (e : Expr) (names : NamesIn e) (seen b : List ℕ) where
-    pub binders-keep : Keeps b (bindersOf u e b)
-    binders-keep = in-turn (λ s c. Keeps b c) (parts e)
-        (λ n x h l l′ s c k y old. let q = k y old in name-keeps n x c y (λ z. old (sym q ∙ z)) ∙ q)
-        e (λ m h. h) names seen b (λ y old. refl)
-
     -- a binder is one of before or a part
     pub binders-value : (y : ℕ) → (binderOf (bindersOf u e b) y ≡ binderOf b y) ⊎ (elem (binderOf (bindersOf u e b) y) (parts e) ≡ true)
     binders-value y = in-turn (λ s c. (binderOf c y ≡ binderOf b y) ⊎ (elem (binderOf c y) (parts e) ≡ true)) (parts e)

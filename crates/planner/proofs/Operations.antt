@@ -1,5 +1,5 @@
 -- The planning operations, answer by answer.
-use Prim.Native.Nat.{ℕ, _-_, _/_, _≤_}
+use Prim.Native.Nat.{ℕ, _-_, _≤_}
 use mathlib.Core.Path.{_≡_, refl, sym, ap, subst, _∙_}
 use mathlib.Core.List.{List, []}
 use mathlib.Core.Bool.{Bool, true, false, not, false≢true}
@@ -32,9 +32,6 @@ use Rattle.planner.proofs.ReadBack.{read-laid, delivered-read}
 
 -- a pattern under a scope
 module _ (T : Tables) (s : Scope) (mode : ScopingMode) (root : ℕ) {start : List ℕ} (a : PatternAsks T root start) where
-  pub ask-states : length (T .names) / 2 ≤ 128
-  ask-states = a .table .limits .names
-
   module _ {states : List ℕ} (of : StatesOf (T .names) (T .text) s mode states) where
     pub ask-plan : PlanAsks T states root start
     ask-plan = record { walks = record { table = a .table; states-ok = states-wild T s mode states of; node = a .node }; none-bound = a .none-bound }
@@ -125,6 +122,3 @@ ask-pattern T root g = record { table = g .table; node = g .node; none-bound = r
 pub pattern-delivered : (T : Tables) (s : Scope) (mode : ScopingMode) (root : ℕ) {binders scratch before later : List ℕ} {count : ℕ} {r : PlanAnswer}
     → PatternPlanned T s mode root (replicate 2048 0) binders scratch count → Delivered scratch 0 0 count before later r → Answered (patternPlanned T s mode root) before later r
 pattern-delivered T s mode root p d = delivered 0 0 (entries (planOf T s mode root) 0) (p .few) (p .laid) d
-
-pub good-root : (T : Tables) (s : Scope) {c : TableAnswer} → c ≡ checked T s → {ok : Bool} → ok ≡ isSound c → not ok ≡ false → (root : ℕ) {inside : Bool} → inside ≡ isNode T root → not inside ≡ false → GoodRoot T root
-good-root T s is of passes root told in-table = record { table = sound-well T s is of passes; node = root-node T root told in-table }

@@ -8,14 +8,11 @@ use Rattle.table.specs.Tables.{Tables}
 use Rattle.table.specs.Decode.{expr}
 use Rattle.planner.specs.Layout.{Entry}
 use Rattle.planner.specs.Passes.{unboundIn, bindersOf, layOut}
-use Rattle.planner.specs.Post.{Walks, Laid, LayAsks, PlanAsks, PlannedBy}
+use Rattle.planner.specs.Post.{Laid, LayAsks, PlanAsks, PlannedBy}
 use Rattle.planner.proofs.Binders.{lay-plan-of}
 use Rattle.planner.proofs.Sizes.{lay-few-of}
 
 module _ (T : Tables) (states : List ℕ) (root : ℕ) {start : List ℕ} (a : PlanAsks T states root start) where
-  pub tracked-walks : Walks T states root
-  tracked-walks = a .walks
-
   pub tracked-room : (binders : List ℕ) → LayAsks T states binders root 0 0
   tracked-room binders = record { walks = a .walks; room = let f = lay-few-of T (a .walks .table) binders root (a .walks .node) 0 in omega arith }
 

@@ -9,7 +9,7 @@ use lib.Dec.{eqb, leb}
 use lib.ListN.{length, getD}
 use Rattle.table.specs.Tables.{Tables, nodeCount, nameCount, isNode}
 use Rattle.table.specs.Decode.{expr}
-use Rattle.table.specs.Sound.{Node, WellFormed}
+use Rattle.table.specs.Sound.{Node}
 use Rattle.table.proofs.Bools.{and-true}
 use Rattle.table.proofs.Scan.{Scan, scan-start, scan-on, scan-fails, scan-ends}
 use Rattle.planner.specs.Post.{GoodRoot}
@@ -23,12 +23,6 @@ use Rattle.run.specs.ChecksPost.{listedValue, ValueAsks, ValuesAsks, All
 
 pub simple-told : (T : Tables) (node : ℕ) {marks : List ℕ} → GoodRoot T node → Marked T true marks → eqb (getD marks (node - 1) 0) 1 ≡ simple (expr T node)
 simple-told T node g m = m .each node (g .node) ∙ admits-simple (expr T node)
-
-pub root-low : {T : Tables} {node : ℕ} → GoodRoot T node → 1 ≤ node
-root-low g = g .node .low
-
-pub root-place : {T : Tables} {node : ℕ} → GoodRoot T node → node - 1 < 512
-root-place g = node-place (g .table) (g .node)
 
 node-of-test : (T : Tables) (n : ℕ) → isNode T n ≡ true → Node T n
 node-of-test T n e = let b = and-true (leb 1 n) (leb n (nodeCount T)) e in record { low = leb-true 1 n (b .0); high = leb-true n (nodeCount T) (b .1) }
@@ -92,14 +86,8 @@ module _ {T : Tables} {marks values : List ℕ} {count i : ℕ} (go : Listing T 
 
 -- the value, then the list
 module _ (T : Tables) (value : ℕ) (values : List ℕ) {marks : List ℕ} (a : AllAsks T value values) (m : Marked T false marks) where
-  pub all-table : WellFormed T
-  all-table = a .good .table
-
   pub all-value-asks : ValueAsks T marks
   all-value-asks = record { table = a .good .table; marked = m }
-
-  pub all-listed-asks : ValuesAsks T marks values
-  all-listed-asks = record { asks = all-value-asks; long = a .long }
 
   module _ {ok : Bool} (is : ok ≡ isValueNode T value) where
     value-is : isValue (expr T value) ≡ ok

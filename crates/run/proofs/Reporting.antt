@@ -26,7 +26,7 @@ use Rattle.table.proofs.Lists.{elem-nil, elem-cons, elem-append}
 use Rattle.planner.specs.Plan.{var, equalityExpr, fresh, plan, plans, fieldPlans, after}
 use Rattle.planner.specs.Layout.{Entry, literalKey, FieldOrder, noFields, addField, concat, entries, entriesAll, fieldOrder}
 use Rattle.planner.specs.Operations.{isSound, planOf}
-use Rattle.planner.specs.Post.{PatternAsks, PatternPlanned, tabulate}
+use Rattle.planner.specs.Post.{PatternPlanned, tabulate}
 use Rattle.planner.specs.Simple.{mentions, mentionsAny, mentionsFields}
 use Rattle.planner.proofs.Binders.{AllNames, AllNamesAll, AllNamesFields, names-all}
 use Rattle.planner.proofs.Filling.{length-tabulate, getD-tabulate}
@@ -193,9 +193,6 @@ bound-entries nodes scratch i (e ∷ es) each =
     ∙ ap (λ (l : List ℕ). cond (eqb (e .kind) 1) (firstOf nodes (e .node) ∷ l) l) r
 
 module _ (T : Tables) (s : Scope) (mode : ScopingMode) (pattern : ℕ) {list : List ℕ} (a : ReportAsks T pattern list) where
-  pub ask-planned : PatternAsks T pattern (replicate 128 0)
-  ask-planned = record { table = a .good .table; node = a .good .node; none-bound = refl }
-
   module _ {binders scratch : List ℕ} {count : ℕ} (p : PatternPlanned T s mode pattern (replicate 2048 0) binders scratch count) where
     abbrev es : List Entry
     es = entries (planOf T s mode pattern) 0
@@ -259,9 +256,6 @@ module _ (T : Tables) (s : Scope) (mode : ScopingMode) (pattern : ℕ) {before :
   module _ {mid : List ℕ} (is : mid ≡ tabulate (metMark met) 0 (length before)) where
     mid-long : length mid ≡ length before
     mid-long = ap length is ∙ length-tabulate (metMark met) 0 (length before)
-
-    pub ask-marks : ReportAsks T pattern mid
-    ask-marks = record { good = a .good; long = let l = a .long in let e = mid-long in omega arith }
 
     met-is : (k : ℕ) → metMark met k ≡ cond (elem (k + 1) (namesMet (expr T pattern))) 2 0
     met-is k = go (ltb k 128) refl

@@ -323,9 +323,6 @@ module _ (T : Tables) (s : Scope) (mode : ScopingMode) (pattern value : ℕ) {va
   ask-plan = record { table = run-table a; node = a .pattern-node; none-bound = refl }
 
   module _ {binders scratch : List ℕ} {count : ℕ} (p : PatternPlanned T s mode pattern (replicate 2048 0) binders scratch count) where
-    pub few-entries : count ≤ 512
-    few-entries = p .few
-
     pub ask-values : MatchValuesAsks T s mode scratch count value values
     ask-values = record { root = pattern; asks = a; laid = p .laid }
 

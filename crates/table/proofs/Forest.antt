@@ -15,8 +15,8 @@ use Rattle.table.specs.Expr.{Expr, parts, partsAll, partsFields}
 use Rattle.table.specs.Decode.{literalAt, items, fields, leafOf, namedBy, isWildcard, headed, expr}
 use Rattle.table.specs.Rules.{elem, noRepeat}
 use Rattle.table.specs.Sound.{Node, WellFormed, Forest}
-use Rattle.table.proofs.Trees.{width-array, width-set, width-object, width-leaf, items-step, fields-step, child-node, expr-unfolds, expr-array, expr-set, expr-object}
-use Rattle.table.proofs.Lists.{elem-cons, elem-tail, cons-no-repeat, no-repeat-append, same-place, blocks, elem-blocks, blocks-elem, same-block, blocks-no-repeat, elem-places, placesOf, used-blocks, pigeonhole}
+use Rattle.table.proofs.Trees.{width-array, width-set, width-object, width-leaf, child-node, expr-unfolds, expr-array, expr-set, expr-object}
+use Rattle.table.proofs.Lists.{elem-cons, cons-no-repeat, same-place, blocks, elem-blocks, same-block, blocks-no-repeat, elem-places, placesOf, used-blocks, pigeonhole}
 
 -- parts by blocks, for every kind
 
@@ -41,22 +41,6 @@ module _ (g : ℕ → Expr) (ch : List ℕ) where
       let b : at + 1 + 1 ≡ at + 2 = omega arith in
       let tail = fields-blocks (at + 2) k in
       rw (a, b, ← tail)
-
--- the first of those that are left has no part of the others
-module _ (g : ℕ → Expr) (ch : List ℕ) (at left : ℕ) (more : 0 < left) where
-  pub items-apart : noRepeat (partsAll (items g ch at left)) ≡ true
-      → (noRepeat (parts (g (childAt ch at))) ≡ true) × (noRepeat (partsAll (items g ch (at + 1) (left - 1))) ≡ true)
-      × ((m : ℕ) → elem m (parts (g (childAt ch at))) ≡ true → elem m (partsAll (items g ch (at + 1) (left - 1))) ≡ true → ⊥)
-  unfolding partsAll
-  items-apart e = no-repeat-append (parts (g (childAt ch at))) _ (rw (items-step g ch at left more) at e)
-
-  -- a field's key, then its value and the others
-  pub fields-apart : noRepeat (partsFields (fields g ch at left)) ≡ true
-      → (noRepeat (parts (g (childAt ch at))) ≡ true)
-      × (noRepeat (parts (g (childAt ch (at + 1))) ++ partsFields (fields g ch (at + 2) (left - 1))) ≡ true)
-      × ((m : ℕ) → elem m (parts (g (childAt ch at))) ≡ true → elem m (parts (g (childAt ch (at + 1))) ++ partsFields (fields g ch (at + 2) (left - 1))) ≡ true → ⊥)
-  unfolding partsFields
-  fields-apart e = no-repeat-append (parts (g (childAt ch at))) _ (rw (fields-step g ch at left more) at e)
 
 leaf-parts : (n : ℕ) (o : Option Literal) → parts (leafOf n o) ≡ n ∷ []
 unfolding parts
@@ -204,10 +188,6 @@ module _ (T : Tables) (w : WellFormed T) where
 
   pub parts-within : (n : ℕ) → Node T n → (m : ℕ) → elem m (partsOf T n) ≡ true → (1 ≤ m) × (m ≤ n)
   parts-within n v m e = up-within (v .low) (up-to n m v e)
-
-  -- a child's parts are parts of its parent, and below it
-  pub child-parts : (n : ℕ) → Node T n → (m i : ℕ) → i < width (T .nodes) n → elem m (partsAt T (firstOf (T .nodes) n + i)) ≡ true → elem m (partsOf T n) ≡ true
-  child-parts n v m i lt e = rw (parts-blocks n v) (elem-tail m n _ (blocks-elem (partsAt T) m (firstOf (T .nodes) n) (width (T .nodes) n) i lt e))
 
   pub child-parts-below : (n : ℕ) → Node T n → (m i : ℕ) → i < width (T .nodes) n → elem m (partsAt T (firstOf (T .nodes) n + i)) ≡ true → m < n
   child-parts-below n v m i lt e =

@@ -47,9 +47,6 @@ module _ {T : Tables} {at left : ℕ} (more : 0 < left) where
       listed = let s = a .listed in omega arith;
     }
 
-    pub first-key : Node T (childAt (T .children) at)
-    first-key = let e : at + 0 ≡ at = omega arith in rw e at (a .each 0 (omega arith))
-
     pub first-value : Node T (childAt (T .children) (at + 1))
     first-value = a .each 1 (omega arith)
 
