@@ -6,7 +6,7 @@ use mathlib.Core.Bool.{Bool, true, false}
 use native.Mathlib.Omega.{arith}
 use borrow.Author.Tests.{eqb-true, eqb-false, le-leb, lt-leb, lt-ltb, le-ltb, ltb-true}
 use lib.Dec.{eqb, ltb}
-use lib.ListN.{length, getD, set, replicate, length-set, length-replicate, getD-replicate}
+use lib.ListN.{length, getD, set, replicate, length-set, length-replicate}
 use lib.Seq.{getD-set-same, getD-set-other, ext-getD}
 use Rattle.planner.specs.declared.PlanAnswer.the-variants.{Planned, PlanTooLarge}
 use Rattle.planner.specs.Post.{Copied, wordAt, tabulate, Delivered}
@@ -64,11 +64,6 @@ module _ {f : ℕ → ℕ} {size i : ℕ} {here : List ℕ} (go : Filling f size
       let z : 0 + k ≡ k = omega arith in
       go .each k (omega arith) ∙ sym (getD-tabulate f 0 size k (omega arith) ∙ ap f z))
 
-pub zeros-end : {size i : ℕ} {here : List ℕ} → Filling (λ _. 0) size i here → length here ≤ i → here ≡ replicate size 0
-zeros-end {size} {i} {here} go done =
-    let long = go .long in
-    ext-getD 0 here (replicate size 0) (long ∙ sym (length-replicate size 0)) (λ k lt. go .each k (omega arith) ∙ sym (getD-replicate size k 0 0 (omega arith)))
-
 -- a word of the scratch
 module _ (scratch : List ℕ) (size i : ℕ) where
   pub word-in : i < size → getD scratch i 0 ≡ wordAt scratch size i
@@ -76,6 +71,15 @@ module _ (scratch : List ℕ) (size i : ℕ) where
 
   pub word-out : size ≤ i → 0 ≡ wordAt scratch size i
   word-out le = simp (le-ltb i size le)
+
+-- no word kept
+pub all-cleared : (before : List ℕ) {after : List ℕ} → after ≡ tabulate (wordAt before 0) 0 (length before) → after ≡ replicate (length before) 0
+unfolding tabulate
+all-cleared before e = e ∙ zeros (wordAt before 0) (λ i. sym (word-out before 0 i (omega arith))) 0 (length before)
+  where
+    zeros : (f : ℕ → ℕ) → ((i : ℕ) → f i ≡ 0) → (i k : ℕ) → tabulate f i k ≡ replicate k 0
+    zeros f none i zero = refl
+    zeros f none i (suc k) = ap (λ h. h ∷ tabulate f (i + 1) k) (none i) ∙ ap (λ t. 0 ∷ t) (zeros f none (i + 1) k)
 
 -- words copied, then zeros
 pub copied-ends : {scratch : List ℕ} {words i : ℕ} {before here : List ℕ} → Filling (λ k. getD scratch k 0) (length before) i here → words ≤ i → Copied scratch words before here

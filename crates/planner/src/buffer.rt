@@ -43,11 +43,7 @@ fn fill(plan: &mut [u32], scratch: &[u32; 2048], words: usize)
 pub fn clear(plan: &mut [u32])
     ensures { λ _. ⌜ now (plan .exit) ≡ replicate (length (now (plan .entry))) 0 ⌝ }
 {
-    let mut i: usize = 0;
-    while i < plan.len() {
-        plan[i] = 0;
-        i += 1;
-    }
+    clear_after(plan, 0);
 }
 
 // `count` entries of the scratch, if the buffer has space for them.
