@@ -28,11 +28,11 @@ use Rattle.value.proofs.Keys.{is-true, true-is}
 use Rattle.value.proofs.Equal.{laws}
 use Rattle.run.specs.declared.RunAnswer.{RunAnswer}
 use Rattle.run.specs.declared.RunAnswer.the-variants.{Match, NoMatch}
-use Rattle.run.specs.Matching.{Env, Outcome, matched, missed, fault, pickValue, start, Filling, Promise}
+use Rattle.matching.specs.Matching.{Env, Outcome, matched, missed, fault, pickValue, start, Filling, Promise}
 use Rattle.run.specs.Operations.{listedNode, isName, isValueNode, listed, valuesListed, knownListed, RunOutcome, carriedOut, tableFirst, ran, runChecked, runOutcome, answerOf, runAnswer, nodeIn, setNames, plannedName, valuesAfter}
 use Rattle.run.specs.Post.{RunAsks}
 use Rattle.run.specs.Demand.{Hypotheses, answer, list, isPlanned, Fills, Promised, Demand}
-use Rattle.run.proofs.Fits.{filled}
+use Rattle.matching.proofs.Fits.{filled}
 use Rattle.run.proofs.Running.{mentioned-named, run-table, promised, listed-value, value-ok}
 use Rattle.run.proofs.Tabled.{Tabled, run-tabled, value-tabled}
 

@@ -1,13 +1,3 @@
-pub mod Good
-pub mod Fits
-pub mod Promise
-pub mod Patterns
-pub mod Lists
-pub mod Entries
-pub mod Parts
-pub mod EntryLists
-pub mod Shown
-pub mod Placing
 pub mod Valued
 pub mod Checking
 pub mod Running

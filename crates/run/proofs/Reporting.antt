@@ -37,7 +37,7 @@ use Rattle.run.specs.declared.ReportAnswer.the-variants.{Reported, Table
 use Rattle.run.specs.Report.{boundIn, namesMet, namesMetAll, namesMetFields, reported, answerAfter, reportAnswer, reportList, ReportedBy}
 use Rattle.run.specs.NamesPost.{MetBy}
 use Rattle.run.specs.ReportPost.{metMark, EntryBound, markedBy, boundFrom, BoundAsks, BoundMarked, ReportAsks, PlannedMarked, ReportMarked}
-use Rattle.run.proofs.EntryLists.{AllE, all-append, all-at, AllOrder, all-none, all-add, all-order, blank, scratch-kind, scratch-node}
+use Rattle.matching.proofs.EntryLists.{AllE, all-append, all-at, AllOrder, all-none, all-add, all-order, blank, scratch-kind, scratch-node}
 use Rattle.run.proofs.Running.{mentioned-named}
 
 -- the mark of a name that is met

@@ -41,14 +41,15 @@ use Rattle.value.proofs.Admitted.{value-proper}
 use Rattle.value.proofs.Node as Node·
 use Rattle.run.specs.declared.RunAnswer.{RunAnswer}
 use Rattle.run.specs.declared.RunAnswer.the-variants.{Match, NoMatch, TableRefused, RootOutside, ListTooShort, PatternNotSimple, NotAValue, NameWithoutValue, PlanTooLarge}
-use Rattle.run.specs.Matching.{Env, Outcome, matched, pickValue, run, start, Asked, Promise}
+use Rattle.matching.specs.Matching.{Env, Outcome, matched, pickValue, run, start, Asked, Promise}
 use Rattle.run.specs.Operations.{listedNode, isName, allNames, isValueNode, listed, valuesListed, knownListed, RunOutcome, refused, carriedOut, tableFirst, ran, runChecked, runOutcome, answerOf, runAnswer, planAfter, nodeIn, setNames, plannedName, valuesAfter, Ran}
-use Rattle.run.specs.Post as Post
-use Rattle.run.specs.Post.{envOf, ListOk, PlanIn, Came, PatternCame, RunAsks, MatchValuesAsks, ValuesCame, CheckedAsks}
+use Rattle.matching.specs.Post as Post
+use Rattle.matching.specs.Post.{envOf, ListOk, PlanIn, Came, PatternCame}
+use Rattle.run.specs.Post.{RunAsks, MatchValuesAsks, ValuesCame, CheckedAsks}
 use Rattle.run.specs.NamesPost.{ListAsks, StartOf, NamesSet, KnownAsks}
 use Rattle.run.specs.ChecksPost.{AllAsks}
-use Rattle.run.proofs.Promise as Promise·
-use Rattle.run.proofs.Lists.{env-at}
+use Rattle.matching.proofs.Promise as Promise·
+use Rattle.matching.proofs.Lists.{env-at}
 use Rattle.run.proofs.Valued.{after-met, mentions-met}
 
 -- what holds of each name of a pattern holds of the names in it

@@ -21,7 +21,7 @@ use Rattle.value.specs.Post.{ValueNode}
 use Rattle.value.proofs.Node as Node·
 use Rattle.value.proofs.Admitted.{array-item, object-value, array-children, object-children, value-node, value-admitted, admitted-value}
 use Rattle.value.proofs.SameValues.{ValueShape, value-literal, value-array, value-object, value-shape}
-use Rattle.run.specs.Matching.{Env, Outcome, matched, missed, fault, pickValue, assign, setting, provided, comparing, nameIn, next, at, underKey, planKeys, sameLength, run, runItems, runFields}
+use Rattle.matching.specs.Matching.{Env, Outcome, matched, missed, fault, pickValue, assign, setting, provided, comparing, nameIn, next, at, underKey, planKeys, sameLength, run, runItems, runFields}
 
 -- the value at a value's node
 pub record Tabled (T : Tables) (v : Value) : Type 0 where

@@ -32,7 +32,7 @@ use Rattle.value.proofs.Keys.{true-is}
 use Rattle.run.specs.Report.{namesMet, namesMetAll, namesMetFields}
 use Rattle.run.specs.Operations.{listedNode, knownListed}
 use Rattle.run.specs.NamesPost.{ListAsks, StartOf, NamesSet, MetBy, hasValue, allHaveValues, KnownAsks}
-use Rattle.run.proofs.Fits.{silent}
+use Rattle.matching.proofs.Fits.{silent}
 
 -- what a scope says of a name
 module _ (x : ℕ) (u : Bool) {b : Binding} (is : b ≡ bindingOf x u) where

@@ -1,4 +1,3 @@
-pub mod Matching
 pub mod Answer
 pub mod Operations
 pub mod Report

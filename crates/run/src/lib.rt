@@ -8,7 +8,7 @@ ghost use Rattle.run.specs.Operations.{carriedOut, ran, runChecked, runO
 ghost use Rattle.run.specs.Post.{RunAsks, MatchValuesAsks, ValuesCame, CheckedAsks};
 use checks::all_values;
 use checks::is_simple;
-use matching::match_pattern;
+use matching::walk::match_pattern;
 use names::known_listed;
 use names::set_names;
 use names::start_list;
@@ -23,7 +23,6 @@ use table::check;
 use table::reading::is_node;
 
 mod checks;
-mod matching;
 mod names;
 pub mod report;
 

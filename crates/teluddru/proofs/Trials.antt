@@ -21,7 +21,7 @@ use Rattle.assignment.specs.Assignment.{firstSameScope}
 use Rattle.planner.specs.Post.{tabulate}
 use Rattle.planner.specs.Simple.{simple, hasKey, differing, keysOf, mentions}
 use Rattle.value.specs.Value.{valueOf, isValue, same, within, keysᵛ, under}
-use Rattle.run.specs.Matching.{run, planKeys, sameLength}
+use Rattle.matching.specs.Matching.{run, planKeys, sameLength}
 use Rattle.run.specs.Operations.{valuesListed, knownListed, runAnswer, valuesAfter}
 use Rattle.teluddru.specs.Outcome.{operationOutcome}
 use Rattle.teluddru.specs.Trial.{Shown, Trial, trials, rows, oneByteEach, positive}

@@ -13,8 +13,8 @@ use Rattle.table.specs.Tables.{Tables}
 use Rattle.table.specs.Decode.{expr}
 use Rattle.value.specs.Value.{valueOf, valueAt}
 use Rattle.value.specs.Post.{ValueNode}
-use Rattle.run.specs.Matching.{pickValue, assign}
-use Rattle.run.specs.Post.{envOf, ListOk}
+use Rattle.matching.specs.Matching.{pickValue, assign}
+use Rattle.matching.specs.Post.{envOf, ListOk}
 
 -- a value's node has a value
 pub node-value : (T : Tables) (n : ℕ) → (n ≡ 0 → ⊥) → valueAt T n ≡ some (valueOf (expr T n))

@@ -11,11 +11,11 @@ use Rattle.table.specs.Rules.{elem}
 use Rattle.planner.specs.Plan.{after}
 use Rattle.planner.specs.Simple.{mentions}
 use Rattle.value.specs.Value.{Value, literalᵛ, proper, Proper, Same}
-use Rattle.run.specs.Matching.{Env, Outcome, matched, fault, pickValue, Filling, orElse, start, Planned, outcome, Makes, Asked, Promise}
+use Rattle.matching.specs.Matching.{Env, Outcome, matched, fault, pickValue, Filling, orElse, start, Planned, outcome, Makes, Asked, Promise}
 use Rattle.value.proofs.Keys.{and-left, and-right, is-true, true-is}
 use Rattle.value.proofs.Equal.{same-refl, same-sym, same-from}
-use Rattle.run.proofs.Good.{State, Hit, Good, hit, miss, isNone, Agree, Extends}
-use Rattle.run.proofs.Fits.{Fits, good, only}
+use Rattle.matching.proofs.Good.{State, Hit, Good, hit, miss, isNone, Agree, Extends}
+use Rattle.matching.proofs.Fits.{Fits, good, only}
 
 -- what a match means, and what a fit
 module _ {unbound : ℕ → Bool} {Ok : ℕ → Type 0} {env : Env} {N : ℕ → Bool} {seen : List ℕ} {F : (ℕ → Value) → Type 0} where

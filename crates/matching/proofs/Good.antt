@@ -9,7 +9,7 @@ use Rattle.table.specs.Expr.{name}
 use Rattle.table.specs.Rules.{elem}
 use Rattle.planner.specs.Plan.{var, equalityExpr, fresh}
 use Rattle.value.specs.Value.{Value, Proper, same, Same}
-use Rattle.run.specs.Matching.{Env, Outcome, matched, missed, pickValue, assign, provided, next, run}
+use Rattle.matching.specs.Matching.{Env, Outcome, matched, missed, pickValue, assign, provided, next, run}
 use Rattle.value.proofs.Keys.{or-left, or-right, or-elim, is-true, is-false, true-is}
 use Rattle.value.proofs.Equal.{same-refl, same-from}
 

@@ -21,7 +21,7 @@ use Rattle.planner.specs.Simple.{simple}
 use Rattle.planner.proofs.NodeKinds.{Plain, plain-literal, plain-set, plain-other, plain-kind}
 use Rattle.value.specs.Post.{admitted, fieldsOf}
 use Rattle.value.proofs.Admitted.{admits-simple}
-use Rattle.run.specs.Post.{visited, visitedAll, visitedFields}
+use Rattle.matching.specs.Post.{visited, visitedAll, visitedFields}
 
 pub data PatternShape (T : Tables) (n : ℕ) : Expr → Type 0 where
   pattern-literal : (l : Literal) → kindOf (T .nodes) n ≤ 5 → PatternShape T n (literal n l)

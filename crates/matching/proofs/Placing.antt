@@ -21,10 +21,10 @@ use Rattle.planner.proofs.Binders.{lay-plan-of}
 use Rattle.planner.proofs.Sizes.{lay-few-of}
 use Rattle.planner.proofs.Objects.{node-of}
 use Rattle.value.specs.Value.{valueOf}
-use Rattle.run.specs.Matching.{Outcome, run}
-use Rattle.run.specs.Post.{nodeAt, placeOf, kindAt, readPlan, visited, entryKind, EntryOf, envOf, runAt, EntryAsks, Came, PlacesAsks, Noted, PlanIn, PatternAsks, PatternCame}
-use Rattle.run.proofs.EntryLists.{all-at, Has, here, has-at, blank, scratch-kind, scratch-node, scratch-count}
-use Rattle.run.proofs.Shown.{bindsBy, Truthful, entries-true, Shown, plan-shown, visited-has, reads-plan}
+use Rattle.matching.specs.Matching.{Outcome, run}
+use Rattle.matching.specs.Post.{nodeAt, placeOf, kindAt, readPlan, visited, entryKind, EntryOf, envOf, runAt, EntryAsks, Came, PlacesAsks, Noted, PlanIn, PatternAsks, PatternCame}
+use Rattle.matching.proofs.EntryLists.{all-at, Has, here, has-at, blank, scratch-kind, scratch-node, scratch-count}
+use Rattle.matching.proofs.Shown.{bindsBy, Truthful, entries-true, Shown, plan-shown, visited-has, reads-plan}
 
 -- noting from the last entry on
 pub record Noting (scratch : List ℕ) (count i : ℕ) (places : List ℕ) : Type 0 where

@@ -12,10 +12,10 @@ use Rattle.planner.specs.Plan.{plan, plans, fieldPlans, after, afterAll, afterF
 use Rattle.planner.specs.Layout.{literalKey}
 use Rattle.planner.specs.Simple.{sameKey, differing, addKey, keysOf, isLiteral, simple, simpleAll, simpleFields, mentions, mentionsAny, mentionsFields}
 use Rattle.value.specs.Value.{Value, literalᵛ, arrayᵛ, objectᵛ, Values, noneᵛ, itemᵛ, ValueFields, doneᵛ, fieldᵛ, filledField, keysᵛ, sameKeys, firstOf, under, proper, properAll, properFields, Proper, holds, same, sameItems, sameFields, Same}
-use Rattle.run.specs.Matching.{Env, Outcome, next, at, underKey, planKeys, sameLength, run, runItems, runFields, Blanks, BlanksAll, BlanksFields, fill, fillAll, fillFields, SameBlanks, SameBlanksAll, SameBlanksFields}
+use Rattle.matching.specs.Matching.{Env, Outcome, next, at, underKey, planKeys, sameLength, run, runItems, runFields, Blanks, BlanksAll, BlanksFields, fill, fillAll, fillFields, SameBlanks, SameBlanksAll, SameBlanksFields}
 use Rattle.value.proofs.Keys.{and-left, and-right, both, or-left, or-right}
 use Rattle.value.proofs.Equal.{same-refl, same-to}
-use Rattle.run.proofs.Good.{State, Good, miss, pass, when, also, andThen, named}
+use Rattle.matching.proofs.Good.{State, Good, miss, pass, when, also, andThen, named}
 
 abbrev pub Fits : Expr → Value → (ℕ → Value) → Type 0
 Fits e v ρ = (b : Blanks e) × Same (fill ρ e b) v

@@ -18,10 +18,10 @@ use Rattle.planner.specs.Post.{NameNumber}
 use Rattle.planner.proofs.Objects.{node-of}
 use Rattle.value.specs.Value.{Value, isValue, valueOf, same}
 use Rattle.value.specs.Post.{SameAsks}
-use Rattle.run.specs.Matching.{Outcome, matched, missed, assign, setting, comparing, provided, run}
-use Rattle.run.specs.Post.{nodeAt, kindAt, readPlan, entryKind, EntryOf, envOf, ListOk, runAt, MatchAsks, EntryAsks, ItemsAsks, FieldsAsks, Came, CompareAsks}
-use Rattle.run.proofs.Patterns.{PatternShape, pattern-literal, pattern-wildcard, pattern-name, pattern-array, pattern-object, pattern-shape, visits-self, some-depth}
-use Rattle.run.proofs.Lists.{node-value, env-at, set-ok, env-set}
+use Rattle.matching.specs.Matching.{Outcome, matched, missed, assign, setting, comparing, provided, run}
+use Rattle.matching.specs.Post.{nodeAt, kindAt, readPlan, entryKind, EntryOf, envOf, ListOk, runAt, MatchAsks, EntryAsks, ItemsAsks, FieldsAsks, Came, CompareAsks}
+use Rattle.matching.proofs.Patterns.{PatternShape, pattern-literal, pattern-wildcard, pattern-name, pattern-array, pattern-object, pattern-shape, visits-self, some-depth}
+use Rattle.matching.proofs.Lists.{node-value, env-at, set-ok, env-set}
 
 -- a comparison that decides
 pub compared-came : (T : Tables) {o : Outcome} {list : List ℕ} {r : Bool} → ListOk T list → o ≡ provided r (matched (envOf T list)) → Came T o list r

@@ -28,11 +28,11 @@ use Rattle.value.proofs.Keys.{is-true, true-is, within→}
 use Rattle.value.proofs.Admitted.{value-keys, array-item, object-value, array-children, object-children, value-node, keyed-object, value-admitted, admitted-value}
 use Rattle.value.proofs.Under.{Fielded, object-fielded, key-of, found-field, found-key, found-value, has-key-at, position-fits, position-key-fits, position-value-fits}
 use Rattle.value.proofs.SameValues.{ValueShape, value-literal, value-array, value-object, value-shape}
-use Rattle.run.specs.Matching.{Env, Outcome, missed, fault, provided, next, at, underKey, planKeys, sameLength, run, runItems, runFields}
-use Rattle.run.specs.Post.{nodeAt, placeOf, kindAt, readPlan, readPlans, readFields, visited, envOf, ListOk, runAt, MatchAsks, EntryAsks, ItemsAsks, FieldsAsks, Came}
-use Rattle.run.proofs.Patterns.{simple-admitted, admitted-simple, visits-item, visits-value, visits-self, item-deep, value-deep}
-use Rattle.run.proofs.Lists.{node-value}
-use Rattle.run.proofs.Entries.{missed-came, matched-came}
+use Rattle.matching.specs.Matching.{Env, Outcome, missed, fault, provided, next, at, underKey, planKeys, sameLength, run, runItems, runFields}
+use Rattle.matching.specs.Post.{nodeAt, placeOf, kindAt, readPlan, readPlans, readFields, visited, envOf, ListOk, runAt, MatchAsks, EntryAsks, ItemsAsks, FieldsAsks, Came}
+use Rattle.matching.proofs.Patterns.{simple-admitted, admitted-simple, visits-item, visits-value, visits-self, item-deep, value-deep}
+use Rattle.matching.proofs.Lists.{node-value}
+use Rattle.matching.proofs.Entries.{missed-came, matched-came}
 
 -- lengths of items
 even-length : (kind : ℕ → ℕ) (g : ℕ → Expr) (ch : List ℕ) (place k from : ℕ) → sameLength (readPlans kind (items g ch place k)) (valuesOf (items g ch from k)) ≡ true

@@ -25,9 +25,9 @@ use Rattle.planner.specs.Passes.{binderOf, layOut, layOutAll, layOutFields}
 use Rattle.planner.specs.Simple.{sameKey, hasKey, differing, addKey, keysOf, isLiteral, simple, simpleAll, simpleFields}
 use Rattle.value.specs.Post.{fieldsOf}
 use Rattle.value.proofs.Admitted.{array-item, object-value}
-use Rattle.run.specs.Post.{visited, visitedAll, visitedFields, entryKind, readPlan, readPlans, readFields}
-use Rattle.run.proofs.Patterns.{PatternShape, pattern-literal, pattern-wildcard, pattern-name, pattern-array, pattern-object, pattern-shape, simple-admitted, admitted-simple}
-use Rattle.run.proofs.EntryLists.{AllE, all-append, AllOrder, all-none, all-add, all-order, Has, here, there, has-left, has-right, InSlot, slot-new, slot-kept, order-has}
+use Rattle.matching.specs.Post.{visited, visitedAll, visitedFields, entryKind, readPlan, readPlans, readFields}
+use Rattle.matching.proofs.Patterns.{PatternShape, pattern-literal, pattern-wildcard, pattern-name, pattern-array, pattern-object, pattern-shape, simple-admitted, admitted-simple}
+use Rattle.matching.proofs.EntryLists.{AllE, all-append, AllOrder, all-none, all-add, all-order, Has, here, there, has-left, has-right, InSlot, slot-new, slot-kept, order-has}
 
 -- does a name's node bind, by `binders`?
 abbrev pub bindsBy : List ℕ → Expr → Bool

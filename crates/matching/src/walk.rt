@@ -6,7 +6,7 @@ ghost use Rattle.table.specs.Tables.{tables, firstOf};
 ghost use Rattle.table.specs.Decode.{expr};
 ghost use Rattle.value.specs.Value.{valueOf, same};
 ghost use Rattle.planner.specs.Post.{NameNumber};
-ghost use Rattle.run.specs.Post.{nodeAt, placeOf, runAt, EntryAsks, ItemsAsks, FieldsAsks, Came, CompareAsks, PlacesAsks, Noted, PatternAsks, PatternCame};
+ghost use Rattle.matching.specs.Post.{nodeAt, placeOf, runAt, EntryAsks, ItemsAsks, FieldsAsks, Came, CompareAsks, PlacesAsks, Noted, PatternAsks, PatternCame};
 use table::reading::child_at;
 use table::reading::count_of;
 use table::reading::first_of;
@@ -59,7 +59,7 @@ fn equals_name(
 }
 
 // One entry, carried out on a value: `rest` levels of depth are left.
-pub(crate) fn match_entry(
+fn match_entry(
     nodes: &[u32],
     children: &[u32],
     numbers: &[u64],
@@ -267,7 +267,7 @@ fn note_places(scratch: &[u32; 2048], count: usize) -> [u32; 512]
 }
 
 // The first `count` entries of the scratch, carried out from the first one on.
-pub(crate) fn match_pattern(
+pub fn match_pattern(
     nodes: &[u32],
     children: &[u32],
     numbers: &[u64],

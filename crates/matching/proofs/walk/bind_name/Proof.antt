@@ -1,32 +1,32 @@
-use Rattle.run.proofs.Entries.{name-set}
+use Rattle.matching.proofs.Entries.{name-set}
 use borrow.Author.Needs.{needs}
-use Rattle.run.proofs.matching.bind_name.Statement.{statement}
-use Rattle.run.proofs.matching.bind_name.Tie as tie
-use Rattle.run.proofs.matching.bind_name.Reads as reads
-use Rattle.run.proofs.matching.bind_name.Lts as lts
+use Rattle.matching.proofs.walk.bind_name.Statement.{statement}
+use Rattle.matching.proofs.walk.bind_name.Tie as tie
+use Rattle.matching.proofs.walk.bind_name.Reads as reads
+use Rattle.matching.proofs.walk.bind_name.Lts as lts
 use Rattle.table.proofs.reading.first_of.Reads as first-of-reads
 
--- src/matching.rt:37:16
+-- src/walk.rt:37:16
 first-of-requires : tie.Need-first-of-requires
 first-of-requires c κs = search needs
 
--- src/matching.rt:37:16
+-- src/walk.rt:37:16
 cast-name : tie.Need-cast-name
 cast-name c = search needs
 
--- src/matching.rt:38:10
+-- src/walk.rt:38:10
 sub-list : tie.Need-sub-list
 sub-list c = search needs
 
--- src/matching.rt:38:5
+-- src/walk.rt:38:5
 mul-list : tie.Need-mul-list
 mul-list c = search needs
 
--- src/matching.rt:38:5
+-- src/walk.rt:38:5
 element-write-list : tie.Need-element-write-list
 element-write-list c = search needs
 
--- src/matching.rt:33:1
+-- src/walk.rt:33:1
 returns : tie.Need-returns
 returns c = search (name-set, needs)
 

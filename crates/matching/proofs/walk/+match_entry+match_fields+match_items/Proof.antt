@@ -1,23 +1,23 @@
 use Prim.Native.Nat.{_+_, _-_, _*_}
 use Rattle.table.specs.Tables.{tables}
-use Rattle.run.proofs.Entries.{ask-bind, bound, ignored, ask-compare, compared, ask-literal, literal-compared, some-rest, ask-items, ask-fields, parts-fall, entry-falls}
-use Rattle.run.proofs.Parts.{not-array, uneven-items, TakingItems, taking-start, taking-place-fits, taking-from-fits, taking-range, taking-asks, taking-fails, taking-on, taking-ends, not-object, ask-key-sets, other-keys, TakingFields, fields-start, fields-object, fields-twice, fields-key-fits, fields-value-fits, fields-range, fields-asks, fields-fail, fields-on, fields-end}
+use Rattle.matching.proofs.Entries.{ask-bind, bound, ignored, ask-compare, compared, ask-literal, literal-compared, some-rest, ask-items, ask-fields, parts-fall, entry-falls}
+use Rattle.matching.proofs.Parts.{not-array, uneven-items, TakingItems, taking-start, taking-place-fits, taking-from-fits, taking-range, taking-asks, taking-fails, taking-on, taking-ends, not-object, ask-key-sets, other-keys, TakingFields, fields-start, fields-object, fields-twice, fields-key-fits, fields-value-fits, fields-range, fields-asks, fields-fail, fields-on, fields-end}
 use borrow.Author.Needs.{needs}
 use Prim.Native.Nat.{ℕ, _<_}
 use borrow.Fn.Kinds.{In}
 use borrow.Fn.PlainCycle.{Measures, is, falls, and}
-use Rattle.run.proofs.matching.match_entry.Reads as match-entry
-use Rattle.run.proofs.matching.match_entry.Kinds as match-entry-kinds
-use Rattle.run.proofs.matching.+match_entry+match_fields+match_items.Lts-match_entry as match-entry-lts
-use Rattle.run.proofs.matching.match_fields.Reads as match-fields
-use Rattle.run.proofs.matching.match_fields.Kinds as match-fields-kinds
-use Rattle.run.proofs.matching.+match_entry+match_fields+match_items.Lts-match_fields as match-fields-lts
-use Rattle.run.proofs.matching.match_items.Reads as match-items
-use Rattle.run.proofs.matching.match_items.Kinds as match-items-kinds
-use Rattle.run.proofs.matching.+match_entry+match_fields+match_items.Lts-match_items as match-items-lts
-use Rattle.run.proofs.matching.bind_name.Reads as bind-name-reads
-use Rattle.run.proofs.matching.equals_name.Reads as equals-name-reads
-use Rattle.run.proofs.matching.place_of.Reads as place-of-reads
+use Rattle.matching.proofs.walk.match_entry.Reads as match-entry
+use Rattle.matching.proofs.walk.match_entry.Kinds as match-entry-kinds
+use Rattle.matching.proofs.walk.+match_entry+match_fields+match_items.Lts-match_entry as match-entry-lts
+use Rattle.matching.proofs.walk.match_fields.Reads as match-fields
+use Rattle.matching.proofs.walk.match_fields.Kinds as match-fields-kinds
+use Rattle.matching.proofs.walk.+match_entry+match_fields+match_items.Lts-match_fields as match-fields-lts
+use Rattle.matching.proofs.walk.match_items.Reads as match-items
+use Rattle.matching.proofs.walk.match_items.Kinds as match-items-kinds
+use Rattle.matching.proofs.walk.+match_entry+match_fields+match_items.Lts-match_items as match-items-lts
+use Rattle.matching.proofs.walk.bind_name.Reads as bind-name-reads
+use Rattle.matching.proofs.walk.equals_name.Reads as equals-name-reads
+use Rattle.matching.proofs.walk.place_of.Reads as place-of-reads
 use Rattle.table.proofs.reading.child_at.Reads as child-at-reads
 use Rattle.table.proofs.reading.count_of.Reads as count-of-reads
 use Rattle.table.proofs.reading.first_of.Reads as first-of-reads
@@ -25,8 +25,8 @@ use Rattle.table.proofs.reading.kind_of.Reads as kind-of-reads
 use Rattle.value.proofs.equality.same_value.Reads as same-value-reads
 use Rattle.value.proofs.fields.same_key_sets.Reads as same-key-sets-reads
 use Rattle.value.proofs.fields.value_under.Reads as value-under-reads
-use Rattle.run.proofs.matching.+match_entry+match_fields+match_items.{statement}
-use Rattle.run.proofs.matching.+match_entry+match_fields+match_items.Tie.{close}
+use Rattle.matching.proofs.walk.+match_entry+match_fields+match_items.{statement}
+use Rattle.matching.proofs.walk.+match_entry+match_fields+match_items.Tie.{close}
 
 abbrev μ-match-entry : Measures 9 match-entry-kinds.ps ℕ
 μ-match-entry κs a = 2 * a .1 .1 .1 .1 .1 .1 .1 .1 .1 .1 .0
@@ -74,99 +74,99 @@ match-fields-calls t = (kind-of-reads.Asked, kind-of-reads.Learnt, same-key-sets
 abbrev match-items-calls : ℕ → match-items-lts.Claims
 match-items-calls t = (kind-of-reads.Asked, kind-of-reads.Learnt, count-of-reads.Asked, count-of-reads.Learnt, first-of-reads.Asked, first-of-reads.Learnt, child-at-reads.Asked, child-at-reads.Learnt, place-of-reads.Asked, place-of-reads.Learnt, match-entry-below t, match-entry.Post)
 
--- src/matching.rt:79:24
+-- src/walk.rt:79:24
 match-entry-mul-kind : (t : ℕ) → match-entry-lts.Need-mul-kind (match-entry-calls t) (match-entry-at t) match-entry.Post
 match-entry-mul-kind t c = search needs
 
--- src/matching.rt:79:16
+-- src/walk.rt:79:16
 match-entry-mul-kind-2 : (t : ℕ) → match-entry-lts.Need-mul-kind-2 (match-entry-calls t) (match-entry-at t) match-entry.Post
 match-entry-mul-kind-2 t c = search needs
 
--- src/matching.rt:79:16
+-- src/walk.rt:79:16
 match-entry-element-copy-out-kind : (t : ℕ) → match-entry-lts.Need-element-copy-out-kind (match-entry-calls t) (match-entry-at t) match-entry.Post
 match-entry-element-copy-out-kind t c = search needs
 
--- src/matching.rt:80:24
+-- src/walk.rt:80:24
 match-entry-mul-node : (t : ℕ) → match-entry-lts.Need-mul-node (match-entry-calls t) (match-entry-at t) match-entry.Post
 match-entry-mul-node t c = search needs
 
--- src/matching.rt:80:24
+-- src/walk.rt:80:24
 match-entry-add-node : (t : ℕ) → match-entry-lts.Need-add-node (match-entry-calls t) (match-entry-at t) match-entry.Post
 match-entry-add-node t c = search needs
 
--- src/matching.rt:80:16
+-- src/walk.rt:80:16
 match-entry-mul-node-2 : (t : ℕ) → match-entry-lts.Need-mul-node-2 (match-entry-calls t) (match-entry-at t) match-entry.Post
 match-entry-mul-node-2 t c = search needs
 
--- src/matching.rt:80:16
+-- src/walk.rt:80:16
 match-entry-element-copy-out-node : (t : ℕ) → match-entry-lts.Need-element-copy-out-node (match-entry-calls t) (match-entry-at t) match-entry.Post
 match-entry-element-copy-out-node t c = search needs
 
--- src/matching.rt:82:9
+-- src/walk.rt:82:9
 match-entry-bind-name-requires : (t : ℕ) → match-entry-lts.Need-bind-name-requires (match-entry-calls t) (match-entry-at t) match-entry.Post
 match-entry-bind-name-requires t c κs = ask-bind (c .before .before .before .before .before .before .before .before .before .before .pre .1) (c .before .if1 .taken)
 
--- src/matching.rt:83:9
+-- src/walk.rt:83:9
 match-entry-returns : (t : ℕ) → match-entry-lts.Need-returns (match-entry-calls t) (match-entry-at t) match-entry.Post
 match-entry-returns t c = search (bound, needs)
 
--- src/matching.rt:86:9
+-- src/walk.rt:86:9
 match-entry-returns-2 : (t : ℕ) → match-entry-lts.Need-returns-2 (match-entry-calls t) (match-entry-at t) match-entry.Post
 match-entry-returns-2 t c = search (ignored, needs)
 
--- src/matching.rt:89:9
+-- src/walk.rt:89:9
 match-entry-equals-name-requires : (t : ℕ) → match-entry-lts.Need-equals-name-requires (match-entry-calls t) (match-entry-at t) match-entry.Post
 match-entry-equals-name-requires t c κs = search (ask-compare, needs)
 
--- src/matching.rt:89:9
+-- src/walk.rt:89:9
 match-entry-returns-3 : (t : ℕ) → match-entry-lts.Need-returns-3 (match-entry-calls t) (match-entry-at t) match-entry.Post
 match-entry-returns-3 t c = search (compared, needs)
 
--- src/matching.rt:102:9
+-- src/walk.rt:102:9
 match-entry-same-value-requires : (t : ℕ) → match-entry-lts.Need-same-value-requires (match-entry-calls t) (match-entry-at t) match-entry.Post
 match-entry-same-value-requires t c κs = search (ask-literal, needs)
 
--- src/matching.rt:102:9
+-- src/walk.rt:102:9
 match-entry-returns-4 : (t : ℕ) → match-entry-lts.Need-returns-4 (match-entry-calls t) (match-entry-at t) match-entry.Post
 match-entry-returns-4 t c = search (literal-compared, needs)
 
--- src/matching.rt:105:29
+-- src/walk.rt:105:29
 match-entry-mul-count : (t : ℕ) → match-entry-lts.Need-mul-count (match-entry-calls t) (match-entry-at t) match-entry.Post
 match-entry-mul-count t c = search needs
 
--- src/matching.rt:105:29
+-- src/walk.rt:105:29
 match-entry-add-count : (t : ℕ) → match-entry-lts.Need-add-count (match-entry-calls t) (match-entry-at t) match-entry.Post
 match-entry-add-count t c = search needs
 
--- src/matching.rt:105:21
+-- src/walk.rt:105:21
 match-entry-mul-count-2 : (t : ℕ) → match-entry-lts.Need-mul-count-2 (match-entry-calls t) (match-entry-at t) match-entry.Post
 match-entry-mul-count-2 t c = search needs
 
--- src/matching.rt:105:21
+-- src/walk.rt:105:21
 match-entry-element-copy-out-count : (t : ℕ) → match-entry-lts.Need-element-copy-out-count (match-entry-calls t) (match-entry-at t) match-entry.Post
 match-entry-element-copy-out-count t c = search needs
 
--- src/matching.rt:118:13
+-- src/walk.rt:118:13
 match-entry-sub-match-items : (t : ℕ) → match-entry-lts.Need-sub-match-items (match-entry-calls t) (match-entry-at t) match-entry.Post
 match-entry-sub-match-items t c = search (some-rest, needs)
 
--- src/matching.rt:106:9
+-- src/walk.rt:106:9
 match-entry-match-items-requires : (t : ℕ) → match-entry-lts.Need-match-items-requires (match-entry-calls t) (match-entry-at t) match-entry.Post
 match-entry-match-items-requires t c κs = (search (parts-fall, needs), search (ask-items, needs))
 
--- src/matching.rt:106:9
+-- src/walk.rt:106:9
 match-entry-returns-5 : (t : ℕ) → match-entry-lts.Need-returns-5 (match-entry-calls t) (match-entry-at t) match-entry.Post
 match-entry-returns-5 t c = search needs
 
--- src/matching.rt:133:9
+-- src/walk.rt:133:9
 match-entry-sub-match-fields : (t : ℕ) → match-entry-lts.Need-sub-match-fields (match-entry-calls t) (match-entry-at t) match-entry.Post
 match-entry-sub-match-fields t c = search (some-rest, needs)
 
--- src/matching.rt:122:5
+-- src/walk.rt:122:5
 match-entry-match-fields-requires : (t : ℕ) → match-entry-lts.Need-match-fields-requires (match-entry-calls t) (match-entry-at t) match-entry.Post
 match-entry-match-fields-requires t c κs = (search (parts-fall, needs), search (ask-fields, needs))
 
--- src/matching.rt:62:1
+-- src/walk.rt:62:1
 match-entry-returns-6 : (t : ℕ) → match-entry-lts.Need-returns-6 (match-entry-calls t) (match-entry-at t) match-entry.Post
 match-entry-returns-6 t c = search needs
 
@@ -176,99 +176,99 @@ match-fields-Inv-loop nodes children numbers names strings text scratch places n
 abbrev match-fields-μ-loop : match-fields-lts.MeasureT-loop
 match-fields-μ-loop nodes children numbers names strings text scratch places node value rest list₀ first count i₀ list i = count - i
 
--- src/matching.rt:209:8
+-- src/walk.rt:209:8
 match-fields-kind-of-requires : (t : ℕ) → match-fields-lts.Need-kind-of-requires (match-fields-calls t) (match-fields-at t) match-fields.Post match-fields-Inv-loop match-fields-μ-loop
 match-fields-kind-of-requires t c κs = search needs
 
--- src/matching.rt:210:9
+-- src/walk.rt:210:9
 match-fields-returns : (t : ℕ) → match-fields-lts.Need-returns (match-fields-calls t) (match-fields-at t) match-fields.Post match-fields-Inv-loop match-fields-μ-loop
 match-fields-returns t c = search (not-object, needs)
 
--- src/matching.rt:212:9
+-- src/walk.rt:212:9
 match-fields-same-key-sets-requires : (t : ℕ) → match-fields-lts.Need-same-key-sets-requires (match-fields-calls t) (match-fields-at t) match-fields.Post match-fields-Inv-loop match-fields-μ-loop
 match-fields-same-key-sets-requires t c κs = search (ask-key-sets, needs)
 
--- src/matching.rt:213:9
+-- src/walk.rt:213:9
 match-fields-returns-2 : (t : ℕ) → match-fields-lts.Need-returns-2 (match-fields-calls t) (match-fields-at t) match-fields.Post match-fields-Inv-loop match-fields-μ-loop
 match-fields-returns-2 t c = search (other-keys, needs)
 
--- src/matching.rt:215:17
+-- src/walk.rt:215:17
 match-fields-first-of-requires : (t : ℕ) → match-fields-lts.Need-first-of-requires (match-fields-calls t) (match-fields-at t) match-fields.Post match-fields-Inv-loop match-fields-μ-loop
 match-fields-first-of-requires t c κs = search needs
 
--- src/matching.rt:215:17
+-- src/walk.rt:215:17
 match-fields-cast-first : (t : ℕ) → match-fields-lts.Need-cast-first (match-fields-calls t) (match-fields-at t) match-fields.Post match-fields-Inv-loop match-fields-μ-loop
 match-fields-cast-first t c = search needs
 
--- src/matching.rt:216:17
+-- src/walk.rt:216:17
 match-fields-count-of-requires : (t : ℕ) → match-fields-lts.Need-count-of-requires (match-fields-calls t) (match-fields-at t) match-fields.Post match-fields-Inv-loop match-fields-μ-loop
 match-fields-count-of-requires t c κs = search needs
 
--- src/matching.rt:216:17
+-- src/walk.rt:216:17
 match-fields-cast-count : (t : ℕ) → match-fields-lts.Need-cast-count (match-fields-calls t) (match-fields-at t) match-fields.Post match-fields-Inv-loop match-fields-μ-loop
 match-fields-cast-count t c = search needs
 
--- src/matching.rt:218:5
+-- src/walk.rt:218:5
 match-fields-loop-holds : (t : ℕ) → match-fields-lts.Need-loop-holds (match-fields-calls t) (match-fields-at t) match-fields.Post match-fields-Inv-loop match-fields-μ-loop
 match-fields-loop-holds t c = fields-start (c .before .before .before .before .before .before .before .before .before .before .before .before .pre .1) (c .before .before .before .before .before .kind-of .ensures) (c .before .before .before .before .if1 .left) (c .before .before .before .same-key-sets .ensures) (c .before .before .if2 .left) (c .before .first-of .ensures) (c .count-of .ensures)
 
--- src/matching.rt:219:46
+-- src/walk.rt:219:46
 match-fields-mul-child-at : (t : ℕ) → match-fields-lts.Need-mul-child-at (match-fields-calls t) (match-fields-at t) match-fields.Post match-fields-Inv-loop match-fields-μ-loop
 match-fields-mul-child-at t c = search (fields-twice, needs)
 
--- src/matching.rt:219:38
+-- src/walk.rt:219:38
 match-fields-add-child-at : (t : ℕ) → match-fields-lts.Need-add-child-at (match-fields-calls t) (match-fields-at t) match-fields.Post match-fields-Inv-loop match-fields-μ-loop
 match-fields-add-child-at t c = search (fields-key-fits, needs)
 
--- src/matching.rt:219:13
+-- src/walk.rt:219:13
 match-fields-child-at-requires : (t : ℕ) → match-fields-lts.Need-child-at-requires (match-fields-calls t) (match-fields-at t) match-fields.Post match-fields-Inv-loop match-fields-μ-loop
 match-fields-child-at-requires t c κs = search needs
 
--- src/matching.rt:220:48
+-- src/walk.rt:220:48
 match-fields-mul-child-at-2 : (t : ℕ) → match-fields-lts.Need-mul-child-at-2 (match-fields-calls t) (match-fields-at t) match-fields.Post match-fields-Inv-loop match-fields-μ-loop
 match-fields-mul-child-at-2 t c = search (fields-twice, needs)
 
--- src/matching.rt:220:40
+-- src/walk.rt:220:40
 match-fields-add-child-at-2 : (t : ℕ) → match-fields-lts.Need-add-child-at-2 (match-fields-calls t) (match-fields-at t) match-fields.Post match-fields-Inv-loop match-fields-μ-loop
 match-fields-add-child-at-2 t c = search (fields-key-fits, needs)
 
--- src/matching.rt:220:40
+-- src/walk.rt:220:40
 match-fields-add-child-at-3 : (t : ℕ) → match-fields-lts.Need-add-child-at-3 (match-fields-calls t) (match-fields-at t) match-fields.Post match-fields-Inv-loop match-fields-μ-loop
 match-fields-add-child-at-3 t c = search (fields-value-fits, needs)
 
--- src/matching.rt:220:13
+-- src/walk.rt:220:13
 match-fields-child-at-requires-2 : (t : ℕ) → match-fields-lts.Need-child-at-requires-2 (match-fields-calls t) (match-fields-at t) match-fields.Post match-fields-Inv-loop match-fields-μ-loop
 match-fields-child-at-requires-2 t c κs = search needs
 
--- src/matching.rt:221:13
+-- src/walk.rt:221:13
 match-fields-value-under-requires : (t : ℕ) → match-fields-lts.Need-value-under-requires (match-fields-calls t) (match-fields-at t) match-fields.Post match-fields-Inv-loop match-fields-μ-loop
 match-fields-value-under-requires t c κs = search (fields-object, needs)
 
--- src/matching.rt:232:13
+-- src/walk.rt:232:13
 match-fields-place-of-requires : (t : ℕ) → match-fields-lts.Need-place-of-requires (match-fields-calls t) (match-fields-at t) match-fields.Post match-fields-Inv-loop match-fields-μ-loop
 match-fields-place-of-requires t c κs = fields-range (c .before .before .before .before .loop .inv) (c .before .before .before .loop-test .taken) (c .before .child-at2 .ensures)
 
--- src/matching.rt:233:13
+-- src/walk.rt:233:13
 match-fields-match-entry-requires : (t : ℕ) → match-fields-lts.Need-match-entry-requires (match-fields-calls t) (match-fields-at t) match-fields.Post match-fields-Inv-loop match-fields-μ-loop
 match-fields-match-entry-requires t c κs = (entry-falls _ _ (c .before .before .before .before .before .before .before .before .before .before .before .before .before .before .before .before .before .before .before .pre .0), fields-asks (c .before .before .before .before .before .before .loop .inv) (c .before .before .before .before .before .loop-test .taken) (c .before .before .before .before .child-at .ensures) (c .before .before .before .child-at2 .ensures) (c .before .before .value-under .ensures) (c .before .place-of .ensures .0))
 
--- src/matching.rt:247:13
+-- src/walk.rt:247:13
 match-fields-returns-3 : (t : ℕ) → match-fields-lts.Need-returns-3 (match-fields-calls t) (match-fields-at t) match-fields.Post match-fields-Inv-loop match-fields-μ-loop
 match-fields-returns-3 t c = fields-fail (c .before .before .before .before .before .before .before .before .loop .inv) (c .before .before .before .before .before .before .before .loop-test .taken) (c .before .before .before .before .before .before .child-at .ensures) (c .before .before .before .before .before .child-at2 .ensures) (c .before .before .before .before .value-under .ensures) (c .before .before .before .place-of .ensures .0) (c .before .match-entry .ensures) (c .if3 .taken)
 
--- src/matching.rt:249:9
+-- src/walk.rt:249:9
 match-fields-add-i : (t : ℕ) → match-fields-lts.Need-add-i (match-fields-calls t) (match-fields-at t) match-fields.Post match-fields-Inv-loop match-fields-μ-loop
 match-fields-add-i t c = search needs
 
--- src/matching.rt:218:5
+-- src/walk.rt:218:5
 match-fields-loop-less : (t : ℕ) → match-fields-lts.Need-loop-less (match-fields-calls t) (match-fields-at t) match-fields.Post match-fields-Inv-loop match-fields-μ-loop
 match-fields-loop-less t c = search needs
 
--- src/matching.rt:218:5
+-- src/walk.rt:218:5
 match-fields-loop-again : (t : ℕ) → match-fields-lts.Need-loop-again (match-fields-calls t) (match-fields-at t) match-fields.Post match-fields-Inv-loop match-fields-μ-loop
 match-fields-loop-again t c = fields-on (c .before .before .before .before .before .before .before .before .loop .inv) (c .before .before .before .before .before .before .before .loop-test .taken) (c .before .before .before .before .before .before .child-at .ensures) (c .before .before .before .before .before .child-at2 .ensures) (c .before .before .before .before .value-under .ensures) (c .before .before .before .place-of .ensures .0) (c .before .match-entry .ensures) (c .if3 .left)
 
--- src/matching.rt:192:1
+-- src/walk.rt:192:1
 match-fields-returns-4 : (t : ℕ) → match-fields-lts.Need-returns-4 (match-fields-calls t) (match-fields-at t) match-fields.Post match-fields-Inv-loop match-fields-μ-loop
 match-fields-returns-4 t c = search (fields-end, needs)
 
@@ -278,91 +278,91 @@ match-items-Inv-loop nodes children numbers names strings text scratch places no
 abbrev match-items-μ-loop : match-items-lts.MeasureT-loop
 match-items-μ-loop nodes children numbers names strings text scratch places node count value rest list₀ at from i₀ list i = count - i
 
--- src/matching.rt:157:8
+-- src/walk.rt:157:8
 match-items-kind-of-requires : (t : ℕ) → match-items-lts.Need-kind-of-requires (match-items-calls t) (match-items-at t) match-items.Post match-items-Inv-loop match-items-μ-loop
 match-items-kind-of-requires t c κs = search needs
 
--- src/matching.rt:158:9
+-- src/walk.rt:158:9
 match-items-returns : (t : ℕ) → match-items-lts.Need-returns (match-items-calls t) (match-items-at t) match-items.Post match-items-Inv-loop match-items-μ-loop
 match-items-returns t c = search (not-array, needs)
 
--- src/matching.rt:160:8
+-- src/walk.rt:160:8
 match-items-count-of-requires : (t : ℕ) → match-items-lts.Need-count-of-requires (match-items-calls t) (match-items-at t) match-items.Post match-items-Inv-loop match-items-μ-loop
 match-items-count-of-requires t c κs = search needs
 
--- src/matching.rt:161:9
+-- src/walk.rt:161:9
 match-items-returns-2 : (t : ℕ) → match-items-lts.Need-returns-2 (match-items-calls t) (match-items-at t) match-items.Post match-items-Inv-loop match-items-μ-loop
 match-items-returns-2 t c = search (uneven-items, needs)
 
--- src/matching.rt:163:14
+-- src/walk.rt:163:14
 match-items-first-of-requires : (t : ℕ) → match-items-lts.Need-first-of-requires (match-items-calls t) (match-items-at t) match-items.Post match-items-Inv-loop match-items-μ-loop
 match-items-first-of-requires t c κs = search needs
 
--- src/matching.rt:163:14
+-- src/walk.rt:163:14
 match-items-cast-at : (t : ℕ) → match-items-lts.Need-cast-at (match-items-calls t) (match-items-at t) match-items.Post match-items-Inv-loop match-items-μ-loop
 match-items-cast-at t c = search needs
 
--- src/matching.rt:164:16
+-- src/walk.rt:164:16
 match-items-first-of-requires-2 : (t : ℕ) → match-items-lts.Need-first-of-requires-2 (match-items-calls t) (match-items-at t) match-items.Post match-items-Inv-loop match-items-μ-loop
 match-items-first-of-requires-2 t c κs = search needs
 
--- src/matching.rt:164:16
+-- src/walk.rt:164:16
 match-items-cast-from : (t : ℕ) → match-items-lts.Need-cast-from (match-items-calls t) (match-items-at t) match-items.Post match-items-Inv-loop match-items-μ-loop
 match-items-cast-from t c = search needs
 
--- src/matching.rt:166:5
+-- src/walk.rt:166:5
 match-items-loop-holds : (t : ℕ) → match-items-lts.Need-loop-holds (match-items-calls t) (match-items-at t) match-items.Post match-items-Inv-loop match-items-μ-loop
 match-items-loop-holds t c = search (taking-start, needs)
 
--- src/matching.rt:167:44
+-- src/walk.rt:167:44
 match-items-cast-child-at : (t : ℕ) → match-items-lts.Need-cast-child-at (match-items-calls t) (match-items-at t) match-items.Post match-items-Inv-loop match-items-μ-loop
 match-items-cast-child-at t c = search needs
 
--- src/matching.rt:167:39
+-- src/walk.rt:167:39
 match-items-add-child-at : (t : ℕ) → match-items-lts.Need-add-child-at (match-items-calls t) (match-items-at t) match-items.Post match-items-Inv-loop match-items-μ-loop
 match-items-add-child-at t c = search (taking-place-fits, needs)
 
--- src/matching.rt:167:13
+-- src/walk.rt:167:13
 match-items-child-at-requires : (t : ℕ) → match-items-lts.Need-child-at-requires (match-items-calls t) (match-items-at t) match-items.Post match-items-Inv-loop match-items-μ-loop
 match-items-child-at-requires t c κs = search needs
 
--- src/matching.rt:168:46
+-- src/walk.rt:168:46
 match-items-cast-child-at-2 : (t : ℕ) → match-items-lts.Need-cast-child-at-2 (match-items-calls t) (match-items-at t) match-items.Post match-items-Inv-loop match-items-μ-loop
 match-items-cast-child-at-2 t c = search needs
 
--- src/matching.rt:168:39
+-- src/walk.rt:168:39
 match-items-add-child-at-2 : (t : ℕ) → match-items-lts.Need-add-child-at-2 (match-items-calls t) (match-items-at t) match-items.Post match-items-Inv-loop match-items-μ-loop
 match-items-add-child-at-2 t c = search (taking-from-fits, needs)
 
--- src/matching.rt:168:13
+-- src/walk.rt:168:13
 match-items-child-at-requires-2 : (t : ℕ) → match-items-lts.Need-child-at-requires-2 (match-items-calls t) (match-items-at t) match-items.Post match-items-Inv-loop match-items-μ-loop
 match-items-child-at-requires-2 t c κs = search needs
 
--- src/matching.rt:169:13
+-- src/walk.rt:169:13
 match-items-place-of-requires : (t : ℕ) → match-items-lts.Need-place-of-requires (match-items-calls t) (match-items-at t) match-items.Post match-items-Inv-loop match-items-μ-loop
 match-items-place-of-requires t c κs = taking-range (c .before .before .before .loop .inv) (c .before .before .loop-test .taken) (c .before .child-at .ensures) (c .child-at2 .ensures)
 
--- src/matching.rt:170:13
+-- src/walk.rt:170:13
 match-items-match-entry-requires : (t : ℕ) → match-items-lts.Need-match-entry-requires (match-items-calls t) (match-items-at t) match-items.Post match-items-Inv-loop match-items-μ-loop
 match-items-match-entry-requires t c κs = (entry-falls _ _ (c .before .before .before .before .before .before .before .before .before .before .before .before .before .before .before .before .before .before .pre .0), taking-asks (c .before .before .before .before .before .loop .inv) (c .before .before .before .before .loop-test .taken) (c .before .before .before .child-at .ensures) (c .before .before .child-at2 .ensures) (c .before .place-of .ensures .0))
 
--- src/matching.rt:184:13
+-- src/walk.rt:184:13
 match-items-returns-3 : (t : ℕ) → match-items-lts.Need-returns-3 (match-items-calls t) (match-items-at t) match-items.Post match-items-Inv-loop match-items-μ-loop
 match-items-returns-3 t c = taking-fails (c .before .before .before .before .before .before .before .loop .inv) (c .before .before .before .before .before .before .loop-test .taken) (c .before .before .before .before .before .child-at .ensures) (c .before .before .before .before .child-at2 .ensures) (c .before .before .before .place-of .ensures .0) (c .before .match-entry .ensures) (c .if3 .taken)
 
--- src/matching.rt:186:9
+-- src/walk.rt:186:9
 match-items-add-i : (t : ℕ) → match-items-lts.Need-add-i (match-items-calls t) (match-items-at t) match-items.Post match-items-Inv-loop match-items-μ-loop
 match-items-add-i t c = search needs
 
--- src/matching.rt:166:5
+-- src/walk.rt:166:5
 match-items-loop-less : (t : ℕ) → match-items-lts.Need-loop-less (match-items-calls t) (match-items-at t) match-items.Post match-items-Inv-loop match-items-μ-loop
 match-items-loop-less t c = search needs
 
--- src/matching.rt:166:5
+-- src/walk.rt:166:5
 match-items-loop-again : (t : ℕ) → match-items-lts.Need-loop-again (match-items-calls t) (match-items-at t) match-items.Post match-items-Inv-loop match-items-μ-loop
 match-items-loop-again t c = taking-on (c .before .before .before .before .before .before .before .loop .inv) (c .before .before .before .before .before .before .loop-test .taken) (c .before .before .before .before .before .child-at .ensures) (c .before .before .before .before .child-at2 .ensures) (c .before .before .before .place-of .ensures .0) (c .before .match-entry .ensures) (c .if3 .left)
 
--- src/matching.rt:139:1
+-- src/walk.rt:139:1
 match-items-returns-4 : (t : ℕ) → match-items-lts.Need-returns-4 (match-items-calls t) (match-items-at t) match-items.Post match-items-Inv-loop match-items-μ-loop
 match-items-returns-4 t c = search (taking-ends, needs)
 

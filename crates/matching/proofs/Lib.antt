@@ -1,0 +1,10 @@
+pub mod Good
+pub mod Fits
+pub mod Promise
+pub mod Patterns
+pub mod Lists
+pub mod Entries
+pub mod Parts
+pub mod EntryLists
+pub mod Shown
+pub mod Placing
