@@ -26,14 +26,15 @@ use Rattle.planner.proofs.Filling.{length-tabulate, getD-tabulate}
 use Rattle.value.specs.Value.{Value, valueOf, nodeᵛ, Same}
 use Rattle.value.proofs.Keys.{is-true, true-is}
 use Rattle.value.proofs.Equal.{laws}
+use Rattle.matching.specs.Matching.{Env, Outcome, matched, missed, fault, pickValue, start, Filling, Promise}
+use Rattle.matching.proofs.Fits.{filled}
+use Rattle.report.proofs.Meeting.{mentioned-named}
 use Rattle.run.specs.declared.RunAnswer.{RunAnswer}
 use Rattle.run.specs.declared.RunAnswer.the-variants.{Match, NoMatch}
-use Rattle.matching.specs.Matching.{Env, Outcome, matched, missed, fault, pickValue, start, Filling, Promise}
 use Rattle.run.specs.Operations.{listedNode, isName, isValueNode, listed, valuesListed, knownListed, RunOutcome, carriedOut, tableFirst, ran, runChecked, runOutcome, answerOf, runAnswer, nodeIn, setNames, plannedName, valuesAfter}
 use Rattle.run.specs.Post.{RunAsks}
 use Rattle.run.specs.Demand.{Hypotheses, answer, list, isPlanned, Fills, Promised, Demand}
-use Rattle.matching.proofs.Fits.{filled}
-use Rattle.run.proofs.Running.{mentioned-named, run-table, promised, listed-value, value-ok}
+use Rattle.run.proofs.Running.{run-table, promised, listed-value, value-ok}
 use Rattle.run.proofs.Tabled.{Tabled, run-tabled, value-tabled}
 
 all-true : (p : ℕ → Bool) (from k : ℕ) → ((j : ℕ) → from ≤ j → j < from + k → p j ≡ true) → allFrom p from k ≡ true

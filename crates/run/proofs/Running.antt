@@ -15,8 +15,6 @@ use Rattle.scope.specs.Scope.{isUnbound}
 use Rattle.table.specs.declared.TableAnswer.{TableAnswer}
 use Rattle.table.specs.declared.TableAnswer.the-variants.{Sound, OverLimit, BreaksRules, TooDeep, EqualNames}
 use Rattle.table.specs.Tables.{Tables, nodeCount, nameCount, isNode}
-use Rattle.table.specs.Expr as Expr
-use Rattle.table.specs.Expr.{Expr, literal, name, wildcard, array, object, other, Exprs, item, Fields, done, field}
 use Rattle.table.specs.Decode.{expr}
 use Rattle.table.specs.Rules.{elem}
 use Rattle.table.specs.Check.{checked}
@@ -29,55 +27,27 @@ use Rattle.planner.specs.Layout.{entries}
 use Rattle.planner.specs.Operations.{isSound, planned, fits, written, planOf}
 use Rattle.planner.specs.Post.{GoodRoot, Laid, PatternAsks, PatternPlanned, Delivered, wordAt, tabulate}
 use Rattle.planner.specs.declared.PlanAnswer.{PlanAnswer}
-use Rattle.planner.specs.Simple.{simple, mentions, mentionsAny, mentionsFields}
-use Rattle.planner.proofs.Binders.{AllNames, AllNamesAll, AllNamesFields, names-all}
+use Rattle.planner.specs.Simple.{simple, mentions}
 use Rattle.planner.proofs.Filling.{length-tabulate, getD-tabulate}
 use Rattle.planner.proofs.Operations.{delivered, table-passes, root-node}
 use Rattle.planner.proofs.Objects.{node-of}
 use Rattle.value.specs.Value.{Value, isValue, valueOf, valueAt, Proper}
 use Rattle.value.specs.Post.{ValueNode}
-use Rattle.value.proofs.Keys.{true-is, is-true, or-elim}
+use Rattle.value.proofs.Keys.{true-is, is-true}
 use Rattle.value.proofs.Admitted.{value-proper}
 use Rattle.value.proofs.Node as Node·
-use Rattle.run.specs.declared.RunAnswer.{RunAnswer}
-use Rattle.run.specs.declared.RunAnswer.the-variants.{Match, NoMatch, TableRefused, RootOutside, ListTooShort, PatternNotSimple, NotAValue, NameWithoutValue, PlanTooLarge}
 use Rattle.matching.specs.Matching.{Env, Outcome, matched, pickValue, run, start, Asked, Promise}
-use Rattle.run.specs.Operations.{listedNode, isName, allNames, isValueNode, listed, valuesListed, knownListed, RunOutcome, refused, carriedOut, tableFirst, ran, runChecked, runOutcome, answerOf, runAnswer, planAfter, nodeIn, setNames, plannedName, valuesAfter, Ran}
 use Rattle.matching.specs.Post as Post
 use Rattle.matching.specs.Post.{envOf, ListOk, PlanIn, Came, PatternCame}
+use Rattle.matching.proofs.Promise as Promise·
+use Rattle.matching.proofs.Lists.{env-at}
+use Rattle.report.proofs.Meeting.{after-met, mentions-met, mentioned-named}
+use Rattle.run.specs.declared.RunAnswer.{RunAnswer}
+use Rattle.run.specs.declared.RunAnswer.the-variants.{Match, NoMatch, TableRefused, RootOutside, ListTooShort, PatternNotSimple, NotAValue, NameWithoutValue, PlanTooLarge}
+use Rattle.run.specs.Operations.{listedNode, isName, allNames, isValueNode, listed, valuesListed, knownListed, RunOutcome, refused, carriedOut, tableFirst, ran, runChecked, runOutcome, answerOf, runAnswer, planAfter, nodeIn, setNames, plannedName, valuesAfter, Ran}
 use Rattle.run.specs.Post.{RunAsks, MatchValuesAsks, ValuesCame, CheckedAsks}
 use Rattle.run.specs.NamesPost.{ListAsks, StartOf, NamesSet, KnownAsks}
 use Rattle.run.specs.ChecksPost.{AllAsks}
-use Rattle.matching.proofs.Promise as Promise·
-use Rattle.matching.proofs.Lists.{env-at}
-use Rattle.run.proofs.Valued.{after-met, mentions-met}
-
--- what holds of each name of a pattern holds of the names in it
-module _ (P : ℕ → Type 0) where
-  mutual
-    unfolding AllNames mentions
-
-    mentioned : (e : Expr) → AllNames (λ n x. P x) e → (x : ℕ) → True (mentions x e) → P x
-    mentioned (literal n l) all x t = absurd t
-    mentioned (name n y) all x t = let q = eqb-true x y (is-true t) in rw q all
-    mentioned (wildcard n) all x t = absurd t
-    mentioned (array n es) all x t = mentioned-all es all x t
-    mentioned (Expr.set n es) all x t = mentioned-all es all x t
-    mentioned (object n fs) all x t = mentioned-fields fs all x t
-    mentioned (other n) all x t = absurd t
-
-    mentioned-all : (es : Exprs) → AllNamesAll (λ n x. P x) es → (x : ℕ) → True (mentionsAny x es) → P x
-    mentioned-all Expr.none all x t = absurd t
-    mentioned-all (item e es) all x t = or-elim (mentions x e) (mentionsAny x es) t (λ h. mentioned e (all .0) x h) (λ h. mentioned-all es (all .1) x h)
-
-    mentioned-fields : (fs : Fields) → AllNamesFields (λ n x. P x) fs → (x : ℕ) → True (mentionsFields x fs) → P x
-    mentioned-fields done all x t = absurd t
-    mentioned-fields (field k v fs) all x t =
-        or-elim (mentions x k) (mentions x v || mentionsFields x fs) t (λ h. mentioned k (all .0) x h)
-        (λ h. or-elim (mentions x v) (mentionsFields x fs) h (λ g. mentioned v (all .1) x g) (λ g. mentioned-fields fs (all .2) x g))
-
-pub mentioned-named : (T : Tables) → WellFormed T → (n : ℕ) → Node T n → (x : ℕ) → True (mentions x (expr T n)) → Named T x
-mentioned-named T w n v x t = mentioned (Named T) (expr T n) (names-all T w (λ m y. Named T y) (λ m z k h. w .named m z k) n v) x t
 
 name-test : (T : Tables) (x : ℕ) → Named T x → isName T x ≡ true
 name-test T x v = let a = le-leb 1 x (v .low) in let b = le-leb x (nameCount T) (v .high) in rw (a, b)

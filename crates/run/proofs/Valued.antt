@@ -1,8 +1,8 @@
 -- The values of names: at the start, after a match, and whether each that is needed is there.
 use Prim.Native.Nat.{ℕ, zero, suc, _+_, _-_, _/_, _≤_, _<_}
 use mathlib.Core.Path.{_≡_, refl, sym, ap, ap₂, _∙_}
-use mathlib.Core.List.{List, [], _∷_, _++_}
-use mathlib.Core.Bool.{Bool, true, false, cond, _&&_, _||_, not, false≢true}
+use mathlib.Core.List.{List}
+use mathlib.Core.Bool.{Bool, true, false, cond, _&&_, _||_, not}
 use native.Mathlib.Omega.{arith}
 use borrow.Author.Tests.{eqb-true, eqb-false, eq-eqb, ne-eqb, not-true, not-false}
 use lib.Dec.{eqb}
@@ -10,29 +10,22 @@ use lib.ListN.{length, getD, set, replicate, length-set, length-replicate}
 use lib.Seq.{getD-set-same, getD-set-other}
 use Rattle.scope.specs.declared.Scope.{Scope}
 use Rattle.scope.specs.declared.ScopingMode.{ScopingMode}
-use Rattle.scope.specs.declared.ScopingMode.the-variants.{AllowShadowing}
 use Rattle.scope.specs.declared.Binding.{Binding}
 use Rattle.scope.specs.declared.Binding.the-variants as Binding
-use Rattle.scope.specs.Scope.{isUnderscore, isUnbound, bindingOf, newScope}
-use Rattle.scope.proofs.Laws.{answer-promise, new-promise}
+use Rattle.scope.specs.Scope.{isUnbound, bindingOf}
+use Rattle.scope.proofs.Laws.{answer-promise}
 use Rattle.table.specs.Tables.{Tables, nameCount}
-use Rattle.table.specs.Expr as Expr
-use Rattle.table.specs.Expr.{Expr, literal, name, wildcard, array, object, other, Exprs, item, Fields, done, field}
 use Rattle.table.specs.Decode.{expr}
-use Rattle.table.specs.Rules.{allFrom, elem}
+use Rattle.table.specs.Rules.{allFrom}
 use Rattle.table.proofs.Scan.{Scan, scan-start, scan-on, scan-fails, scan-ends}
-use Rattle.planner.specs.Plan.{after, afterAll, afterFields}
-use Rattle.planner.specs.Layout.{literalKey}
 use Rattle.planner.specs.Passes.{unboundMark}
-use Rattle.planner.specs.Post.{NameNumber, PatternPlanned}
-use Rattle.planner.specs.Simple.{isLiteral, keysOf, differing, simple, simpleAll, simpleFields, mentions, mentionsAny, mentionsFields}
+use Rattle.planner.specs.Post.{NameNumber}
+use Rattle.planner.specs.Simple.{mentions}
 use Rattle.planner.proofs.States.{mark-never}
-use Rattle.table.proofs.Bools.{and-true}
-use Rattle.value.proofs.Keys.{true-is}
-use Rattle.run.specs.Report.{namesMet, namesMetAll, namesMetFields}
+use Rattle.report.specs.Post.{MetBy}
+use Rattle.report.proofs.Meeting.{mentions-met}
 use Rattle.run.specs.Operations.{listedNode, knownListed}
-use Rattle.run.specs.NamesPost.{ListAsks, StartOf, NamesSet, MetBy, hasValue, allHaveValues, KnownAsks}
-use Rattle.matching.proofs.Fits.{silent}
+use Rattle.run.specs.NamesPost.{ListAsks, StartOf, NamesSet, hasValue, allHaveValues, KnownAsks}
 
 -- what a scope says of a name
 module _ (x : ℕ) (u : Bool) {b : Binding} (is : b ≡ bindingOf x u) where
@@ -156,110 +149,6 @@ module _ {names binders list before : List ℕ} {count i : ℕ} {here : List ℕ
     each = λ k lt. let c = go .counted in go .going .each k (omega arith);
     rest = λ k h. let c = go .counted in let n = go .inside in go .going .rest k (omega arith);
   }
-
--- the names that a pattern meets
-
-elem-or : (x : ℕ) (xs ys : List ℕ) → elem x (xs ++ ys) ≡ (elem x xs || elem x ys)
-unfolding elem
-elem-or x [] ys = refl
-elem-or x (y ∷ xs) ys = ap (λ (b : Bool). eqb x y || b) (elem-or x xs ys) ∙ assoc (eqb x y) (elem x xs) (elem x ys)
-  where
-    assoc : (a b c : Bool) → (a || (b || c)) ≡ ((a || b) || c)
-    assoc true b c = refl
-    assoc false b c = refl
-
-module _ (u : ℕ → Bool) (x : ℕ) where
-  two : (a b c d : Bool) → ((b && c) || ((a && c) || d)) ≡ (((a || b) && c) || d)
-  two true true true d = refl
-  two true true false d = refl
-  two true false true d = refl
-  two true false false d = refl
-  two false true true d = refl
-  two false true false d = refl
-  two false false c d = refl
-
-  mutual
-    unfolding after namesMet elem
-
-    -- the names planned once a pattern is: those that it meets and the scope doesn't know, and those of before
-    pub after-met : (e : Expr) (seen : List ℕ) → elem x (after u e seen) ≡ ((elem x (namesMet e) && u x) || elem x seen)
-    after-met (literal n l) seen = refl
-    after-met (name n y) seen = go (eqb x y) refl (u y) refl (elem y seen) refl
-      where
-        go : (a : Bool) → eqb x y ≡ a → (b : Bool) → u y ≡ b → (c : Bool) → elem y seen ≡ c → elem x (cond (u y && not (elem y seen)) (y ∷ seen) seen) ≡ (((eqb x y || false) && u x) || elem x seen)
-        go true p true q true r = let e = eqb-true x y p in let h : elem x seen ≡ true = ap (λ (z : ℕ). elem z seen) e ∙ r in let g : u x ≡ true = ap u e ∙ q in simp (p, q, r, g, h)
-        go true p true q false r = let e = eqb-true x y p in let g : u x ≡ true = ap u e ∙ q in simp (p, q, r, g)
-        go true p false q c r = let e = eqb-true x y p in let g : u x ≡ false = ap u e ∙ q in simp (p, q, g)
-        go false p true q true r = simp (p, q, r)
-        go false p true q false r = simp (p, q, r)
-        go false p false q c r = simp (p, q)
-    after-met (wildcard n) seen = refl
-    after-met (array n es) seen = after-met-all es seen
-    after-met (Expr.set n es) seen = refl
-    after-met (object n fs) seen = after-met-fields fs seen
-    after-met (other n) seen = refl
-
-    after-met-all : (es : Exprs) (seen : List ℕ) → elem x (afterAll u es seen) ≡ ((elem x (namesMetAll es) && u x) || elem x seen)
-    after-met-all Expr.none seen = refl
-    after-met-all (item e es) seen =
-        after-met-all es (after u e seen)
-        ∙ (ap (λ (b : Bool). (elem x (namesMetAll es) && u x) || b) (after-met e seen)
-        ∙ (two (elem x (namesMet e)) (elem x (namesMetAll es)) (u x) (elem x seen) ∙ ap (λ (b : Bool). (b && u x) || elem x seen) (sym (elem-or x (namesMet e) (namesMetAll es)))))
-
-    after-met-fields : (fs : Fields) (seen : List ℕ) → elem x (afterFields u fs seen) ≡ ((elem x (namesMetFields fs) && u x) || elem x seen)
-    after-met-fields done seen = refl
-    after-met-fields (field k v fs) seen =
-        after-met-fields fs (after u v seen)
-        ∙ (ap (λ (b : Bool). (elem x (namesMetFields fs) && u x) || b) (after-met v seen)
-        ∙ (two (elem x (namesMet v)) (elem x (namesMetFields fs)) (u x) (elem x seen) ∙ ap (λ (b : Bool). (b && u x) || elem x seen) (sym (elem-or x (namesMet v) (namesMetFields fs)))))
-
-module _ (x : ℕ) where
-  mutual
-    unfolding mentions namesMet simple elem
-
-    -- a simple pattern meets every name in it
-    pub mentions-met : (e : Expr) → simple e ≡ true → mentions x e ≡ elem x (namesMet e)
-    mentions-met (literal n l) is = refl
-    mentions-met (name n y) is = go (eqb x y)
-      where
-        go : (b : Bool) → b ≡ (b || false)
-        go true = refl
-        go false = refl
-    mentions-met (wildcard n) is = refl
-    mentions-met (array n es) is = mentions-met-all es is
-    mentions-met (Expr.set n es) is = absurd (false≢true is)
-    mentions-met (object n fs) is = mentions-met-fields fs (and-true (differing (keysOf fs)) (simpleFields fs) is .1)
-    mentions-met (other n) is = refl
-
-    mentions-met-all : (es : Exprs) → simpleAll es ≡ true → mentionsAny x es ≡ elem x (namesMetAll es)
-    mentions-met-all Expr.none is = refl
-    mentions-met-all (item e es) is =
-        let p = and-true (simple e) (simpleAll es) is in
-        ap₂ (λ (a b : Bool). a || b) (mentions-met e (p .0)) (mentions-met-all es (p .1)) ∙ sym (elem-or x (namesMet e) (namesMetAll es))
-
-    mentions-met-fields : (fs : Fields) → simpleFields fs ≡ true → mentionsFields x fs ≡ elem x (namesMetFields fs)
-    mentions-met-fields done is = refl
-    mentions-met-fields (field k v fs) is =
-        let p = and-true (isLiteral (literalKey k)) (simple v && simpleFields fs) is in
-        let q = and-true (simple v) (simpleFields fs) (p .1) in
-        let s = silent x k (true-is (p .0)) in
-        ap (λ (b : Bool). b || (mentions x v || mentionsFields x fs)) s
-        ∙ (ap₂ (λ (a b : Bool). a || b) (mentions-met v (q .0)) (mentions-met-fields fs (q .1)) ∙ sym (elem-or x (namesMet v) (namesMetFields fs)))
-
--- where no name is known
-pub met-by : (T : Tables) (root : ℕ) {s : Scope} {before met scratch : List ℕ} {r : ℕ} → s ≡ newScope 0 false → PatternPlanned T s AllowShadowing root before met scratch r → MetBy (expr T root) met
-unfolding isUnderscore newScope elem
-met-by T root {s} {before} {met} {scratch} {r} is p = record {
-  each = λ x v.
-      let low = v .low in
-      let z : eqb x 0 ≡ false = ne-eqb x 0 (λ e. omega arith) in
-      let free : isUnbound s AllowShadowing x ≡ true = ap (λ (t : Scope). isUnbound t AllowShadowing x) is ∙ (new-promise 0 false .is-unbound AllowShadowing x ∙ ap not z) in
-      sym (after-met (isUnbound s AllowShadowing) x (expr T root) [] ∙ (ap (λ (b : Bool). (elem x (namesMet (expr T root)) && b) || false) free ∙ plain (elem x (namesMet (expr T root))))) ∙ p .tracked x v;
-}
-  where
-    plain : (b : Bool) → ((b && true) || false) ≡ b
-    plain true = refl
-    plain false = refl
 
 -- a name that is met has a value unless it is unbound
 module _ (unbound : ℕ → Bool) (x met listed : ℕ) where

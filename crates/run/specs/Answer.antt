@@ -1,10 +1,8 @@
--- What a run and a names report answer, as document 01's four numbers; 0 is no refusal.
+-- What a run answers, as document 01's four numbers; 0 is no refusal.
 use Rattle.table.specs.Check.{refusal}
 use Rattle.planner.specs.Answer.{Line, line}
 use Rattle.run.specs.declared.RunAnswer.{RunAnswer}
 use Rattle.run.specs.declared.RunAnswer.the-variants as Run
-use Rattle.run.specs.declared.ReportAnswer.{ReportAnswer}
-use Rattle.run.specs.declared.ReportAnswer.the-variants as Report
 
 abbrev pub runLine : RunAnswer → Line
 runLine Run.Match = line 0 0 0 0
@@ -16,9 +14,3 @@ runLine Run.ListTooShort = line 20 0 0 0
 runLine Run.PatternNotSimple = line 21 0 0 0
 runLine Run.NotAValue = line 22 0 0 0
 runLine Run.NameWithoutValue = line 23 0 0 0
-
-abbrev pub reportLine : ReportAnswer → Line
-reportLine Report.Reported = line 0 0 0 0
-reportLine (Report.TableRefused a) = line (refusal a) 0 0 0
-reportLine Report.RootOutside = line 5 0 0 0
-reportLine Report.ListTooShort = line 20 0 0 0

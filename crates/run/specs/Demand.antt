@@ -18,9 +18,9 @@ use Rattle.planner.specs.Layout.{entries}
 use Rattle.planner.specs.Operations.{planOf}
 use Rattle.planner.specs.Simple.{simple, mentions}
 use Rattle.value.specs.Value.{Value, isValue, valueOf, Proper, Same, EqualityLaws}
+use Rattle.matching.specs.Matching.{fault, Blanks, fill, SameBlanks, Filling, Makes}
 use Rattle.run.specs.declared.RunAnswer.{RunAnswer}
 use Rattle.run.specs.declared.RunAnswer.the-variants.{Match, NoMatch}
-use Rattle.matching.specs.Matching.{fault, Blanks, fill, SameBlanks, Filling, Makes}
 use Rattle.run.specs.Operations.{listedNode, isName, isValueNode, listed, ran, runOutcome, runAnswer, plannedName, valuesAfter}
 
 module _ (T : Tables) (s : Scope) (mode : ScopingMode) (pattern value : ℕ) (values buffer : List ℕ) where

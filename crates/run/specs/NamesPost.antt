@@ -9,12 +9,10 @@ use Rattle.scope.specs.declared.Scope.{Scope}
 use Rattle.scope.specs.declared.ScopingMode.{ScopingMode}
 use Rattle.scope.specs.Scope.{isUnbound}
 use Rattle.table.specs.Tables.{Tables}
-use Rattle.table.specs.Expr.{Expr}
 use Rattle.table.specs.Decode.{expr}
-use Rattle.table.specs.Rules.{elem, allFrom}
-use Rattle.planner.specs.Post.{NameNumber, GoodRoot}
+use Rattle.table.specs.Rules.{allFrom}
+use Rattle.planner.specs.Post.{GoodRoot}
 use Rattle.planner.specs.Simple.{simple}
-use Rattle.run.specs.Report.{namesMet}
 
 -- as many names as a table has, and a list that is long enough
 pub record ListAsks (names values : List ℕ) : Type 0 where
@@ -32,10 +30,6 @@ pub record NamesSet (count : ℕ) (binders list before after : List ℕ) : Type 
   pub long : length after ≡ length before
   pub each : (i : ℕ) → i < count → getD after i 0 ≡ cond (eqb (getD binders i 0) 0) (getD before i 0) (getD list i 0)
   pub rest : (i : ℕ) → count ≤ i → getD after i 0 ≡ getD before i 0
-
--- a name is met where its word is not 0
-pub record MetBy (e : Expr) (met : List ℕ) : Type 0 where
-  pub each : (x : ℕ) → NameNumber x → elem x (namesMet e) ≡ not (eqb (getD met (x - 1) 0) 0)
 
 abbrev pub hasValue : (ℕ → Bool) → ℕ → ℕ → ℕ → Bool
 hasValue unbound x met listed = eqb met 0 || (not (eqb listed 0) || unbound x)

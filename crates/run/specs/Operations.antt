@@ -20,10 +20,10 @@ use Rattle.planner.specs.Layout.{Entry, entries}
 use Rattle.planner.specs.Operations.{planOf, planned, fits, zeros, written}
 use Rattle.planner.specs.Post.{tabulate}
 use Rattle.planner.specs.Simple.{simple, mentions}
-use Rattle.run.specs.declared.RunAnswer.{RunAnswer}
-use Rattle.run.specs.declared.RunAnswer.the-variants.{Match, NoMatch, TableRefused, RootOutside, ListTooShort, PatternNotSimple, NotAValue, NameWithoutValue, PlanTooLarge}
 use Rattle.value.specs.Value.{Value, isValue, valueOf, valueAt, nodeᵛ}
 use Rattle.matching.specs.Matching.{Env, Outcome, matched, missed, fault, outcome}
+use Rattle.run.specs.declared.RunAnswer.{RunAnswer}
+use Rattle.run.specs.declared.RunAnswer.the-variants.{Match, NoMatch, TableRefused, RootOutside, ListTooShort, PatternNotSimple, NotAValue, NameWithoutValue, PlanTooLarge}
 
 -- The list has at place x - 1 the node of name x's value, or 0.
 abbrev pub listedNode : List ℕ → ℕ → ℕ

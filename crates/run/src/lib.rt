@@ -1,4 +1,4 @@
-// Carrying a pattern's plan out on a value, and the report of a pattern's names.
+// Run: a pattern's plan, carried out on a value.
 ghost use Rattle.scope.specs.Scope.{isUnbound};
 ghost use Rattle.table.specs.Tables.{tables};
 ghost use Rattle.table.specs.Decode.{expr};
@@ -24,7 +24,6 @@ use table::reading::is_node;
 
 mod checks;
 mod names;
-pub mod report;
 
 pub enum RunAnswer {
     Match,
@@ -36,13 +35,6 @@ pub enum RunAnswer {
     NotAValue,
     NameWithoutValue,
     PlanTooLarge { needed: usize },
-}
-
-pub enum ReportAnswer {
-    Reported,
-    TableRefused(TableAnswer),
-    RootOutside,
-    ListTooShort,
 }
 
 // The plan in the scratch, carried out from the values in the list; a match sets the names with a binder.

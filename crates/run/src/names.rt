@@ -7,10 +7,10 @@ ghost use lib.ListN.{length};
 ghost use Rattle.scope.specs.Scope.{isUnbound};
 ghost use Rattle.table.specs.Tables.{tables};
 ghost use Rattle.table.specs.Decode.{expr};
-ghost use Rattle.planner.specs.Post.{NameNumber, GoodRoot};
+ghost use Rattle.planner.specs.Post.{NameNumber};
 ghost use Rattle.run.specs.Operations.{knownListed};
-ghost use Rattle.run.specs.NamesPost.{ListAsks, StartOf, NamesSet, MetBy, hasValue, allHaveValues, KnownAsks};
-use planner::destructuring::plan_pattern;
+ghost use Rattle.run.specs.NamesPost.{ListAsks, StartOf, NamesSet, hasValue, allHaveValues, KnownAsks};
+use report::names_met;
 use scope::Binding;
 use scope::Scope;
 use scope::ScopingMode;
@@ -78,38 +78,6 @@ pub(crate) fn set_names(names: &[u32], binders: &[u32; 128], list: &[u32; 128], 
         values[i] = new_value(binders[i], old, list[i]);
         i += 1;
     }
-}
-
-// The names that a pattern meets are those that it would plan if none were known.
-pub(crate) fn names_met(
-    nodes: &[u32],
-    children: &[u32],
-    numbers: &[u64],
-    names: &[u32],
-    strings: &[u8],
-    text: &[u8],
-    pattern: u32,
-) -> [u32; 128]
-    requires { ⌜ GoodRoot (tables (now nodes) (now children) (now numbers) (now names) (now strings) (now text)) pattern ⌝ }
-    ensures { λ r. ⌜ MetBy (expr (tables (now (nodes .entry)) (now (children .entry)) (now (numbers .entry)) (now (names .entry)) (now (strings .entry)) (now (text .entry))) pattern) r ⌝ }
-{
-    let mut met = [0u32; 128];
-    let mut scratch = [0u32; 2048];
-    let none_known = Scope::new(0, false);
-    plan_pattern(
-        nodes,
-        children,
-        numbers,
-        names,
-        strings,
-        text,
-        none_known,
-        ScopingMode::AllowShadowing,
-        pattern,
-        &mut met,
-        &mut scratch,
-    );
-    met
 }
 
 // A name that is met has a value unless it is unbound.

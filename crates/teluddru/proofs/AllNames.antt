@@ -15,12 +15,12 @@ use Rattle.planner.specs.declared.PlanAnswer.{PlanAnswer}
 use Rattle.planner.specs.declared.PlanAnswer.the-variants as PlanAnswers
 use Rattle.planner.specs.Operations as Plan
 use Rattle.planner.specs.Operations.{Outcome, Answered}
+use Rattle.report.specs.declared.ReportAnswer.{ReportAnswer}
+use Rattle.report.specs.declared.ReportAnswer.the-variants as ReportAnswers
+use Rattle.report.specs.Report.{reportAnswer, reportList, ReportedBy}
 use Rattle.run.specs.declared.RunAnswer.{RunAnswer}
 use Rattle.run.specs.declared.RunAnswer.the-variants as RunAnswers
-use Rattle.run.specs.declared.ReportAnswer.{ReportAnswer}
-use Rattle.run.specs.declared.ReportAnswer.the-variants as ReportAnswers
 use Rattle.run.specs.Operations.{RunOutcome, refused, runOutcome, plannedName, Ran, valuesAfter}
-use Rattle.run.specs.Report.{reportAnswer, reportList, ReportedBy}
 use Rattle.teluddru.specs.declared.Name.{Name}
 use Rattle.teluddru.specs.declared.Operation.{Operation}
 use Rattle.teluddru.specs.declared.Operation.the-variants.{Pattern, ColonEquals, Equals, SomeIn, Index, Parameter}

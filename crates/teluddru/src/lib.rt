@@ -9,7 +9,7 @@ use crate::records::copy_names;
 use crate::reports::report_words;
 use crate::runs::run_words;
 use planner::PlanAnswer;
-use run::ReportAnswer;
+use report::ReportAnswer;
 use run::RunAnswer;
 use scope::Scope;
 use scope::ScopingMode;
@@ -17,8 +17,8 @@ ghost use Rattle.scope.specs.Scope.{isUnbound};
 ghost use Rattle.table.specs.Tables.{tables};
 ghost use Rattle.table.specs.Decode.{expr};
 ghost use Rattle.planner.specs.Operations.{Answered};
+ghost use Rattle.report.specs.Report.{ReportedBy};
 ghost use Rattle.run.specs.Operations.{runOutcome, plannedName, Ran};
-ghost use Rattle.run.specs.Report.{ReportedBy};
 ghost use Rattle.teluddru.specs.Records.{nameWords};
 ghost use Rattle.teluddru.specs.Outcome.{operationOutcome};
 

@@ -1,12 +1,12 @@
 // A names report over names in pairs of words.
 use crate::records::NameWords;
-use run::ReportAnswer;
-use run::report::names_report;
+use report::ReportAnswer;
+use report::names_report;
 use scope::Scope;
 use scope::ScopingMode;
 ghost use Prim.Native.Nat.{_≤_};
 ghost use Rattle.table.specs.Tables.{tables};
-ghost use Rattle.run.specs.Report.{ReportedBy};
+ghost use Rattle.report.specs.Report.{ReportedBy};
 ghost use Rattle.teluddru.specs.Records.{held};
 
 pub(crate) fn report_words(

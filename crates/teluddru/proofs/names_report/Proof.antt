@@ -36,10 +36,10 @@ use Rattle.scope.specs.declared.ScopingMode.{ScopingMode}
 use Rattle.scope.proofs.ScopingMode as Mode
 use Rattle.scope.proofs.ScopingMode.Laws as Mode′
 use Rattle.table.specs.Tables.{Tables}
-use Rattle.run.specs.declared.ReportAnswer.{ReportAnswer}
-use Rattle.run.specs.Report.{ReportedBy}
-use Rattle.run.proofs.ReportAnswer as P
-use Rattle.run.proofs.ReportAnswer.Laws as P′
+use Rattle.report.specs.declared.ReportAnswer.{ReportAnswer}
+use Rattle.report.specs.Report.{ReportedBy}
+use Rattle.report.proofs.ReportAnswer as P
+use Rattle.report.proofs.ReportAnswer.Laws as P′
 use Rattle.teluddru.specs.declared.Name.{Name}
 use Rattle.teluddru.specs.declared.records.NameWords.{NameWords}
 use Rattle.teluddru.specs.Records.{nameWords, held, Copied}

@@ -5,7 +5,7 @@ use Rattle.teluddru.proofs.reports.report_words.Statement.{statement}
 use Rattle.teluddru.proofs.reports.report_words.Tie as tie
 use Rattle.teluddru.proofs.reports.report_words.Reads as reads
 use Rattle.teluddru.proofs.reports.report_words.Lts as lts
-use Rattle.run.proofs.report.names_report.Reads as names-report-reads
+use Rattle.report.proofs.names_report.Reads as names-report-reads
 
 mul-end : tie.Need-mul-end
 mul-end c = search needs

@@ -18,8 +18,8 @@ use Rattle.table.specs.Check.{checked}
 use Rattle.planner.specs.Layout.{Entry, entries}
 use Rattle.planner.specs.Operations.{planOf}
 use Rattle.planner.specs.Post.{tabulate}
-use Rattle.run.specs.declared.ReportAnswer.{ReportAnswer}
-use Rattle.run.specs.declared.ReportAnswer.the-variants.{Reported, TableRefused, RootOutside, ListTooShort}
+use Rattle.report.specs.declared.ReportAnswer.{ReportAnswer}
+use Rattle.report.specs.declared.ReportAnswer.the-variants.{Reported, TableRefused, RootOutside, ListTooShort}
 
 -- the names of the bind entries
 unfoldable pub boundIn : List ℕ → List Entry → List ℕ

@@ -1,21 +1,60 @@
-// The names report of a pattern.
+// The names that a pattern meets, and the report of a pattern's names.
 ghost use Prim.Native.Nat.{_+_, _-_, _<_};
 ghost use mathlib.Core.Path.{_≡_};
 ghost use lib.ListN.{length};
 ghost use Rattle.table.specs.Tables.{tables};
-ghost use Rattle.planner.specs.Post.{tabulate};
-ghost use Rattle.run.specs.Report.{ReportedBy};
-ghost use Rattle.run.specs.ReportPost.{metMark, EntryBound, markedBy, BoundAsks, BoundMarked, ReportAsks, PlannedMarked, ReportMarked};
-use crate::ReportAnswer;
-use crate::names::names_met;
+ghost use Rattle.table.specs.Decode.{expr};
+ghost use Rattle.planner.specs.Post.{tabulate, GoodRoot};
+ghost use Rattle.report.specs.Report.{ReportedBy};
+ghost use Rattle.report.specs.Post.{MetBy, metMark, EntryBound, markedBy, BoundAsks, BoundMarked, ReportAsks, PlannedMarked, ReportMarked};
 use planner::buffer::clear;
 use planner::context::is_sound;
 use planner::destructuring::plan_pattern;
 use scope::Scope;
 use scope::ScopingMode;
+use table::TableAnswer;
 use table::check;
 use table::reading::first_of;
 use table::reading::is_node;
+
+pub enum ReportAnswer {
+    Reported,
+    TableRefused(TableAnswer),
+    RootOutside,
+    ListTooShort,
+}
+
+// The names that a pattern meets are those that it would plan if none were known.
+pub fn names_met(
+    nodes: &[u32],
+    children: &[u32],
+    numbers: &[u64],
+    names: &[u32],
+    strings: &[u8],
+    text: &[u8],
+    pattern: u32,
+) -> [u32; 128]
+    requires { ⌜ GoodRoot (tables (now nodes) (now children) (now numbers) (now names) (now strings) (now text)) pattern ⌝ }
+    ensures { λ r. ⌜ MetBy (expr (tables (now (nodes .entry)) (now (children .entry)) (now (numbers .entry)) (now (names .entry)) (now (strings .entry)) (now (text .entry))) pattern) r ⌝ }
+{
+    let mut met = [0u32; 128];
+    let mut scratch = [0u32; 2048];
+    let none_known = Scope::new(0, false);
+    plan_pattern(
+        nodes,
+        children,
+        numbers,
+        names,
+        strings,
+        text,
+        none_known,
+        ScopingMode::AllowShadowing,
+        pattern,
+        &mut met,
+        &mut scratch,
+    );
+    met
+}
 
 // 2 for a name that is met.
 fn met_mark(met: &[u32; 128], i: usize) -> u32

@@ -1,13 +1,13 @@
 use Prim.Native.Nat.{_-_}
 use lib.ListN.{length}
 use Rattle.planner.proofs.Filling.{Filling, filling-begin, filling-next, filling-ends}
-use Rattle.run.specs.ReportPost.{metMark}
+use Rattle.report.specs.Post.{metMark}
 use borrow.Author.Needs.{needs}
-use Rattle.run.proofs.report.mark_met.Statement.{statement}
-use Rattle.run.proofs.report.mark_met.Tie as tie
-use Rattle.run.proofs.report.mark_met.Reads as reads
-use Rattle.run.proofs.report.mark_met.Lts as lts
-use Rattle.run.proofs.report.met_mark.Reads as met-mark-reads
+use Rattle.report.proofs.mark_met.Statement.{statement}
+use Rattle.report.proofs.mark_met.Tie as tie
+use Rattle.report.proofs.mark_met.Reads as reads
+use Rattle.report.proofs.mark_met.Lts as lts
+use Rattle.report.proofs.met_mark.Reads as met-mark-reads
 
 abbrev Inv-loop : tie.InvT-loop
 Inv-loop met list₀ i₀ list i = Filling (metMark met) (length list₀) i list
@@ -15,39 +15,39 @@ Inv-loop met list₀ i₀ list i = Filling (metMark met) (length list₀) i list
 abbrev μ-loop : tie.MeasureT-loop
 μ-loop met list₀ i₀ list i = length list₀ - i
 
--- src/report.rt:37:5
+-- src/lib.rt:76:5
 loop-holds : tie.Need-loop-holds Inv-loop μ-loop
 loop-holds c = search (filling-begin, needs)
 
--- src/report.rt:38:19
+-- src/lib.rt:77:19
 met-mark-requires : tie.Need-met-mark-requires Inv-loop μ-loop
 met-mark-requires c κs = search needs
 
--- src/report.rt:38:9
+-- src/lib.rt:77:9
 mul-list : tie.Need-mul-list Inv-loop μ-loop
 mul-list c = search needs
 
--- src/report.rt:38:9
+-- src/lib.rt:77:9
 slice-write-list : tie.Need-slice-write-list Inv-loop μ-loop
 slice-write-list c = search needs
 
--- src/report.rt:39:9
+-- src/lib.rt:78:9
 add-i : tie.Need-add-i Inv-loop μ-loop
 add-i c = search needs
 
--- src/report.rt:37:5
+-- src/lib.rt:76:5
 loop-less : tie.Need-loop-less Inv-loop μ-loop
 loop-less c = search needs
 
--- src/report.rt:37:5
+-- src/lib.rt:76:5
 loop-again : tie.Need-loop-again Inv-loop μ-loop
 loop-again c = search (filling-next, needs)
 
--- src/report.rt:33:1
+-- src/lib.rt:72:1
 same-length : tie.Need-same-length Inv-loop μ-loop
 same-length c = search needs
 
--- src/report.rt:33:1
+-- src/lib.rt:72:1
 returns : tie.Need-returns Inv-loop μ-loop
 returns c = search (filling-ends, needs)
 

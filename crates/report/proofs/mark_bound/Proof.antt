@@ -1,11 +1,11 @@
 use Prim.Native.Nat.{_-_}
-use Rattle.run.proofs.Reporting.{MarkingBound, bound-start, bound-kind, bound-node, bound-entry, bound-on, bound-long, bound-ends}
+use Rattle.report.proofs.Reporting.{MarkingBound, bound-start, bound-kind, bound-node, bound-entry, bound-on, bound-long, bound-ends}
 use borrow.Author.Needs.{needs}
-use Rattle.run.proofs.report.mark_bound.Statement.{statement}
-use Rattle.run.proofs.report.mark_bound.Tie as tie
-use Rattle.run.proofs.report.mark_bound.Reads as reads
-use Rattle.run.proofs.report.mark_bound.Lts as lts
-use Rattle.run.proofs.report.mark_entry.Reads as mark-entry-reads
+use Rattle.report.proofs.mark_bound.Statement.{statement}
+use Rattle.report.proofs.mark_bound.Tie as tie
+use Rattle.report.proofs.mark_bound.Reads as reads
+use Rattle.report.proofs.mark_bound.Lts as lts
+use Rattle.report.proofs.mark_entry.Reads as mark-entry-reads
 
 abbrev Inv-loop : tie.InvT-loop
 Inv-loop nodes scratch count list₀ i₀ list i = MarkingBound nodes scratch count list₀ i list
@@ -13,59 +13,59 @@ Inv-loop nodes scratch count list₀ i₀ list i = MarkingBound nodes scratch co
 abbrev μ-loop : tie.MeasureT-loop
 μ-loop nodes scratch count list₀ i₀ list i = count - i
 
--- src/report.rt:60:5
+-- src/lib.rt:99:5
 loop-holds : tie.Need-loop-holds Inv-loop μ-loop
 loop-holds c = search (bound-start, needs)
 
--- src/report.rt:61:28
+-- src/lib.rt:100:28
 mul-kind : tie.Need-mul-kind Inv-loop μ-loop
 mul-kind c = search needs
 
--- src/report.rt:61:20
+-- src/lib.rt:100:20
 mul-kind-2 : tie.Need-mul-kind-2 Inv-loop μ-loop
 mul-kind-2 c = search needs
 
--- src/report.rt:61:20
+-- src/lib.rt:100:20
 element-copy-out-kind : tie.Need-element-copy-out-kind Inv-loop μ-loop
 element-copy-out-kind c = search (bound-kind, needs)
 
--- src/report.rt:62:28
+-- src/lib.rt:101:28
 mul-node : tie.Need-mul-node Inv-loop μ-loop
 mul-node c = search needs
 
--- src/report.rt:62:28
+-- src/lib.rt:101:28
 add-node : tie.Need-add-node Inv-loop μ-loop
 add-node c = search needs
 
--- src/report.rt:62:20
+-- src/lib.rt:101:20
 mul-node-2 : tie.Need-mul-node-2 Inv-loop μ-loop
 mul-node-2 c = search needs
 
--- src/report.rt:62:20
+-- src/lib.rt:101:20
 element-copy-out-node : tie.Need-element-copy-out-node Inv-loop μ-loop
 element-copy-out-node c = search (bound-node, needs)
 
--- src/report.rt:63:9
+-- src/lib.rt:102:9
 mark-entry-requires : tie.Need-mark-entry-requires Inv-loop μ-loop
 mark-entry-requires c κs = search (bound-entry, needs)
 
--- src/report.rt:64:9
+-- src/lib.rt:103:9
 add-i : tie.Need-add-i Inv-loop μ-loop
 add-i c = search needs
 
--- src/report.rt:60:5
+-- src/lib.rt:99:5
 loop-less : tie.Need-loop-less Inv-loop μ-loop
 loop-less c = search needs
 
--- src/report.rt:60:5
+-- src/lib.rt:99:5
 loop-again : tie.Need-loop-again Inv-loop μ-loop
 loop-again c = search (bound-on, needs)
 
--- src/report.rt:55:1
+-- src/lib.rt:94:1
 same-length : tie.Need-same-length Inv-loop μ-loop
 same-length c = search (bound-long, needs)
 
--- src/report.rt:55:1
+-- src/lib.rt:94:1
 returns : tie.Need-returns Inv-loop μ-loop
 returns c = search (bound-ends, needs)
 

@@ -1,18 +1,23 @@
 -- What the functions of the names report ask of their caller and say.
 use Prim.Native.Nat.{ℕ, zero, suc, _+_, _-_, _*_, _≤_, _<_}
 use mathlib.Core.Path.{_≡_}
-use mathlib.Core.Bool.{cond}
+use mathlib.Core.Bool.{cond, not}
 use mathlib.Core.List.{List, [], _∷_}
 use lib.Dec.{eqb, ltb}
 use lib.ListN.{length, getD, set}
 use Rattle.scope.specs.declared.Scope.{Scope}
 use Rattle.scope.specs.declared.ScopingMode.{ScopingMode}
 use Rattle.table.specs.Tables.{Tables, firstOf, nameCount}
+use Rattle.table.specs.Expr.{Expr}
 use Rattle.table.specs.Rules.{elem}
 use Rattle.planner.specs.Layout.{entries}
 use Rattle.planner.specs.Operations.{planOf}
-use Rattle.planner.specs.Post.{tabulate, GoodRoot}
-use Rattle.run.specs.Report.{boundIn, reported}
+use Rattle.planner.specs.Post.{tabulate, NameNumber, GoodRoot}
+use Rattle.report.specs.Report.{boundIn, namesMet, reported}
+
+-- a name is met where its word is not 0
+pub record MetBy (e : Expr) (met : List ℕ) : Type 0 where
+  pub each : (x : ℕ) → NameNumber x → elem x (namesMet e) ≡ not (eqb (getD met (x - 1) 0) 0)
 
 abbrev pub metMark : List ℕ → ℕ → ℕ
 metMark met i = cond (ltb i 128) (cond (eqb (getD met i 0) 0) 0 2) 0

@@ -1,12 +1,11 @@
 -- The names report, from its marks to the list at the end.
 use Prim.Native.Nat.{ℕ, suc, _+_, _-_, _*_, _/_, _≤_, _<_}
 use mathlib.Core.Path.{_≡_, refl, sym, ap, ap₂, _∙_}
-use mathlib.Core.Logic.{_⊎_, ⊎-elim}
 use mathlib.Core.List.{List, [], _∷_}
 use mathlib.Core.Bool.{Bool, true, false, cond, _||_, not, false≢true}
 use native.Mathlib.Omega.{arith}
 use borrow.Author.Tests.{eqb-true, eqb-false, eq-eqb, ne-eqb, le-leb, lt-leb, lt-ltb, le-ltb, ltb-true, ltb-false, not-true}
-use lib.Dec.{T as True, eqb, leb, ltb}
+use lib.Dec.{eqb, leb, ltb}
 use lib.ListN.{length, getD, set, replicate, length-set}
 use lib.Seq.{getD-set-same, getD-set-other, ext-getD}
 use Rattle.scope.specs.declared.Scope.{Scope}
@@ -22,23 +21,19 @@ use Rattle.table.specs.Rules.{elem}
 use Rattle.table.specs.Check.{checked}
 use Rattle.table.specs.Sound.{Named}
 use Rattle.table.proofs.Bools.{told-no, told-yes}
-use Rattle.table.proofs.Lists.{elem-nil, elem-cons, elem-append}
 use Rattle.planner.specs.Plan.{var, equalityExpr, fresh, plan, plans, fieldPlans, after}
 use Rattle.planner.specs.Layout.{Entry, literalKey, FieldOrder, noFields, addField, concat, entries, entriesAll, fieldOrder}
 use Rattle.planner.specs.Operations.{isSound, planOf}
 use Rattle.planner.specs.Post.{PatternPlanned, tabulate}
-use Rattle.planner.specs.Simple.{mentions, mentionsAny, mentionsFields}
 use Rattle.planner.proofs.Binders.{AllNames, AllNamesAll, AllNamesFields, names-all}
 use Rattle.planner.proofs.Filling.{length-tabulate, getD-tabulate}
 use Rattle.planner.proofs.Operations.{table-passes, sound-well, root-node}
-use Rattle.value.proofs.Keys.{or-left, or-right, true-is}
-use Rattle.run.specs.declared.ReportAnswer.{ReportAnswer}
-use Rattle.run.specs.declared.ReportAnswer.the-variants.{Reported, TableRefused, RootOutside, ListTooShort}
-use Rattle.run.specs.Report.{boundIn, namesMet, namesMetAll, namesMetFields, reported, answerAfter, reportAnswer, reportList, ReportedBy}
-use Rattle.run.specs.NamesPost.{MetBy}
-use Rattle.run.specs.ReportPost.{metMark, EntryBound, markedBy, boundFrom, BoundAsks, BoundMarked, ReportAsks, PlannedMarked, ReportMarked}
 use Rattle.matching.proofs.EntryLists.{AllE, all-append, all-at, AllOrder, all-none, all-add, all-order, blank, scratch-kind, scratch-node}
-use Rattle.run.proofs.Running.{mentioned-named}
+use Rattle.report.specs.declared.ReportAnswer.{ReportAnswer}
+use Rattle.report.specs.declared.ReportAnswer.the-variants.{Reported, TableRefused, RootOutside, ListTooShort}
+use Rattle.report.specs.Report.{boundIn, namesMet, reported, answerAfter, reportAnswer, reportList, ReportedBy}
+use Rattle.report.specs.Post.{MetBy, metMark, EntryBound, markedBy, boundFrom, BoundAsks, BoundMarked, ReportAsks, PlannedMarked, ReportMarked}
+use Rattle.report.proofs.Meeting.{met-mentioned, mentioned-named}
 
 -- the mark of a name that is met
 module _ (met : List ℕ) (i : ℕ) where
@@ -225,31 +220,6 @@ module _ (T : Tables) (s : Scope) (mode : ScopingMode) (pattern : ℕ) {list : L
         let e = bound-entries (T .nodes) scratch 0 es (λ j lt. let y : 0 + j ≡ j = omega arith in rw y (scratch-kind es few (p .laid .stored) j lt, scratch-node es few (p .laid .stored) j lt)) in
         let q : boundFrom (T .nodes) scratch 0 count ≡ boundIn (T .nodes) es = ap (boundFrom (T .nodes) scratch 0) z ∙ e in
         record { long = m .long; each = λ k. m .each k ∙ ap (λ (l : List ℕ). cond (elem (k + 1) l) 1 (getD list k 0)) q }
-
--- a name that is met stands in the pattern
-module _ (x : ℕ) where
-  mutual
-    unfolding namesMet mentions elem
-
-    met-mentioned : (e : Expr) → elem x (namesMet e) ≡ true → True (mentions x e)
-    met-mentioned (literal n l) h = absurd (elem-nil x h)
-    met-mentioned (name n y) h = ⊎-elim (λ q. true-is (eq-eqb x y q)) (λ q. absurd (elem-nil x q)) (elem-cons x y [] h)
-    met-mentioned (wildcard n) h = absurd (elem-nil x h)
-    met-mentioned (array n es) h = met-mentioned-all es h
-    met-mentioned (Expr.set n es) h = absurd (elem-nil x h)
-    met-mentioned (object n fs) h = met-mentioned-fields fs h
-    met-mentioned (other n) h = absurd (elem-nil x h)
-
-    met-mentioned-all : (es : Exprs) → elem x (namesMetAll es) ≡ true → True (mentionsAny x es)
-    met-mentioned-all Expr.none h = absurd (elem-nil x h)
-    met-mentioned-all (item e es) h =
-        ⊎-elim (λ q. or-left (mentions x e) (mentionsAny x es) (met-mentioned e q)) (λ q. or-right (mentions x e) (mentionsAny x es) (met-mentioned-all es q)) (elem-append x (namesMet e) (namesMetAll es) h)
-
-    met-mentioned-fields : (fs : Fields) → elem x (namesMetFields fs) ≡ true → True (mentionsFields x fs)
-    met-mentioned-fields done h = absurd (elem-nil x h)
-    met-mentioned-fields (field k v fs) h =
-        or-right (mentions x k) (mentions x v || mentionsFields x fs)
-        (⊎-elim (λ q. or-left (mentions x v) (mentionsFields x fs) (met-mentioned v q)) (λ q. or-right (mentions x v) (mentionsFields x fs) (met-mentioned-fields fs q)) (elem-append x (namesMet v) (namesMetFields fs) h))
 
 -- met, then bound
 module _ (T : Tables) (s : Scope) (mode : ScopingMode) (pattern : ℕ) {before : List ℕ} (a : ReportAsks T pattern before) {met : List ℕ} (by : MetBy (expr T pattern) met) where

@@ -1,25 +1,25 @@
-use Rattle.run.proofs.Reporting.{ask-bound, planned-marked}
+use Rattle.report.proofs.Reporting.{ask-bound, planned-marked}
 use borrow.Author.Needs.{needs}
-use Rattle.run.proofs.report.mark_planned.Statement.{statement}
-use Rattle.run.proofs.report.mark_planned.Tie as tie
-use Rattle.run.proofs.report.mark_planned.Reads as reads
-use Rattle.run.proofs.report.mark_planned.Lts as lts
+use Rattle.report.proofs.mark_planned.Statement.{statement}
+use Rattle.report.proofs.mark_planned.Tie as tie
+use Rattle.report.proofs.mark_planned.Reads as reads
+use Rattle.report.proofs.mark_planned.Lts as lts
 use Rattle.planner.proofs.destructuring.plan_pattern.Reads as plan-pattern-reads
-use Rattle.run.proofs.report.mark_bound.Reads as mark-bound-reads
+use Rattle.report.proofs.mark_bound.Reads as mark-bound-reads
 
--- src/report.rt:86:9
+-- src/lib.rt:125:9
 plan-pattern-requires : tie.Need-plan-pattern-requires
 plan-pattern-requires c κs = search needs
 
--- src/report.rt:99:5
+-- src/lib.rt:138:5
 mark-bound-requires : tie.Need-mark-bound-requires
 mark-bound-requires c κs = ask-bound _ (c .before .before .before .before .before .before .before .before .before .before .before .before .args .scope) (c .before .before .before .before .before .before .before .before .before .before .before .before .args .scoping) (c .before .before .before .before .before .before .before .before .before .before .before .before .args .pattern) (c .before .before .before .before .before .before .before .before .before .before .before .before .pre) (c .before .before .plan-pattern .ensures)
 
--- src/report.rt:69:1
+-- src/lib.rt:108:1
 same-length : tie.Need-same-length
 same-length c = search needs
 
--- src/report.rt:69:1
+-- src/lib.rt:108:1
 returns : tie.Need-returns
 returns c = search (planned-marked, needs)
 
