@@ -15,7 +15,7 @@ use Rattle.checks.specs.declared.LiteralStructureCheck.{LiteralStructureCheck}
 use Rattle.checks.specs.declared.LiteralStructureCheck.the-variants.{Match, Unknown, ArrayMismatch, ObjectMismatch}
 use Rattle.checks.specs.Refusals.{unlessMismatch}
 use Rattle.checks.proofs.Refused.{passes-match, passes-unknown, refuses-array, refuses-object}
-use Rattle.assignment.specs.Pairs.{shapeOf}
+use Rattle.pairs.specs.Pairs.{shapeOf}
 use Rattle.assignment.specs.Assignment.{opposed, bindSide}
 
 -- the binding side, way by way

@@ -2,16 +2,4 @@ pub mod Reading
 pub mod Shapes
 pub mod Binding
 pub mod Sides
-pub mod Either
-pub mod Seen
-pub mod Partners
-pub mod KeySearch
-pub mod Leaves
-pub mod PairShapes
-pub mod PairSides
-pub mod FlatTrees
-pub mod FlatNodes
-pub mod FlatLoops
-pub mod PairsSimple
-pub mod PairsInOrder
-pub mod PairsPlanned
+pub mod PairsAnswered

@@ -1,7 +1,7 @@
--- Entries read back from a scratch.
-use Prim.Native.Nat.{ℕ, suc, _+_, _-_, _*_, _≤_, _<_}
+-- Names that this very scope has bound, found among the entries of a scratch.
+use Prim.Native.Nat.{ℕ, _+_, _-_, _*_, _≤_, _<_}
 use mathlib.Core.Path.{_≡_, refl, sym, ap, _∙_}
-use mathlib.Core.List.{List, [], _∷_}
+use mathlib.Core.List.{List, _∷_}
 use mathlib.Core.Bool.{Bool, true, false, _&&_}
 use native.Mathlib.Omega.{arith}
 use borrow.Author.Tests.{ne-eqb}
@@ -12,52 +12,11 @@ use Rattle.scope.specs.declared.Binding.{Binding}
 use Rattle.scope.specs.declared.Binding.the-variants as Binding
 use Rattle.scope.specs.Scope.{isName, bindingOf, sameScope}
 use Rattle.table.specs.Tables.{firstOf}
-use Rattle.planner.specs.Layout.{Entry, bindsAny}
 use Rattle.planner.specs.Entries.{entryAt, readEntries}
+use Rattle.pairs.proofs.Leaves.{read-step, read-end, Scanning}
 use Rattle.assignment.specs.Assignment.{boundHere, firstSameScope}
 
-read-step : (scratch : List ℕ) (i k : ℕ) → i < k → readEntries scratch i (k - i) ≡ entryAt scratch i ∷ readEntries scratch (i + 1) (k - (i + 1))
-unfolding readEntries
-read-step scratch i k lt = let a : k - i ≡ suc (k - (i + 1)) = omega arith in ap (λ (n : ℕ). readEntries scratch i n) a
-
-read-end : (scratch : List ℕ) (i k : ℕ) → k ≤ i → readEntries scratch i (k - i) ≡ []
-unfolding readEntries
-read-end scratch i k le = let a : k - i ≡ 0 = omega arith in rw a
-
--- a scan of the entries: those that are left say the same as all of them
-pub record Scanning {A : Type 0} (f : List Entry → A) (scratch : List ℕ) (k i : ℕ) : Type 0 where
-  pub inside : i ≤ k
-  pub same : f (readEntries scratch i (k - i)) ≡ f (readEntries scratch 0 k)
-
-pub scanning-start : {A : Type 0} (f : List Entry → A) (scratch : List ℕ) (k : ℕ) → Scanning f scratch k 0
-scanning-start f scratch k = let a : k - 0 ≡ k = omega arith in record { inside = omega arith; same = rw a }
-
--- does any bind?
-module _ {scratch : List ℕ} {k i : ℕ} (s : Scanning bindsAny scratch k i) where
-  module _ (lt : i < k) where
-    here : bindsAny (readEntries scratch 0 k) ≡ bindsAny (entryAt scratch i ∷ readEntries scratch (i + 1) (k - (i + 1)))
-    here = sym (s .same) ∙ ap bindsAny (read-step scratch i k lt)
-
-    pub any-binds : {kind : ℕ} → kind ≡ getD scratch (i * 4) 0 → kind ≡ 1 → true ≡ bindsAny (readEntries scratch 0 k)
-    unfolding bindsAny
-    any-binds is e = sym (here ∙ simp (sym is ∙ e))
-
-    pub any-ignores : {kind : ℕ} → kind ≡ getD scratch (i * 4) 0 → kind ≡ 2 → true ≡ bindsAny (readEntries scratch 0 k)
-    unfolding bindsAny
-    any-ignores is e = sym (here ∙ simp (sym is ∙ e))
-
-    pub any-on : (getD scratch (i * 4) 0 ≡ 1 → ⊥) → (getD scratch (i * 4) 0 ≡ 2 → ⊥) → Scanning bindsAny scratch k (i + 1)
-    unfolding bindsAny
-    any-on not-1 not-2 = record {
-      inside = omega arith;
-      same = sym (here ∙ simp (ne-eqb (getD scratch (i * 4) 0) 1 not-1, ne-eqb (getD scratch (i * 4) 0) 2 not-2));
-    }
-
-  pub any-ends : k ≤ i → false ≡ bindsAny (readEntries scratch 0 k)
-  unfolding bindsAny
-  any-ends le = sym (sym (s .same) ∙ ap bindsAny (read-end scratch i k le))
-
--- bound in this very scope
+-- one entry
 module _ (nodes : List ℕ) (s : Scope) (node : ℕ) {kind : ℕ} where
   module _ (is-bind : kind ≡ 1) {x : ℕ} (is : x ≡ firstOf nodes node) {b : Binding} (asked : b ≡ bindingOf x (sameScope s x)) where
     pub here-yes : b ≡ Binding.Yes → true ≡ boundHere nodes s kind node
@@ -90,6 +49,7 @@ module _ (nodes : List ℕ) (s : Scope) (node : ℕ) {kind : ℕ} where
   pub here-other : (kind ≡ 1 → ⊥) → false ≡ boundHere nodes s kind node
   here-other d = simp (ne-eqb kind 1 d)
 
+-- the entries in turn
 module _ (nodes : List ℕ) (s : Scope) {scratch : List ℕ} {k i : ℕ} (go : Scanning (firstSameScope nodes s) scratch k i) where
   module _ (lt : i < k) {r : Bool} (is : r ≡ boundHere nodes s (getD scratch (i * 4) 0) (getD scratch (i * 4 + 1) 0)) where
     first-here : firstSameScope nodes s (readEntries scratch 0 k) ≡ firstSameScope nodes s (entryAt scratch i ∷ readEntries scratch (i + 1) (k - (i + 1)))

@@ -18,7 +18,7 @@ use Rattle.planner.specs.Operations.{Outcome, refused, planned, tableFirst, pla
 use Rattle.checks.specs.declared.LiteralStructureCheck.{LiteralStructureCheck}
 use Rattle.checks.specs.Structure.{structure}
 use Rattle.checks.specs.Refusals.{unlessMismatch, unlessDefined}
-use Rattle.assignment.specs.Pairs.{Shape, items, fields, single, shapeOf, Flat, failed, paired, flatten, pairsEntries}
+use Rattle.pairs.specs.Pairs.{Shape, items, fields, single, shapeOf, flatten, flatOutcome}
 
 -- an array against an object
 abbrev pub opposed : Shape → Shape → Bool
@@ -73,10 +73,6 @@ wildcardSide false false = 0
 wildcardSide true false = 1
 wildcardSide false true = 2
 wildcardSide true true = 3
-
-abbrev pub flatOutcome : Flat → Outcome
-flatOutcome (failed r) = refused r
-flatOutcome (paired ps newlyBound) = planned 4 0 (pairsEntries ps)
 
 abbrev pub pairsOutcome : Tables → Scope → ℕ → ℕ → Outcome
 pairsOutcome T s left right = flatOutcome (flatten (isUnbound s RespectParent) (expr T right) (expr T left) [])

@@ -1,5 +1,3 @@
 pub mod Post
-pub mod Pairs
 pub mod Assignment
-pub mod PairsPost
-pub mod PairsPromise
+pub mod PairsDemand

@@ -1,32 +1,11 @@
-// What a plan's entries say, read back from the scratch.
+// The names of a plan's entries that this very scope has bound.
 ghost use mathlib.Core.Path.{_≡_};
 ghost use Prim.Native.Nat.{_≤_};
-ghost use Rattle.planner.specs.Layout.{bindsAny};
 ghost use Rattle.planner.specs.Entries.{readEntries};
-ghost use Rattle.assignment.specs.Post.{ReadAsks};
 ghost use Rattle.assignment.specs.Assignment.{boundHere, firstSameScope};
 use scope::Binding;
 use scope::Scope;
 use table::reading::first_of;
-
-// Does one of the first entries bind or ignore?
-pub(crate) fn introduces_binding(scratch: &[u32], count: usize) -> bool
-    requires { ⌜ ReadAsks (now scratch) count ⌝ }
-    ensures { λ r. ⌜ r ≡ bindsAny (readEntries (now (scratch .entry)) 0 count) ⌝ }
-{
-    let mut i: usize = 0;
-    while i < count {
-        let kind = scratch[i * 4];
-        if kind == 1 {
-            return true;
-        }
-        if kind == 2 {
-            return true;
-        }
-        i += 1;
-    }
-    false
-}
 
 // Does an entry bind a name that this very scope has bound?
 fn bound_here(nodes: &[u32], scope: Scope, kind: u32, node: u32) -> bool

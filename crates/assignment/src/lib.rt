@@ -1,7 +1,6 @@
 // Assignments over planned patterns (assignment.rs).
 pub mod assignment;
 mod entries;
-mod pairs;
 
 pub enum AssignOp {
     ColEq,

@@ -26,8 +26,8 @@ use Rattle.checks.specs.Structure.{structure}
 use Rattle.checks.specs.Refusals.{unlessMismatch, unlessDefined}
 use Rattle.assignment.specs.declared.AssignOp.{AssignOp}
 use Rattle.assignment.specs.declared.AssignOp.the-variants.{ColEq, Eq}
-use Rattle.assignment.specs.Pairs.{Pair, Flat, failed, paired, before, further, Shape, items, fields, single, shapeOf, lastUnder, hasPartner, checkKeys, onPartner, binds, side, whole, inParts, arrays, objects, allLiteral, distinctKeys, flatten, flattenAll, flattenFields}
-use Rattle.assignment.specs.Assignment.{opposed, bindSide, firstSameScope, bothInside, colonEqualsPlanned, sideOf, flatOutcome, bySides, equalsSides, equalsPlanned, byOperator, assignmentOutcome}
+use Rattle.pairs.specs.Pairs.{Pair, Flat, failed, paired, flatOutcome, before, further, Shape, items, fields, single, shapeOf, lastUnder, hasPartner, checkKeys, onPartner, binds, side, whole, inParts, arrays, objects, allLiteral, distinctKeys, flatten, flattenAll, flattenFields}
+use Rattle.assignment.specs.Assignment.{opposed, bindSide, firstSameScope, bothInside, colonEqualsPlanned, sideOf, bySides, equalsSides, equalsPlanned, byOperator, assignmentOutcome}
 use Rattle.some_in.specs.SomeIn.{someInOutcome, someInPlanned, rootsInside, keyCheck, keyEntries, keyForm, collectionStructure}
 use Rattle.sheet.specs.declared.operation.Operation.{Operation}
 use Rattle.sheet.specs.Sheet.{scopingOf}

@@ -16,7 +16,7 @@ use Rattle.planner.specs.Plan.{plan}
 use Rattle.planner.specs.Layout.{insert, concat, entries, words, bindsAny}
 use Rattle.planner.specs.Operations.{answered, written}
 use Rattle.checks.specs.Structure.{planOrder, keyTexts, insertText, sortTexts, sameTexts, heldUnder, structure}
-use Rattle.assignment.specs.Pairs.{pairsEntries, flatten}
+use Rattle.pairs.specs.Pairs.{pairsEntries, flatten}
 use Rattle.assignment.specs.Assignment.{firstSameScope}
 use Rattle.planner.specs.Post.{tabulate}
 use Rattle.planner.specs.Simple.{simple, hasKey, differing, keysOf, mentions}

@@ -6,7 +6,7 @@ use Rattle.assignment.proofs.assignment.colon_equals_from.Reads as read
 use Rattle.assignment.proofs.assignment.colon_equals_from.Lts as lts
 use Rattle.assignment.proofs.assignment.bind_side.Reads as bind-side-reads
 use Rattle.assignment.proofs.entries.first_same_scope.Reads as first-same-scope-reads
-use Rattle.assignment.proofs.entries.introduces_binding.Reads as introduces-binding-reads
+use Rattle.pairs.proofs.preview.introduces_binding.Reads as introduces-binding-reads
 use Rattle.planner.proofs.buffer.clear.Reads as clear-reads
 
 -- src/assignment.rt:127:9

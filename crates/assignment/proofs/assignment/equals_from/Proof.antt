@@ -6,8 +6,8 @@ use Rattle.assignment.proofs.assignment.equals_from.Reads as reads
 use Rattle.assignment.proofs.assignment.equals_from.Lts as lts
 use Rattle.assignment.proofs.assignment.bind_side.Reads as bind-side-reads
 use Rattle.assignment.proofs.assignment.deliver_none.Reads as deliver-none-reads
-use Rattle.assignment.proofs.entries.introduces_binding.Reads as introduces-binding-reads
-use Rattle.assignment.proofs.pairs.flatten_assignment_pairs.Reads as flatten-assignment-pairs-reads
+use Rattle.pairs.proofs.preview.introduces_binding.Reads as introduces-binding-reads
+use Rattle.pairs.proofs.flatten.flatten_assignment_pairs.Reads as flatten-assignment-pairs-reads
 
 -- src/assignment.rt:232:9
 introduces-binding-requires : tie.Need-introduces-binding-requires

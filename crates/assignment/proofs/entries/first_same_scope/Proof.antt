@@ -1,6 +1,7 @@
 use Prim.Native.Nat.{_-_, _≤_}
 use Rattle.assignment.specs.Assignment.{firstSameScope}
-use Rattle.assignment.proofs.Reading.{Scanning, scanning-start, first-found, first-on, first-ends}
+use Rattle.pairs.proofs.Leaves.{Scanning, scanning-start}
+use Rattle.assignment.proofs.Reading.{first-found, first-on, first-ends}
 use borrow.Author.Needs.{needs}
 use Rattle.assignment.proofs.entries.first_same_scope.Statement.{statement}
 use Rattle.assignment.proofs.entries.first_same_scope.Tie as tie

@@ -1,0 +1,380 @@
+-- Two nodes of a table in pairs, answer by answer.
+use Prim.Native.Nat.{ℕ, zero, suc, _+_, _*_, _^_, _≤_, _<_}
+use mathlib.Core.Path.{_≡_, refl, sym, ap, subst, _∙_}
+use mathlib.Core.Bool.{Bool, true, false, cond, _&&_, _||_}
+use mathlib.Core.List.{List, [], _∷_}
+use mathlib.Core.Logic.{_⊎_, inl, inr}
+use native.Mathlib.Omega.{arith}
+use borrow.Author.Tests.{eq-eqb, ne-eqb, eqb-true, eqb-false}
+use lib.Dec.{eqb}
+use lib.ListN.{length, replicate}
+use Rattle.scope.specs.declared.Scope.{Scope}
+use Rattle.scope.specs.declared.ScopingMode.the-variants.{RespectParent}
+use Rattle.scope.specs.Scope.{isUnbound}
+use Rattle.table.specs.Tables.{Tables, kindOf, firstOf, countOf, width, childAt}
+use Rattle.table.specs.Expr.{Expr, count, countFields, parts}
+use Rattle.table.specs.Expr as Expr
+use Rattle.table.specs.Decode.{expr, items, fields}
+use Rattle.table.specs.Sound.{Node, WellFormed}
+use Rattle.table.proofs.Trees.{expr-array, expr-object, width-array, child-node}
+use Rattle.table.proofs.Forest.{tree-few}
+use Rattle.planner.specs.declared.PlanAnswer.{PlanAnswer}
+use Rattle.planner.specs.declared.PlanAnswer.the-variants.{ArraySizeMismatch, ObjectFieldCountMismatch, ObjectKeyNotFound, IncompatibleDestructuringPatterns}
+use Rattle.planner.specs.Plan.{equalityExpr}
+use Rattle.planner.specs.Layout.{Entry, entry, entries}
+use Rattle.planner.specs.Operations.{answered, written, Answered}
+use Rattle.planner.specs.Entries.{Wrote}
+use Rattle.planner.specs.Post.{OrderAsks, OrderedBy, StatesOf, Delivered}
+use Rattle.planner.proofs.Objects.{node-of}
+use Rattle.pairs.specs.declared.flatten.Flattened.{Flattened}
+use Rattle.pairs.specs.declared.flatten.Flattened.the-variants.{Next, Refused}
+use Rattle.pairs.specs.declared.judge.Pairing.{Pairing}
+use Rattle.pairs.specs.declared.judge.Pairing.the-variants.{Whole, Items, ByKey, Opposed}
+use Rattle.pairs.specs.declared.keys.Keys.{Keys}
+use Rattle.pairs.specs.declared.keys.Keys.the-variants as Keys
+use Rattle.pairs.specs.declared.keys.Keys.the-variants.{Matched}
+use Rattle.pairs.specs.declared.judge.Judgement.{Judgement}
+use Rattle.pairs.specs.declared.judge.Judgement.the-variants as Judged
+use Rattle.pairs.specs.declared.judge.Judgement.the-variants.{Compare, BindLeft, BindRight, Refuse}
+use Rattle.pairs.specs.Pairs.{pair, pairsEntries, Flat, failed, flatOutcome, single, shapeOf, allLiteral, distinctKeys, binds, side, flatten, flattenAll}
+use Rattle.pairs.specs.Post.{Scoped, pairingOf, fieldsOf, missingFrom, InOrder, LiteralNode, MissingAsks, Flattens, Came, sideFlat, nodesFlat, arraysFlat, objectsFlat, itemsFlat, fieldsFlat, mostOf, mostItems, BindAsks, SidesAsks, Judges, Compared, KeysAsks, KeysMatched, MatchedBy, ObjectFieldsAsks, FlattenAsks, ByKeyAsks, ArraysAsks, ItemsAsks}
+use Rattle.checks.specs.Post.{GoodPair}
+use Rattle.pairs.proofs.Seen.{scoped-start}
+use Rattle.planner.proofs.Copies.{wrote-delivered}
+use Rattle.pairs.proofs.Partners.{object-child, object-listed, object-order, literal-each, check-missing, missing-none}
+use Rattle.pairs.proofs.KeySearch.{total-distinct}
+use Rattle.pairs.proofs.PairShapes.{shape-items, shape-fields, shape-single, flat-neither, flat-whole, flat-items, flat-fields, flat-array-object, flat-object-array}
+use Rattle.pairs.proofs.PairSides.{flattens-as, binds-told, means}
+
+-- what a pairing says of the kinds
+module _ (T : Tables) (w : WellFormed T) (n : ℕ) (v : Node T n) where
+  kinds : (kindOf (T .nodes) n ≡ 7) ⊎ ((kindOf (T .nodes) n ≡ 9) ⊎ (shapeOf (expr T n) ≡ single))
+  kinds = go (eqb (kindOf (T .nodes) n) 7) refl (eqb (kindOf (T .nodes) n) 9) refl
+    where
+      go : (a : Bool) → eqb (kindOf (T .nodes) n) 7 ≡ a → (b : Bool) → eqb (kindOf (T .nodes) n) 9 ≡ b → (kindOf (T .nodes) n ≡ 7) ⊎ ((kindOf (T .nodes) n ≡ 9) ⊎ (shapeOf (expr T n) ≡ single))
+      go true p b q = inl (eqb-true _ _ p)
+      go false p true q = inr (inl (eqb-true _ _ q))
+      go false p false q = inr (inr (shape-single T w n v (eqb-false _ _ p) (eqb-false _ _ q)))
+
+module _ (T : Tables) {left right : ℕ} (g : GoodPair T left right) where
+  abbrev Kinds : Pairing → Type 0
+  Kinds Whole = Unit {0}
+  Kinds Items = (kindOf (T .nodes) left ≡ 7) × (kindOf (T .nodes) right ≡ 7)
+  Kinds ByKey = (kindOf (T .nodes) left ≡ 9) × (kindOf (T .nodes) right ≡ 9) × (allLiteral (fieldsOf T left) ≡ true) × (allLiteral (fieldsOf T right) ≡ true)
+  Kinds Opposed = ((kindOf (T .nodes) left ≡ 7) × (kindOf (T .nodes) right ≡ 9)) ⊎ ((kindOf (T .nodes) left ≡ 9) × (kindOf (T .nodes) right ≡ 7))
+
+  pairing-kinds : Kinds (pairingOf (shapeOf (expr T left)) (shapeOf (expr T right)))
+  pairing-kinds = go (kinds T (g .table) left (g .first)) (kinds T (g .table) right (g .second))
+    where
+      keyed : kindOf (T .nodes) left ≡ 9 → kindOf (T .nodes) right ≡ 9 → (b c : Bool) → allLiteral (fieldsOf T left) ≡ b → allLiteral (fieldsOf T right) ≡ c → Kinds (cond (b && c) ByKey Whole)
+      keyed k l true true p q = (k, l, p, q)
+      keyed k l true false p q = tt
+      keyed k l false c p q = tt
+
+      go : (kindOf (T .nodes) left ≡ 7) ⊎ ((kindOf (T .nodes) left ≡ 9) ⊎ (shapeOf (expr T left) ≡ single))
+          → (kindOf (T .nodes) right ≡ 7) ⊎ ((kindOf (T .nodes) right ≡ 9) ⊎ (shapeOf (expr T right) ≡ single)) → Kinds (pairingOf (shapeOf (expr T left)) (shapeOf (expr T right)))
+      go (inl k) (inl l) = rw (shape-items T (g .table) left (g .first) k, shape-items T (g .table) right (g .second) l) (k, l)
+      go (inl k) (inr (inl l)) = rw (shape-items T (g .table) left (g .first) k, shape-fields T (g .table) right (g .second) l) (inl (k, l))
+      go (inl k) (inr (inr s)) = rw (shape-items T (g .table) left (g .first) k, s) tt
+      go (inr (inl k)) (inl l) = rw (shape-fields T (g .table) left (g .first) k, shape-items T (g .table) right (g .second) l) (inr (k, l))
+      go (inr (inl k)) (inr (inl l)) =
+          rw (shape-fields T (g .table) left (g .first) k, shape-fields T (g .table) right (g .second) l) (keyed k l (allLiteral (fieldsOf T left)) (allLiteral (fieldsOf T right)) refl refl)
+      go (inr (inl k)) (inr (inr s)) = rw (shape-fields T (g .table) left (g .first) k, s) tt
+      go (inr (inr s)) r = rw s tt
+
+  kinds-of : (p : Pairing) → pairingOf (shapeOf (expr T left)) (shapeOf (expr T right)) ≡ p → Kinds p
+  kinds-of p e = subst Kinds e pairing-kinds
+
+-- lists of a tree
+count-items : (g : ℕ → Expr) (ch : List ℕ) (at k : ℕ) → count (items g ch at k) ≡ k
+unfolding items count
+count-items g ch at zero = refl
+count-items g ch at (suc k) = let h = count-items g ch (at + 1) k in omega arith
+
+count-fields : (g : ℕ → Expr) (ch : List ℕ) (at k : ℕ) → countFields (fields g ch at k) ≡ k
+unfolding fields countFields
+count-fields g ch at zero = refl
+count-fields g ch at (suc k) = let h = count-fields g ch (at + 2) k in omega arith
+
+parts-some : (e : Expr) → 1 ≤ length (parts e)
+unfolding parts
+parts-some (Expr.literal n l) = omega arith
+parts-some (Expr.name n x) = omega arith
+parts-some (Expr.wildcard n) = omega arith
+parts-some (Expr.array n es) = omega arith
+parts-some (Expr.set n es) = omega arith
+parts-some (Expr.object n fs) = omega arith
+parts-some (Expr.other n) = omega arith
+
+most-some : (T : Tables) (n : ℕ) → 513 ≤ mostOf T n
+unfolding mostOf
+most-some T n = let p = parts-some (expr T n) in omega arith
+
+same-count : (a b : ℕ) (f : ℕ → Flat) (o : Flat) → cond (eqb a b) (f b) o ≡ cond (eqb a b) (f a) o
+same-count a b f o = go (eqb a b) refl
+  where
+    go : (c : Bool) → eqb a b ≡ c → cond c (f b) o ≡ cond c (f a) o
+    go true e = ap f (sym (eqb-true a b e))
+    go false e = refl
+
+-- the answers of `flatten`
+module _ {T : Tables} {states : List ℕ} {left right at : ℕ} (a : FlattenAsks T states left right at) where
+  pub ask-sides : SidesAsks T states left right
+  ask-sides = record { pair-ok = a .pair-ok; states-ok = a .states-ok }
+
+  pub at-low : at ≤ 2 ^ 32
+  at-low = let r = a .room in omega arith
+
+  pub ask-bind-left : BindAsks T states left right at
+  ask-bind-left = record { pair-ok = a .pair-ok; states-ok = a .states-ok; low = at-low }
+
+  pub ask-bind-right : BindAsks T states right left at
+  ask-bind-right = record { pair-ok = record { table = a .pair-ok .table; first = a .pair-ok .second; second = a .pair-ok .first }; states-ok = a .states-ok; low = at-low }
+
+  module _ {way : Judgement} (j : Judges T states left right way) where
+    left-binds : (u : ℕ → Bool) (seen : List ℕ) → Scoped T u seen states → j .one ≡ binds u (expr T left) seen
+    left-binds = binds-told T (a .pair-ok .table) (a .pair-ok .first) (j .sides .left-told)
+
+    right-binds : (u : ℕ → Bool) (seen : List ℕ) → Scoped T u seen states → j .other ≡ binds u (expr T right) seen
+    right-binds = binds-told T (a .pair-ok .table) (a .pair-ok .second) (j .sides .right-told)
+
+    some-bind : {b : Bool} → (j .one || j .other) ≡ b → (u : ℕ → Bool) (seen : List ℕ) → Scoped T u seen states → (binds u (expr T left) seen || binds u (expr T right) seen) ≡ b
+    some-bind e u seen s = rw (← left-binds u seen s, ← right-binds u seen s) e
+
+    -- as they are
+    as-whole : {b c : Bool} → j .one ≡ b → j .other ≡ c → (b || c) ≡ true → pairingOf (shapeOf (expr T left)) (shapeOf (expr T right)) ≡ Whole
+        → (u : ℕ → Bool) (seen : List ℕ) → Scoped T u seen states → nodesFlat T left right u seen ≡ side u b c (expr T left) (expr T right) seen
+    unfolding nodesFlat
+    as-whole p q one-does k u seen s =
+        flat-whole u seen (expr T left) (expr T right) (some-bind (rw (p, q) one-does) u seen s) k
+        ∙ rw (sym (left-binds u seen s) ∙ p, sym (right-binds u seen s) ∙ q)
+
+    pub flat-compared : way ≡ Compare → {before later : List ℕ} {r : Flattened} → Compared left right before at later r → Flattens (nodesFlat T left right) T (mostOf T right) states before at states later r
+    unfolding nodesFlat pairsEntries entries
+    flat-compared e {before} {later} {r} c =
+        let m = means (j .one) (j .other) _ (j .is) Compare e in
+        rw (c .is) (record {
+          each = λ u seen s.
+              let all : entry 7 right 1 0 ∷ entry 3 left 0 0 ∷ [] ≡ pairsEntries (pair (expr T right) (equalityExpr (expr T left)) ∷ []) =
+              rw (node-of T (a .pair-ok .table) left (a .pair-ok .first), node-of T (a .pair-ok .table) right (a .pair-ok .second)) in
+              record {
+                pairs = pair (expr T right) (equalityExpr (expr T left)) ∷ [];
+                newlyBound = seen;
+                is = flat-neither u seen (expr T left) (expr T right) (some-bind (rw (m .0, m .1)) u seen s);
+                wrote = subst (λ (es : List Entry). Wrote before at es later (c .next)) all (c .wrote);
+                few = let n = ap length all in let k = most-some T right in omega arith;
+                scoped = s;
+              };
+        })
+
+    module _ {before known later : List ℕ} {r : Flattened} where
+      pub flat-bind-left : way ≡ BindLeft → Flattens (sideFlat T left right) T 513 states before at known later r → Flattens (nodesFlat T left right) T (mostOf T right) states before at known later r
+      unfolding sideFlat
+      flat-bind-left e f =
+          let m = means (j .one) (j .other) _ (j .is) BindLeft e in
+          flattens-as (λ u seen s. sym (as-whole (m .0) (m .1) refl (m .2) u seen s)) (most-some T right) f
+
+      pub flat-bind-right : way ≡ BindRight → Flattens (sideFlat T right left) T 513 states before at known later r → Flattens (nodesFlat T left right) T (mostOf T right) states before at known later r
+      unfolding sideFlat
+      flat-bind-right e f =
+          let m = means (j .one) (j .other) _ (j .is) BindRight e in
+          flattens-as (λ u seen s. sym (as-whole (m .0) (m .1) refl (m .2) u seen s)) (most-some T right) f
+
+    pub ask-arrays : way ≡ Judged.Items → ArraysAsks T states left right at
+    ask-arrays e =
+        let m = means (j .one) (j .other) _ (j .is) Judged.Items e in
+        let k = kinds-of T (a .pair-ok) Items (m .1) in
+        record { asks = a; left-kind = k .0; right-kind = k .1 }
+
+    pub ask-keyed : way ≡ Judged.ByKey → ByKeyAsks T states left right at
+    ask-keyed e =
+        let m = means (j .one) (j .other) _ (j .is) Judged.ByKey e in
+        let k = kinds-of T (a .pair-ok) ByKey (m .1) in
+        record {
+          asks = a;
+          keyed = record {
+            both = record {
+              left-ok = record { table = a .pair-ok .table; node = a .pair-ok .first; object = k .0 };
+              right-ok = record { table = a .pair-ok .table; node = a .pair-ok .second; object = k .1 };
+            };
+            left-literal = k .2;
+            right-literal = k .3;
+          };
+        }
+
+    module _ {before known later : List ℕ} {r : Flattened} where
+      pub flat-by-items : way ≡ Judged.Items → Flattens (arraysFlat T left right) T (mostOf T right) states before at known later r → Flattens (nodesFlat T left right) T (mostOf T right) states before at known later r
+      unfolding nodesFlat arraysFlat itemsFlat
+      flat-by-items e f = flattens-as same (omega arith) f
+        where
+          same : (u : ℕ → Bool) (seen : List ℕ) → Scoped T u seen states → arraysFlat T left right u seen ≡ nodesFlat T left right u seen
+          same u seen s =
+              let m = means (j .one) (j .other) _ (j .is) Judged.Items e in
+              let k = kinds-of T (a .pair-ok) Items (m .1) in
+              let w = a .pair-ok .table in
+              sym (flat-items u seen (expr T left) (expr T right) (some-bind (m .0) u seen s) (shape-items T w left (a .pair-ok .first) (k .0)) (expr-array T w right (a .pair-ok .second) (k .1))
+              ∙ rw (count-items (expr T) (T .children) (firstOf (T .nodes) left) (countOf (T .nodes) left), count-items (expr T) (T .children) (firstOf (T .nodes) right) (countOf (T .nodes) right))
+              (same-count (countOf (T .nodes) left) (countOf (T .nodes) right)
+              (λ (k : ℕ). flattenAll u (items (expr T) (T .children) (firstOf (T .nodes) right) k) (items (expr T) (T .children) (firstOf (T .nodes) left) (countOf (T .nodes) left)) seen)
+              (failed (ArraySizeMismatch left (countOf (T .nodes) left) (countOf (T .nodes) right)))))
+
+      pub flat-by-keys : way ≡ Judged.ByKey → Flattens (objectsFlat T left right) T (mostOf T right) states before at known later r → Flattens (nodesFlat T left right) T (mostOf T right) states before at known later r
+      unfolding nodesFlat objectsFlat fieldsFlat
+      flat-by-keys e f = flattens-as same (omega arith) f
+        where
+          same : (u : ℕ → Bool) (seen : List ℕ) → Scoped T u seen states → objectsFlat T left right u seen ≡ nodesFlat T left right u seen
+          same u seen s =
+              let m = means (j .one) (j .other) _ (j .is) Judged.ByKey e in
+              let k = kinds-of T (a .pair-ok) ByKey (m .1) in
+              let w = a .pair-ok .table in
+              sym (flat-fields u seen (expr T left) (expr T right) (some-bind (m .0) u seen s) (shape-fields T w left (a .pair-ok .first) (k .0)) (expr-object T w right (a .pair-ok .second) (k .1)) (k .2) (k .3)
+              ∙ rw (count-fields (expr T) (T .children) (firstOf (T .nodes) right) (countOf (T .nodes) right)))
+
+    pub flat-refused : way ≡ Refuse → (before : List ℕ) → Flattens (nodesFlat T left right) T (mostOf T right) states before at states before (Refused (IncompatibleDestructuringPatterns left))
+    unfolding nodesFlat
+    flat-refused e before = let m = means (j .one) (j .other) _ (j .is) Refuse e in record { each = λ u seen s. go u seen s (m .0) (m .1) }
+      where
+        opposed : (u : ℕ → Bool) (seen : List ℕ) → Scoped T u seen states → (j .one || j .other) ≡ true → Kinds T (a .pair-ok) Opposed → nodesFlat T left right u seen ≡ failed (IncompatibleDestructuringPatterns left)
+        opposed u seen s h (inl k) =
+            flat-array-object u seen (expr T left) (expr T right) (some-bind h u seen s) (shape-items T (a .pair-ok .table) left (a .pair-ok .first) (k .0)) (expr-object T (a .pair-ok .table) right (a .pair-ok .second) (k .1))
+        opposed u seen s h (inr k) =
+            flat-object-array u seen (expr T left) (expr T right) (some-bind h u seen s) (shape-fields T (a .pair-ok .table) left (a .pair-ok .first) (k .0)) (expr-array T (a .pair-ok .table) right (a .pair-ok .second) (k .1))
+
+        go : (u : ℕ → Bool) (seen : List ℕ) → Scoped T u seen states → (j .one || j .other) ≡ true
+            → (pairingOf (shapeOf (expr T left)) (shapeOf (expr T right)) ≡ Opposed) ⊎ ((pairingOf (shapeOf (expr T left)) (shapeOf (expr T right)) ≡ Whole) × (j .one ≡ true) × (j .other ≡ true))
+            → nodesFlat T left right u seen ≡ failed (IncompatibleDestructuringPatterns left)
+        go u seen s h (inl p) = opposed u seen s h (kinds-of T (a .pair-ok) Opposed p)
+        go u seen s h (inr p) = as-whole (p .1) (p .2) refl (p .0) u seen s ∙ rw (node-of T (a .pair-ok .table) left (a .pair-ok .first))
+
+-- two arrays
+module _ {T : Tables} {states : List ℕ} {left right at : ℕ} (a : ArraysAsks T states left right at) {size other : ℕ} (is-size : size ≡ countOf (T .nodes) left) (is-other : other ≡ countOf (T .nodes) right) where
+  pub arrays-differ : (size ≡ other → ⊥) → (before : List ℕ) → Flattens (arraysFlat T left right) T (mostOf T right) states before at states before (Refused (ArraySizeMismatch left size other))
+  unfolding arraysFlat
+  arrays-differ differ before =
+      let z = ne-eqb (countOf (T .nodes) left) (countOf (T .nodes) right) (λ e. differ (is-size ∙ (e ∙ sym is-other))) in
+      record { each = λ u seen s. rw (is-size, is-other) (simp z) }
+
+  module _ (same-size : size ≡ other) {left-first right-first : ℕ} (is-left : left-first ≡ firstOf (T .nodes) left) (is-right : right-first ≡ firstOf (T .nodes) right) where
+    tree : expr T right ≡ Expr.array right (items (expr T) (T .children) right-first size)
+    tree = rw (is-right, same-size, is-other) (expr-array T (a .asks .pair-ok .table) right (a .asks .pair-ok .second) (a .right-kind))
+
+    most-less : mostItems T right-first size + 513 ≤ mostOf T right
+    unfolding mostOf mostItems parts
+    most-less = rw tree (omega arith)
+
+    pub ask-items : left-first < 2 ^ 32 → right-first < 2 ^ 32 → size < 2 ^ 32 → ItemsAsks T states left-first right right-first size at
+    ask-items low-left low-right low-size =
+        let w = a .asks .pair-ok .table in
+        let wl = width-array (kindOf (T .nodes) left) (countOf (T .nodes) left) (a .left-kind) in
+        let wr = width-array (kindOf (T .nodes) right) (countOf (T .nodes) right) (a .right-kind) in
+        record {
+          table = w;
+          states-ok = a .asks .states-ok;
+          left-each = λ i lt. let in-width : i < width (T .nodes) left = omega arith in rw is-left (child-node T w left (a .asks .pair-ok .first) i in-width);
+          right-each = λ i lt. let in-width : i < width (T .nodes) right = omega arith in rw is-right (child-node T w right (a .asks .pair-ok .second) i in-width, w .below right (a .asks .pair-ok .second) i in-width .1);
+          left-small = omega arith;
+          right-small = omega arith;
+          room = let r = a .asks .room in let m = most-less in omega arith;
+        }
+
+    pub arrays-items : {before known later : List ℕ} {r : Flattened} → Flattens (itemsFlat T left-first right-first size) T (mostItems T right-first size) states before at known later r → Flattens (arraysFlat T left right) T (mostOf T right) states before at known later r
+    unfolding arraysFlat
+    arrays-items f =
+        let z = eq-eqb (countOf (T .nodes) left) (countOf (T .nodes) right) (sym is-size ∙ (same-size ∙ is-other)) in
+        flattens-as (λ u seen s. rw (is-left, is-right, is-size) (simp z)) (let m = most-less in omega arith) f
+
+-- the keys of two objects
+module _ {T : Tables} {left right : ℕ} (a : KeysAsks T left right) {left-first left-count : ℕ} (is-left : left-first ≡ firstOf (T .nodes) left) (is-count : left-count ≡ countOf (T .nodes) left) where
+  pub ask-order : OrderAsks T left-first left-count
+  ask-order = rw (is-left, is-count) (object-order T (a .both .left-ok))
+
+  module _ {order : List ℕ} {keys : ℕ} (by : OrderedBy T left-first left-count order keys) where
+    in-order : InOrder T left order keys
+    in-order = record { asks = a .both .left-ok; literal = a .left-literal; ordered = rw (is-left, is-count) at by }
+
+    module _ {count : ℕ} (is-right : count ≡ countOf (T .nodes) right) where
+      pub keys-differ : (keys ≡ count → ⊥) → KeysMatched T left right order (Keys.Refused (ObjectFieldCountMismatch left keys count))
+      unfolding objectsFlat
+      keys-differ differ =
+          let d = total-distinct in-order in
+          let z = ne-eqb (distinctKeys (fieldsOf T left)) (countOf (T .nodes) right) (λ e. differ (d ∙ (e ∙ sym is-right))) in
+          record { told = λ u seen. rw (d, is-right) (simp z) }
+
+      module _ {first : ℕ} (is-first : first ≡ firstOf (T .nodes) right) (same-size : keys ≡ count) where
+        literal-at : (i : ℕ) → i < count → LiteralNode T (childAt (T .children) (first + i * 2))
+        literal-at i lt = rw is-first (literal-each T (a .both .right-ok) (a .right-literal) i (omega arith))
+
+        listed : first + count * 2 ≤ 512
+        listed =
+            let l = object-listed T (a .both .right-ok) in
+            let few = a .both .right-ok .table .limits .children in
+            omega arith
+
+        pub ask-missing : MissingAsks T left order keys first count
+        ask-missing = record { in-order = in-order; keys = literal-at; small = let l = listed in omega arith }
+
+        flat-is : (u : ℕ → Bool) (seen : List ℕ) → objectsFlat T left right u seen ≡ cond (eqb (missingFrom T left first count) 0) (fieldsFlat T left first count u seen) (failed (ObjectKeyNotFound (missingFrom T left first count)))
+        unfolding objectsFlat
+        flat-is u seen =
+            let d = total-distinct in-order in
+            let z = eq-eqb (distinctKeys (fieldsOf T left)) (countOf (T .nodes) right) (sym d ∙ (same-size ∙ is-right)) in
+            rw (is-first, is-right) (simp z (check-missing T (a .both .left-ok) (firstOf (T .nodes) right) (countOf (T .nodes) right) (rw (is-first, is-right) at literal-at) (fieldsFlat T left (firstOf (T .nodes) right) (countOf (T .nodes) right) u seen)))
+
+        module _ {key : ℕ} (is-key : key ≡ missingFrom T left first count) where
+          pub key-missing : (key ≡ 0 → ⊥) → KeysMatched T left right order (Keys.Refused (ObjectKeyNotFound key))
+          key-missing gone = let z = ne-eqb (missingFrom T left first count) 0 (λ e. gone (is-key ∙ e)) in record { told = λ u seen. flat-is u seen ∙ rw is-key (simp z) }
+
+          pub keys-same : key ≡ 0 → KeysMatched T left right order (Matched keys)
+          keys-same none-missing =
+              let z = eq-eqb (missingFrom T left first count) 0 (sym is-key ∙ none-missing) in
+              record {
+                told = record {
+                  in-order = in-order;
+                  each = λ i lt.
+                      let e : firstOf (T .nodes) right + i * 2 + 1 ≡ firstOf (T .nodes) right + (i * 2 + 1) = omega arith in
+                      let c = object-child T (a .both .right-ok) (i * 2 + 1) (omega arith) in
+                      record {
+                        key-ok = rw is-first at (literal-at i (omega arith));
+                        value = rw e (c .0);
+                        below = rw e (c .1);
+                        partner = rw is-first at (missing-none T (a .both .left-ok) first count literal-at (sym is-key ∙ none-missing) i (omega arith));
+                      };
+                  listed = let l = listed in omega arith;
+                  flat = λ u seen. rw (← is-first, ← is-right) (flat-is u seen ∙ simp z);
+                };
+              }
+
+-- two objects by their keys
+module _ {T : Tables} {states : List ℕ} {left right at : ℕ} (a : ByKeyAsks T states left right at) {order : List ℕ} {keys : Keys} (m : KeysMatched T left right order keys) where
+  pub ask-fields : {total : ℕ} → keys ≡ Matched total → ObjectFieldsAsks T states left right order total at
+  ask-fields {total} e = record { asks = a .asks; object = a .keyed .both .right-ok .object; keys = subst (MatchedBy T left right order) e (m .told) }
+
+  pub objects-refused : {answer : PlanAnswer} → keys ≡ Keys.Refused answer → (before : List ℕ) → Flattens (objectsFlat T left right) T (mostOf T right) states before at states before (Refused answer)
+  objects-refused {answer} e before = let f = subst (MatchedBy T left right order) e (m .told) in record { each = λ u seen s. f u seen }
+
+-- the whole call
+module _ (T : Tables) {left right : ℕ} (g : GoodPair T left right) (s : Scope) {states : List ℕ} (of : StatesOf (T .names) (T .text) s RespectParent states) where
+  scoped : Scoped T (isUnbound s RespectParent) [] states
+  scoped = scoped-start T states s RespectParent of (g .table)
+
+  pub ask-flatten : FlattenAsks T states left right 0
+  unfolding mostOf
+  ask-flatten = record { pair-ok = g; states-ok = scoped .wild; room = let f = tree-few T (g .table) right (g .second) in omega arith }
+
+  module _ {before known mid : List ℕ} {done : Flattened} (f : Flattens (nodesFlat T left right) T (mostOf T right) states before 0 known mid done) where
+    came : (r : Flattened) → done ≡ r → Came (flatten (isUnbound s RespectParent) (expr T right) (expr T left) []) T (isUnbound s RespectParent) (mostOf T right) before 0 known mid r
+    unfolding nodesFlat
+    came r e = subst (λ (x : Flattened). Came (flatten (isUnbound s RespectParent) (expr T right) (expr T left) []) T (isUnbound s RespectParent) (mostOf T right) before 0 known mid x) e (f .each (isUnbound s RespectParent) [] scoped)
+
+    pub pairs-refused : {answer : PlanAnswer} {later : List ℕ} → done ≡ Refused answer → length mid ≡ length before → later ≡ replicate (length mid) 0
+        → Answered (flatOutcome (flatten (isUnbound s RespectParent) (expr T right) (expr T left) [])) before later answer
+    unfolding answered written
+    pairs-refused {answer} e long zeros =
+        let c = came (Refused answer) e in
+        record { answer = rw c; buffer = rw c (rw long at zeros) }
+
+    pub pairs-planned : {at : ℕ} {later : List ℕ} {r : PlanAnswer} → done ≡ Next at → Delivered mid 4 0 at mid later r
+        → Answered (flatOutcome (flatten (isUnbound s RespectParent) (expr T right) (expr T left) [])) before later r
+    pairs-planned {at} e d =
+        let c = came (Next at) e in
+        rw (c .is) (wrote-delivered 4 (pairsEntries (c .pairs)) (c .wrote) d)

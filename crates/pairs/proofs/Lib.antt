@@ -1,0 +1,11 @@
+pub mod Seen
+pub mod Partners
+pub mod KeySearch
+pub mod Leaves
+pub mod PairShapes
+pub mod PairSides
+pub mod FlatNodes
+pub mod FlatLoops
+pub mod PairsSimple
+pub mod PairsInOrder
+pub mod PairsPlanned

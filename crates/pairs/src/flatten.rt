@@ -1,0 +1,464 @@
+// The pairs of an `=` both of whose sides bind (assignment.rs, flatten_assignment_pairs).
+ghost use Prim.Native.Nat.{_≤_, _^_};
+ghost use mathlib.Core.List.{[]};
+ghost use Rattle.scope.specs.declared.ScopingMode.the-variants.{RespectParent};
+ghost use Rattle.scope.specs.Scope.{isUnbound};
+ghost use Rattle.table.specs.Tables.{tables};
+ghost use Rattle.table.specs.Decode.{expr};
+ghost use Rattle.planner.specs.Operations.{Answered};
+ghost use Rattle.checks.specs.Post.{GoodPair};
+ghost use Rattle.pairs.specs.Pairs.{flatten, flatOutcome};
+ghost use Rattle.pairs.specs.Post.{Compared, BindAsks, FlattenAsks, ArraysAsks, ByKeyAsks, ItemsAsks, ObjectFieldsAsks, Flattens, sideFlat, nodesFlat, arraysFlat, objectsFlat, itemsFlat, mostOf, mostItems};
+use crate::judge::Judgement;
+use crate::judge::judge;
+use crate::keys::Keys;
+use crate::keys::field_sides;
+use crate::keys::match_keys;
+use crate::preview::learn_names;
+use crate::preview::preview_binding_plan;
+use planner::PlanAnswer;
+use planner::buffer::clear;
+use planner::buffer::close;
+use planner::buffer::copy_entries;
+use planner::buffer::put_entry;
+use planner::context::name_states;
+use scope::Scope;
+use scope::ScopingMode;
+use table::reading::child_at;
+use table::reading::count_of;
+use table::reading::first_of;
+
+// The place of the next entry, or the first refusal.
+pub(crate) enum Flattened {
+    Next { at: usize },
+    Refused(PlanAnswer),
+}
+
+// The two sides compared, as a pair.
+fn compare_sides(plan: &mut [u32], at: usize, left: u32, right: u32) -> Flattened
+    requires { ⌜ at ≤ 2 ^ 32 ⌝ }
+    ensures { λ r. ⌜ Compared left right (now (plan .entry)) at (now (plan .exit)) r ⌝ }
+{
+    put_entry(plan, at, 7, right, 1, 0);
+    put_entry(plan, at + 1, 3, left, 0, 0);
+    Flattened::Next { at: at + 2 }
+}
+
+// One side binds to the other: their pair, and the names that it binds are known from now on.
+fn bind_side(
+    nodes: &[u32],
+    children: &[u32],
+    numbers: &[u64],
+    names: &[u32],
+    strings: &[u8],
+    text: &[u8],
+    states: &mut [u8; 128],
+    pattern: u32,
+    value: u32,
+    binders: &mut [u32; 128],
+    scratch: &mut [u32; 2048],
+    plan: &mut [u32],
+    at: usize,
+) -> Flattened
+    requires { ⌜ BindAsks (tables (now nodes) (now children) (now numbers) (now names) (now strings) (now text)) (now states) pattern value at ⌝ }
+    ensures { λ r. ⌜ Flattens (sideFlat (tables (now (nodes .entry)) (now (children .entry)) (now (numbers .entry)) (now (names .entry)) (now (strings .entry)) (now (text .entry))) pattern value) (tables (now (nodes .entry)) (now (children .entry)) (now (numbers .entry)) (now (names .entry)) (now (strings .entry)) (now (text .entry))) 513 (now (states .entry)) (now (plan .entry)) at (now (states .exit)) (now (plan .exit)) r ⌝ }
+{
+    let planned = preview_binding_plan(
+        nodes,
+        children,
+        numbers,
+        names,
+        strings,
+        text,
+        states,
+        pattern,
+        binders,
+        scratch,
+    );
+    put_entry(plan, at, 7, value, 1, 0);
+    let next = copy_entries(plan, at + 1, scratch, planned.count);
+    learn_names(states, binders);
+    Flattened::Next { at: next }
+}
+
+// Two sides in pairs, from entry `at` on.
+fn flatten(
+    nodes: &[u32],
+    children: &[u32],
+    numbers: &[u64],
+    names: &[u32],
+    strings: &[u8],
+    text: &[u8],
+    states: &mut [u8; 128],
+    left: u32,
+    right: u32,
+    binders: &mut [u32; 128],
+    scratch: &mut [u32; 2048],
+    plan: &mut [u32],
+    at: usize,
+) -> Flattened
+    requires { ⌜ FlattenAsks (tables (now nodes) (now children) (now numbers) (now names) (now strings) (now text)) (now states) left right at ⌝ }
+    ensures { λ r. ⌜ Flattens (nodesFlat (tables (now (nodes .entry)) (now (children .entry)) (now (numbers .entry)) (now (names .entry)) (now (strings .entry)) (now (text .entry))) left right) (tables (now (nodes .entry)) (now (children .entry)) (now (numbers .entry)) (now (names .entry)) (now (strings .entry)) (now (text .entry))) (mostOf (tables (now (nodes .entry)) (now (children .entry)) (now (numbers .entry)) (now (names .entry)) (now (strings .entry)) (now (text .entry))) right) (now (states .entry)) (now (plan .entry)) at (now (states .exit)) (now (plan .exit)) r ⌝ }
+{
+    match judge(
+        nodes,
+        children,
+        numbers,
+        names,
+        strings,
+        text,
+        states,
+        left,
+        right,
+        binders,
+        scratch,
+    ) {
+        Judgement::Compare => return compare_sides(plan, at, left, right),
+        Judgement::BindLeft => return bind_side(
+            nodes,
+            children,
+            numbers,
+            names,
+            strings,
+            text,
+            states,
+            left,
+            right,
+            binders,
+            scratch,
+            plan,
+            at,
+        ),
+        Judgement::BindRight => return bind_side(
+            nodes,
+            children,
+            numbers,
+            names,
+            strings,
+            text,
+            states,
+            right,
+            left,
+            binders,
+            scratch,
+            plan,
+            at,
+        ),
+        Judgement::Items => return flatten_arrays(
+            nodes,
+            children,
+            numbers,
+            names,
+            strings,
+            text,
+            states,
+            left,
+            right,
+            binders,
+            scratch,
+            plan,
+            at,
+        ),
+        Judgement::ByKey => return flatten_objects(
+            nodes,
+            children,
+            numbers,
+            names,
+            strings,
+            text,
+            states,
+            left,
+            right,
+            binders,
+            scratch,
+            plan,
+            at,
+        ),
+        Judgement::Refuse =>
+            return Flattened::Refused(PlanAnswer::IncompatibleDestructuringPatterns { side: left }),
+    }
+}
+
+fn flatten_arrays(
+    nodes: &[u32],
+    children: &[u32],
+    numbers: &[u64],
+    names: &[u32],
+    strings: &[u8],
+    text: &[u8],
+    states: &mut [u8; 128],
+    left: u32,
+    right: u32,
+    binders: &mut [u32; 128],
+    scratch: &mut [u32; 2048],
+    plan: &mut [u32],
+    at: usize,
+) -> Flattened
+    requires { ⌜ ArraysAsks (tables (now nodes) (now children) (now numbers) (now names) (now strings) (now text)) (now states) left right at ⌝ }
+    ensures { λ r. ⌜ Flattens (arraysFlat (tables (now (nodes .entry)) (now (children .entry)) (now (numbers .entry)) (now (names .entry)) (now (strings .entry)) (now (text .entry))) left right) (tables (now (nodes .entry)) (now (children .entry)) (now (numbers .entry)) (now (names .entry)) (now (strings .entry)) (now (text .entry))) (mostOf (tables (now (nodes .entry)) (now (children .entry)) (now (numbers .entry)) (now (names .entry)) (now (strings .entry)) (now (text .entry))) right) (now (states .entry)) (now (plan .entry)) at (now (states .exit)) (now (plan .exit)) r ⌝ }
+{
+    let size = count_of(nodes, left);
+    let other = count_of(nodes, right);
+    if size != other {
+        return Flattened::Refused(PlanAnswer::ArraySizeMismatch { left, size, other });
+    }
+    let left_first = first_of(nodes, left) as usize;
+    let right_first = first_of(nodes, right) as usize;
+    flatten_items(
+        nodes,
+        children,
+        numbers,
+        names,
+        strings,
+        text,
+        states,
+        left_first,
+        right,
+        right_first,
+        size as usize,
+        binders,
+        scratch,
+        plan,
+        at,
+    )
+}
+
+// The items of two arrays, `count` of them from two child entries on.
+fn flatten_items(
+    nodes: &[u32],
+    children: &[u32],
+    numbers: &[u64],
+    names: &[u32],
+    strings: &[u8],
+    text: &[u8],
+    states: &mut [u8; 128],
+    lefts: usize,
+    parent: u32,
+    rights: usize,
+    count: usize,
+    binders: &mut [u32; 128],
+    scratch: &mut [u32; 2048],
+    plan: &mut [u32],
+    at: usize,
+) -> Flattened
+    requires { ⌜ ItemsAsks (tables (now nodes) (now children) (now numbers) (now names) (now strings) (now text)) (now states) lefts parent rights count at ⌝ }
+    ensures { λ r. ⌜ Flattens (itemsFlat (tables (now (nodes .entry)) (now (children .entry)) (now (numbers .entry)) (now (names .entry)) (now (strings .entry)) (now (text .entry))) lefts rights count) (tables (now (nodes .entry)) (now (children .entry)) (now (numbers .entry)) (now (names .entry)) (now (strings .entry)) (now (text .entry))) (mostItems (tables (now (nodes .entry)) (now (children .entry)) (now (numbers .entry)) (now (names .entry)) (now (strings .entry)) (now (text .entry))) rights count) (now (states .entry)) (now (plan .entry)) at (now (states .exit)) (now (plan .exit)) r ⌝ }
+{
+    let mut left_place = lefts;
+    let mut right_place = rights;
+    let mut more = count;
+    let mut here = at;
+    while 0 < more {
+        let left = child_at(children, left_place);
+        let right = child_at(children, right_place);
+        match flatten(
+            nodes,
+            children,
+            numbers,
+            names,
+            strings,
+            text,
+            states,
+            left,
+            right,
+            binders,
+            scratch,
+            plan,
+            here,
+        ) {
+            Flattened::Next { at: next } => here = next,
+            Flattened::Refused(answer) => return Flattened::Refused(answer),
+        }
+        left_place += 1;
+        right_place += 1;
+        more -= 1;
+    }
+    Flattened::Next { at: here }
+}
+
+fn flatten_objects(
+    nodes: &[u32],
+    children: &[u32],
+    numbers: &[u64],
+    names: &[u32],
+    strings: &[u8],
+    text: &[u8],
+    states: &mut [u8; 128],
+    left: u32,
+    right: u32,
+    binders: &mut [u32; 128],
+    scratch: &mut [u32; 2048],
+    plan: &mut [u32],
+    at: usize,
+) -> Flattened
+    requires { ⌜ ByKeyAsks (tables (now nodes) (now children) (now numbers) (now names) (now strings) (now text)) (now states) left right at ⌝ }
+    ensures { λ r. ⌜ Flattens (objectsFlat (tables (now (nodes .entry)) (now (children .entry)) (now (numbers .entry)) (now (names .entry)) (now (strings .entry)) (now (text .entry))) left right) (tables (now (nodes .entry)) (now (children .entry)) (now (numbers .entry)) (now (names .entry)) (now (strings .entry)) (now (text .entry))) (mostOf (tables (now (nodes .entry)) (now (children .entry)) (now (numbers .entry)) (now (names .entry)) (now (strings .entry)) (now (text .entry))) right) (now (states .entry)) (now (plan .entry)) at (now (states .exit)) (now (plan .exit)) r ⌝ }
+{
+    let mut order = [0u32; 256];
+    match match_keys(
+        nodes,
+        children,
+        numbers,
+        names,
+        strings,
+        text,
+        left,
+        right,
+        &mut order,
+    ) {
+        Keys::Matched { total } => return flatten_fields(
+            nodes,
+            children,
+            numbers,
+            names,
+            strings,
+            text,
+            states,
+            left,
+            right,
+            &order,
+            total,
+            binders,
+            scratch,
+            plan,
+            at,
+        ),
+        Keys::Refused(answer) => return Flattened::Refused(answer),
+    }
+}
+
+// The right object's fields as written, each with the left's value under its key.
+fn flatten_fields(
+    nodes: &[u32],
+    children: &[u32],
+    numbers: &[u64],
+    names: &[u32],
+    strings: &[u8],
+    text: &[u8],
+    states: &mut [u8; 128],
+    left: u32,
+    right: u32,
+    order: &[u32; 256],
+    total: usize,
+    binders: &mut [u32; 128],
+    scratch: &mut [u32; 2048],
+    plan: &mut [u32],
+    at: usize,
+) -> Flattened
+    requires { ⌜ ObjectFieldsAsks (tables (now nodes) (now children) (now numbers) (now names) (now strings) (now text)) (now states) left right (now order) total at ⌝ }
+    ensures { λ r. ⌜ Flattens (objectsFlat (tables (now (nodes .entry)) (now (children .entry)) (now (numbers .entry)) (now (names .entry)) (now (strings .entry)) (now (text .entry))) left right) (tables (now (nodes .entry)) (now (children .entry)) (now (numbers .entry)) (now (names .entry)) (now (strings .entry)) (now (text .entry))) (mostOf (tables (now (nodes .entry)) (now (children .entry)) (now (numbers .entry)) (now (names .entry)) (now (strings .entry)) (now (text .entry))) right) (now (states .entry)) (now (plan .entry)) at (now (states .exit)) (now (plan .exit)) r ⌝ }
+{
+    let mut place = first_of(nodes, right) as usize;
+    let mut more = count_of(nodes, right) as usize;
+    let mut here = at;
+    while 0 < more {
+        let sides = field_sides(
+            nodes,
+            children,
+            numbers,
+            names,
+            strings,
+            text,
+            left,
+            order,
+            total,
+            place,
+        );
+        match flatten(
+            nodes,
+            children,
+            numbers,
+            names,
+            strings,
+            text,
+            states,
+            sides.left,
+            sides.right,
+            binders,
+            scratch,
+            plan,
+            here,
+        ) {
+            Flattened::Next { at: next } => here = next,
+            Flattened::Refused(answer) => return Flattened::Refused(answer),
+        }
+        place += 2;
+        more -= 1;
+    }
+    Flattened::Next { at: here }
+}
+
+fn deliver_pairs(
+    nodes: &[u32],
+    children: &[u32],
+    numbers: &[u64],
+    names: &[u32],
+    strings: &[u8],
+    text: &[u8],
+    scope: Scope,
+    left: u32,
+    right: u32,
+    binders: &mut [u32; 128],
+    scratch: &mut [u32; 2048],
+    plan: &mut [u32],
+) -> PlanAnswer
+    requires { ⌜ GoodPair (tables (now nodes) (now children) (now numbers) (now names) (now strings) (now text)) left right ⌝ }
+    ensures { λ r. ⌜ Answered (flatOutcome (flatten (isUnbound scope RespectParent) (expr (tables (now (nodes .entry)) (now (children .entry)) (now (numbers .entry)) (now (names .entry)) (now (strings .entry)) (now (text .entry))) right) (expr (tables (now (nodes .entry)) (now (children .entry)) (now (numbers .entry)) (now (names .entry)) (now (strings .entry)) (now (text .entry))) left) [])) (now (plan .entry)) (now (plan .exit)) r ⌝ }
+{
+    let mut states = name_states(names, text, scope, ScopingMode::RespectParent);
+    match flatten(
+        nodes,
+        children,
+        numbers,
+        names,
+        strings,
+        text,
+        &mut states,
+        left,
+        right,
+        binders,
+        scratch,
+        plan,
+        0,
+    ) {
+        Flattened::Next { at } => return close(plan, 4, at),
+        Flattened::Refused(answer) => {
+            clear(plan);
+            return answer;
+        }
+    }
+}
+
+// The pairs of two sides of a good table, in the lent buffer.
+pub fn flatten_assignment_pairs(
+    nodes: &[u32],
+    children: &[u32],
+    numbers: &[u64],
+    names: &[u32],
+    strings: &[u8],
+    text: &[u8],
+    scope: Scope,
+    left: u32,
+    right: u32,
+    plan: &mut [u32],
+) -> PlanAnswer
+    requires { ⌜ GoodPair (tables (now nodes) (now children) (now numbers) (now names) (now strings) (now text)) left right ⌝ }
+    ensures { λ r. ⌜ Answered (flatOutcome (flatten (isUnbound scope RespectParent) (expr (tables (now (nodes .entry)) (now (children .entry)) (now (numbers .entry)) (now (names .entry)) (now (strings .entry)) (now (text .entry))) right) (expr (tables (now (nodes .entry)) (now (children .entry)) (now (numbers .entry)) (now (names .entry)) (now (strings .entry)) (now (text .entry))) left) [])) (now (plan .entry)) (now (plan .exit)) r ⌝ }
+{
+    let mut binders = [0u32; 128];
+    let mut scratch = [0u32; 2048];
+    deliver_pairs(
+        nodes,
+        children,
+        numbers,
+        names,
+        strings,
+        text,
+        scope,
+        left,
+        right,
+        &mut binders,
+        &mut scratch,
+        plan,
+    )
+}

@@ -1,0 +1,184 @@
+// What becomes of two sides.
+ghost use mathlib.Core.Path.{_≡_};
+ghost use mathlib.Core.Bool.{_||_};
+ghost use Rattle.table.specs.Tables.{tables};
+ghost use Rattle.table.specs.Decode.{expr};
+ghost use Rattle.checks.specs.Post.{GoodPair};
+ghost use Rattle.pairs.specs.declared.judge.Pairing.the-variants.{Whole};
+ghost use Rattle.pairs.specs.Pairs.{shapeOf};
+ghost use Rattle.pairs.specs.Post.{pairingOf, judgementOf, ObjectsAsks, SidesAsks, Judges};
+use crate::keys::literal_keys;
+use crate::preview::preview_sides;
+use table::reading::kind_of;
+
+// How two sides may be taken: as they are, item by item, field by field, or not at all.
+pub(crate) enum Pairing {
+    Whole,
+    Items,
+    ByKey,
+    Opposed,
+}
+
+// What becomes of two sides: the left one binds to the right or the other way round, or they are compared, taken apart or refused.
+pub(crate) enum Judgement {
+    Compare,
+    BindLeft,
+    BindRight,
+    Items,
+    ByKey,
+    Refuse,
+}
+
+// Two objects go by their keys if all of these are literals.
+fn objects_pairing(
+    nodes: &[u32],
+    children: &[u32],
+    numbers: &[u64],
+    names: &[u32],
+    strings: &[u8],
+    text: &[u8],
+    left: u32,
+    right: u32,
+) -> Pairing
+    requires { ⌜ ObjectsAsks (tables (now nodes) (now children) (now numbers) (now names) (now strings) (now text)) left right ⌝ }
+    ensures { λ r. ⌜ r ≡ pairingOf (shapeOf (expr (tables (now (nodes .entry)) (now (children .entry)) (now (numbers .entry)) (now (names .entry)) (now (strings .entry)) (now (text .entry))) left)) (shapeOf (expr (tables (now (nodes .entry)) (now (children .entry)) (now (numbers .entry)) (now (names .entry)) (now (strings .entry)) (now (text .entry))) right)) ⌝ }
+{
+    if !literal_keys(nodes, children, numbers, names, strings, text, left) {
+        return Pairing::Whole;
+    }
+    if !literal_keys(nodes, children, numbers, names, strings, text, right) {
+        return Pairing::Whole;
+    }
+    Pairing::ByKey
+}
+
+fn pairing_of(
+    nodes: &[u32],
+    children: &[u32],
+    numbers: &[u64],
+    names: &[u32],
+    strings: &[u8],
+    text: &[u8],
+    left: u32,
+    right: u32,
+) -> Pairing
+    requires { ⌜ GoodPair (tables (now nodes) (now children) (now numbers) (now names) (now strings) (now text)) left right ⌝ }
+    ensures { λ r. ⌜ r ≡ pairingOf (shapeOf (expr (tables (now (nodes .entry)) (now (children .entry)) (now (numbers .entry)) (now (names .entry)) (now (strings .entry)) (now (text .entry))) left)) (shapeOf (expr (tables (now (nodes .entry)) (now (children .entry)) (now (numbers .entry)) (now (names .entry)) (now (strings .entry)) (now (text .entry))) right)) ⌝ }
+{
+    let left_kind = kind_of(nodes, left);
+    let right_kind = kind_of(nodes, right);
+    if left_kind == 7 {
+        if right_kind == 7 {
+            return Pairing::Items;
+        }
+        if right_kind == 9 {
+            return Pairing::Opposed;
+        }
+        return Pairing::Whole;
+    }
+    if left_kind == 9 {
+        if right_kind == 7 {
+            return Pairing::Opposed;
+        }
+        if right_kind == 9 {
+            return objects_pairing(nodes, children, numbers, names, strings, text, left, right);
+        }
+        return Pairing::Whole;
+    }
+    Pairing::Whole
+}
+
+// Two sides as they are.
+fn judge_whole(one: bool, other: bool) -> Judgement
+    ensures { λ r. ⌜ r ≡ judgementOf one other Whole ⌝ }
+{
+    if one {
+        if other {
+            return Judgement::Refuse;
+        }
+        return Judgement::BindLeft;
+    }
+    if other {
+        return Judgement::BindRight;
+    }
+    Judgement::Compare
+}
+
+fn either(one: bool, other: bool) -> bool
+    ensures { λ r. ⌜ r ≡ (one || other) ⌝ }
+{
+    if one {
+        return true;
+    }
+    other
+}
+
+fn judge_sides(
+    nodes: &[u32],
+    children: &[u32],
+    numbers: &[u64],
+    names: &[u32],
+    strings: &[u8],
+    text: &[u8],
+    left: u32,
+    right: u32,
+    one: bool,
+    other: bool,
+) -> Judgement
+    requires { ⌜ GoodPair (tables (now nodes) (now children) (now numbers) (now names) (now strings) (now text)) left right ⌝ }
+    ensures { λ r. ⌜ r ≡ judgementOf one other (pairingOf (shapeOf (expr (tables (now (nodes .entry)) (now (children .entry)) (now (numbers .entry)) (now (names .entry)) (now (strings .entry)) (now (text .entry))) left)) (shapeOf (expr (tables (now (nodes .entry)) (now (children .entry)) (now (numbers .entry)) (now (names .entry)) (now (strings .entry)) (now (text .entry))) right))) ⌝ }
+{
+    if !either(one, other) {
+        return Judgement::Compare;
+    }
+    match pairing_of(nodes, children, numbers, names, strings, text, left, right) {
+        Pairing::Whole => return judge_whole(one, other),
+        Pairing::Items => return Judgement::Items,
+        Pairing::ByKey => return Judgement::ByKey,
+        Pairing::Opposed => return Judgement::Refuse,
+    }
+}
+
+// What becomes of two nodes, by the names that are known.
+pub(crate) fn judge(
+    nodes: &[u32],
+    children: &[u32],
+    numbers: &[u64],
+    names: &[u32],
+    strings: &[u8],
+    text: &[u8],
+    states: &[u8; 128],
+    left: u32,
+    right: u32,
+    binders: &mut [u32; 128],
+    scratch: &mut [u32; 2048],
+) -> Judgement
+    requires { ⌜ SidesAsks (tables (now nodes) (now children) (now numbers) (now names) (now strings) (now text)) (now states) left right ⌝ }
+    ensures { λ r. ⌜ Judges (tables (now (nodes .entry)) (now (children .entry)) (now (numbers .entry)) (now (names .entry)) (now (strings .entry)) (now (text .entry))) (now (states .entry)) left right r ⌝ }
+{
+    let sides = preview_sides(
+        nodes,
+        children,
+        numbers,
+        names,
+        strings,
+        text,
+        states,
+        left,
+        right,
+        binders,
+        scratch,
+    );
+    judge_sides(
+        nodes,
+        children,
+        numbers,
+        names,
+        strings,
+        text,
+        left,
+        right,
+        sides.left,
+        sides.right,
+    )
+}
