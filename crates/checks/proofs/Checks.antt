@@ -1,5 +1,5 @@
 -- The structure check by nodes: arrays item by item, objects field by field.
-use Prim.Native.Nat.{ℕ, zero, suc, _+_, _-_, _*_, _≤_, _<_}
+use Prim.Native.Nat.{ℕ, _+_, _-_, _*_, _≤_, _<_}
 use mathlib.Core.Path.{_≡_, refl, sym, ap, _∙_}
 use mathlib.Core.Bool.{Bool, true, false, cond}
 use mathlib.Core.List.{List, [], _∷_, map}
@@ -16,9 +16,9 @@ use types.Run.{OneOf}
 use denote.Enum.Declared.{tagOf}
 use Rattle.table.specs.Tables.{Tables, kindOf, firstOf, countOf, width, childAt}
 use Rattle.table.specs.Expr.{Expr, literal, name, wildcard, array, set, object, other, count}
-use Rattle.table.specs.Decode.{expr, items, fields, literalAt, isWildcard}
+use Rattle.table.specs.Decode.{expr, items, fields, literalAt, isWildcard, fieldsOf}
 use Rattle.table.specs.Sound.{Node, WellFormed}
-use Rattle.table.proofs.Trees.{expr-name, expr-array, expr-object, width-array, items-step, items-end, fields-step, fields-end, child-node}
+use Rattle.table.proofs.Trees.{expr-name, expr-array, expr-object, width-array, items-step, items-end, fields-step, fields-end, child-node, count-items}
 use Rattle.planner.specs.Layout.{Slot, FieldOrder, heldIn}
 use Rattle.planner.specs.Passes.{keyNode, valueNode}
 use Rattle.planner.specs.Ordering.{FieldsIn}
@@ -30,7 +30,7 @@ use Rattle.checks.specs.declared.LiteralStructureCheck.the-variants.{Mat
 use Rattle.checks.proofs.LiteralStructureCheck.{the-type}
 use Rattle.checks.specs.Structure.{andThen, held, partner, objectStructure, slotText, keyTexts, sortTexts, sameTexts, isEmpty}
 use Rattle.checks.specs.Post.{GoodPair}
-use Rattle.checks.specs.PatternStructure.{structureBy, structureByAll, structureByFields, sameSize, ItemsAsk, ObjectsAsk, fieldsOf, orderOfNode, patternsOf, KeysCompared, FieldsAsk, fieldsStructure, FieldAsks, fieldStructure, PartnerAsks, PartnerIs}
+use Rattle.checks.specs.PatternStructure.{structureBy, structureByAll, structureByFields, sameSize, ItemsAsk, ObjectsAsk, orderOfNode, patternsOf, KeysCompared, FieldsAsk, fieldsStructure, FieldAsks, fieldStructure, PartnerAsks, PartnerIs}
 use Rattle.checks.proofs.PatternObjects.{object-key, object-value, object-few, patterns-are}
 
 -- a part that does not match ends the check
@@ -121,11 +121,6 @@ module _ (T : Tables) (w : WellFormed T) (n : ℕ) (v : Node T n) where
       go true p b q = let i = eqb-true _ _ p in i ∙ (sym (shape-array i) ∙ e)
       go false p true q = let i = eqb-true _ _ q in i ∙ (sym (shape-object i) ∙ e)
       go false p false q = absurd (some (sym e ∙ shape-leaf (eqb-false _ _ p) (eqb-false _ _ q)))
-
-count-items : (g : ℕ → Expr) (ch : List ℕ) (at k : ℕ) → count (items g ch at k) ≡ k
-unfolding items count
-count-items g ch at zero = refl
-count-items g ch at (suc k) = let h = count-items g ch (at + 1) k in omega arith
 
 module _ {T : Tables} {pattern value : ℕ} (a : GoodPair T pattern value) {kind other-kind : ℕ} (is-kind : kind ≡ kindOf (T .nodes) value) (is-other : other-kind ≡ kindOf (T .nodes) pattern) where
   pub kinds-differ : (other-kind ≡ kind → ⊥) → Unknown ≡ structureBy (expr T value) (expr T pattern)

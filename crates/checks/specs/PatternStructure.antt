@@ -8,7 +8,7 @@ use lib.Dec.{eqb}
 use Rattle.table.specs.Tables.{Tables, kindOf, firstOf, countOf, childAt}
 use Rattle.table.specs.Expr.{Expr, literal, name, wildcard, array, set, object, other, Exprs, Fields, done, field, count}
 use Rattle.table.specs.Expr as Expr
-use Rattle.table.specs.Decode.{expr, items, fields, literalAt}
+use Rattle.table.specs.Decode.{expr, items, literalAt, fieldsOf}
 use Rattle.table.specs.Sound.{Node, WellFormed}
 use Rattle.checks.specs.declared.LiteralStructureCheck.{LiteralStructureCheck}
 use Rattle.checks.specs.declared.LiteralStructureCheck.the-variants.{Match, Unknown, ArrayMismatch}
@@ -69,10 +69,7 @@ pub record ObjectsAsk (T : Tables) (pattern value : ℕ) : Type 0 where
   pub pattern-object : kindOf (T .nodes) pattern ≡ 9
   pub value-object : kindOf (T .nodes) value ≡ 9
 
--- an object's fields, as written and in order
-abbrev pub fieldsOf : Tables → ℕ → Fields
-fieldsOf T n = fields (expr T) (T .children) (firstOf (T .nodes) n) (countOf (T .nodes) n)
-
+-- an object's fields in order
 abbrev pub orderOfNode : Tables → ℕ → FieldOrder ℕ
 orderOfNode T n = orderOf T (firstOf (T .nodes) n) (countOf (T .nodes) n)
 

@@ -10,7 +10,7 @@ use mir.Syntax.{w64}
 use borrow.Author.Tests.{eq-eqb, not-true, not-false}
 use Rattle.literal.specs.Literal.{Literal}
 use Rattle.table.specs.Tables.{Tables, kindOf, firstOf, countOf, childAt}
-use Rattle.table.specs.Decode.{expr, items, fields, literalAt}
+use Rattle.table.specs.Decode.{expr, items, fields, literalAt, fieldsOf}
 use Rattle.table.specs.Expr as Expr
 use Rattle.table.specs.Expr.{Expr, array, object, Fields, done, field}
 use Rattle.table.specs.Rules.{elem}
@@ -23,7 +23,7 @@ use Rattle.planner.specs.Plan.{arrayPlan, objectPlan}
 use Rattle.planner.specs.Simple.{addKey, keysOf}
 use Rattle.planner.proofs.Objects.{node-of}
 use Rattle.value.specs.Value.{Value, valueOf, valuesOf, valueFieldsOf, valueAt, under, within, sameKeys}
-use Rattle.value.specs.Post.{admitted, underFrom, underIn, fieldsOf, KeyedObject, KeySetsAsk, ValueNode}
+use Rattle.value.specs.Post.{admitted, underFrom, underIn, KeyedObject, KeySetsAsk, ValueNode}
 use Rattle.value.proofs.Keys.{is-true, true-is, within→}
 use Rattle.value.proofs.Admitted.{value-keys, array-item, object-value, array-children, object-children, value-node, keyed-object, value-admitted, admitted-value}
 use Rattle.value.proofs.Under.{Fielded, object-fielded, key-of, found-field, found-key, found-value, has-key-at, position-fits, position-key-fits, position-value-fits}

@@ -9,7 +9,7 @@ use borrow.Author.Tests.{eqb-true, eqb-false}
 use lib.Dec.{eqb}
 use Rattle.literal.specs.Literal.{Literal}
 use Rattle.table.specs.Tables.{Tables, kindOf, firstOf, countOf, childAt}
-use Rattle.table.specs.Decode.{expr, items, fields, isWildcard}
+use Rattle.table.specs.Decode.{expr, items, fields, isWildcard, fieldsOf}
 use Rattle.table.specs.Expr as Expr
 use Rattle.table.specs.Expr.{Expr, literal, name, wildcard, array, object, other, depth, depthAll, depthFields}
 use Rattle.table.specs.Rules.{elem}
@@ -19,7 +19,7 @@ use Rattle.table.proofs.Trees.{expr-name, expr-array, expr-object}
 use Rattle.planner.specs.Passes.{valueNode}
 use Rattle.planner.specs.Simple.{simple}
 use Rattle.planner.proofs.NodeKinds.{Plain, plain-literal, plain-set, plain-other, plain-kind}
-use Rattle.value.specs.Post.{admitted, fieldsOf}
+use Rattle.value.specs.Post.{admitted}
 use Rattle.value.proofs.Admitted.{admits-simple}
 use Rattle.matching.specs.Post.{visited, visitedAll, visitedFields}
 

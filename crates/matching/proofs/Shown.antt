@@ -11,19 +11,18 @@ use borrow.Author.Tests.{not-true}
 use lib.Dec.{eqb}
 use Rattle.literal.specs.Literal.{Literal}
 use Rattle.table.specs.Tables.{Tables, kindOf, firstOf, countOf, childAt}
-use Rattle.table.specs.Decode.{expr, items, fields}
+use Rattle.table.specs.Decode.{expr, items, fields, fieldsOf}
 use Rattle.table.specs.Expr as Expr
-use Rattle.table.specs.Expr.{Expr, literal, name, wildcard, array, object, other, Exprs, item, Fields, done, field, nodeOf, count}
+use Rattle.table.specs.Expr.{Expr, literal, name, wildcard, array, object, other, Exprs, item, Fields, done, field, nodeOf}
 use Rattle.table.specs.Rules.{elem}
 use Rattle.table.specs.Sound.{Node, WellFormed}
 use Rattle.table.proofs.Bools.{and-true}
 use Rattle.table.proofs.Lists.{elem-nil, elem-cons, elem-append}
-use Rattle.table.proofs.Trees.{child-node, width-array, width-object}
+use Rattle.table.proofs.Trees.{child-node, width-array, width-object, count-items}
 use Rattle.planner.specs.Plan.{var, equalityExpr, arrayPlan, objectPlan, itemPlan, fieldPlan, fresh, plan, plans, fieldPlans, after}
 use Rattle.planner.specs.Layout.{Entry, entry, literalKey, FieldOrder, noFields, addField, entries, entriesAll, fieldOrder}
 use Rattle.planner.specs.Passes.{binderOf, layOut, layOutAll, layOutFields}
 use Rattle.planner.specs.Simple.{sameKey, hasKey, differing, addKey, keysOf, isLiteral, simple, simpleAll, simpleFields}
-use Rattle.value.specs.Post.{fieldsOf}
 use Rattle.value.proofs.Admitted.{array-item, object-value}
 use Rattle.matching.specs.Post.{visited, visitedAll, visitedFields, entryKind, readPlan, readPlans, readFields}
 use Rattle.matching.proofs.Patterns.{PatternShape, pattern-literal, pattern-wildcard, pattern-name, pattern-array, pattern-object, pattern-shape, simple-admitted, admitted-simple}
@@ -44,11 +43,6 @@ pub record Truthful (T : Tables) (b : List ℕ) (e : Entry) : Type 0 where
   pub node-ok : Node T (e .node)
   pub kind-is : e .kind ≡ entryKind (bindsBy b (expr T (e .node))) (expr T (e .node))
   pub count-is : kindOf (T .nodes) (e .node) ≡ 7 → e .children ≡ countOf (T .nodes) (e .node)
-
-count-items : (g : ℕ → Expr) (ch : List ℕ) (at k : ℕ) → count (items g ch at k) ≡ k
-unfolding items count
-count-items g ch at zero = refl
-count-items g ch at (suc k) = let h = count-items g ch (at + 1) k in omega arith
 
 module _ (T : Tables) (w : WellFormed T) (b : List ℕ) where
   -- one entry, of a node that has none below it

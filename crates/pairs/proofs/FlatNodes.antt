@@ -1,5 +1,5 @@
 -- Two nodes of a table in pairs, answer by answer.
-use Prim.Native.Nat.{ℕ, zero, suc, _+_, _*_, _^_, _≤_, _<_}
+use Prim.Native.Nat.{ℕ, _+_, _*_, _^_, _≤_, _<_}
 use mathlib.Core.Path.{_≡_, refl, sym, ap, subst, _∙_}
 use mathlib.Core.Bool.{Bool, true, false, cond, _&&_, _||_}
 use mathlib.Core.List.{List, [], _∷_}
@@ -12,11 +12,11 @@ use Rattle.scope.specs.declared.Scope.{Scope}
 use Rattle.scope.specs.declared.ScopingMode.the-variants.{RespectParent}
 use Rattle.scope.specs.Scope.{isUnbound}
 use Rattle.table.specs.Tables.{Tables, kindOf, firstOf, countOf, width, childAt}
-use Rattle.table.specs.Expr.{Expr, count, countFields, parts}
+use Rattle.table.specs.Expr.{Expr, count, parts}
 use Rattle.table.specs.Expr as Expr
-use Rattle.table.specs.Decode.{expr, items, fields}
+use Rattle.table.specs.Decode.{expr, items, fieldsOf}
 use Rattle.table.specs.Sound.{Node, WellFormed}
-use Rattle.table.proofs.Trees.{expr-array, expr-object, width-array, child-node}
+use Rattle.table.proofs.Trees.{expr-array, expr-object, width-array, child-node, count-items, count-fields}
 use Rattle.table.proofs.Forest.{tree-few}
 use Rattle.planner.specs.declared.PlanAnswer.{PlanAnswer}
 use Rattle.planner.specs.declared.PlanAnswer.the-variants.{ArraySizeMismatch, ObjectFieldCountMismatch, ObjectKeyNotFound, IncompatibleDestructuringPatterns}
@@ -37,7 +37,7 @@ use Rattle.pairs.specs.declared.judge.Judgement.{Judgement}
 use Rattle.pairs.specs.declared.judge.Judgement.the-variants as Judged
 use Rattle.pairs.specs.declared.judge.Judgement.the-variants.{Compare, BindLeft, BindRight, Refuse}
 use Rattle.pairs.specs.Pairs.{pair, pairsEntries, Flat, failed, flatOutcome, single, shapeOf, allLiteral, distinctKeys, binds, side, flatten, flattenAll}
-use Rattle.pairs.specs.Post.{Scoped, pairingOf, fieldsOf, missingFrom, InOrder, LiteralNode, MissingAsks, Flattens, Came, sideFlat, nodesFlat, arraysFlat, objectsFlat, itemsFlat, fieldsFlat, mostOf, mostItems, BindAsks, SidesAsks, Judges, Compared, KeysAsks, KeysMatched, MatchedBy, ObjectFieldsAsks, FlattenAsks, ByKeyAsks, ArraysAsks, ItemsAsks}
+use Rattle.pairs.specs.Post.{Scoped, pairingOf, missingFrom, InOrder, LiteralNode, MissingAsks, Flattens, Came, sideFlat, nodesFlat, arraysFlat, objectsFlat, itemsFlat, fieldsFlat, mostOf, mostItems, BindAsks, SidesAsks, Judges, Compared, KeysAsks, KeysMatched, MatchedBy, ObjectFieldsAsks, FlattenAsks, ByKeyAsks, ArraysAsks, ItemsAsks}
 use Rattle.checks.specs.Post.{GoodPair}
 use Rattle.pairs.proofs.Seen.{scoped-start}
 use Rattle.planner.proofs.Copies.{wrote-delivered}
@@ -86,16 +86,6 @@ module _ (T : Tables) {left right : ℕ} (g : GoodPair T left right) where
   kinds-of p e = subst Kinds e pairing-kinds
 
 -- lists of a tree
-count-items : (g : ℕ → Expr) (ch : List ℕ) (at k : ℕ) → count (items g ch at k) ≡ k
-unfolding items count
-count-items g ch at zero = refl
-count-items g ch at (suc k) = let h = count-items g ch (at + 1) k in omega arith
-
-count-fields : (g : ℕ → Expr) (ch : List ℕ) (at k : ℕ) → countFields (fields g ch at k) ≡ k
-unfolding fields countFields
-count-fields g ch at zero = refl
-count-fields g ch at (suc k) = let h = count-fields g ch (at + 2) k in omega arith
-
 parts-some : (e : Expr) → 1 ≤ length (parts e)
 unfolding parts
 parts-some (Expr.literal n l) = omega arith

@@ -19,14 +19,14 @@ use Rattle.literal.specs.Order.{Order, less, same, more, keyOrder, compared, to
 use Rattle.literal.proofs.Orders.{key-order}
 use Rattle.table.specs.Names.{isSame}
 use Rattle.table.specs.Tables.{Tables, firstOf, countOf, childAt}
-use Rattle.table.specs.Decode.{literalAt}
+use Rattle.table.specs.Decode.{literalAt, fieldsOf}
 use Rattle.planner.specs.Layout.{Slot, heldIn, FieldOrder, inOrder}
 use Rattle.planner.specs.Passes.{fieldKey, orderOf}
 use Rattle.planner.proofs.FieldOrder.{all-at, Sorted, Keyed, Ordered, ordered-first, more-before, less-behind, same-before}
 use Rattle.planner.proofs.Objects.{AllBelow, order-below}
 use Rattle.checks.specs.Structure.{heldUnder}
 use Rattle.pairs.specs.Pairs.{distinctKeys}
-use Rattle.pairs.specs.Post.{fieldsOf, heldNode, partnerOf, InOrder, FindAsks}
+use Rattle.pairs.specs.Post.{heldNode, partnerOf, InOrder, FindAsks}
 use Rattle.pairs.proofs.Partners.{empty-nil, computed-empty, distinct-count, object-listed, partner-held}
 
 abbrev pub blank : Slot ℕ

@@ -13,10 +13,11 @@ use lib.Seq.{getD-set-other}
 use Rattle.table.specs.Tables.{Tables, kindOf, firstOf, countOf, childAt}
 use Rattle.table.specs.Rules.{allFrom}
 use Rattle.table.proofs.Scan.{Scan, scan-start, scan-on, scan-fails, scan-ends}
+use Rattle.table.specs.Decode.{fieldsOf}
 use Rattle.planner.specs.Layout.{Entry, bindsAny}
 use Rattle.planner.specs.Entries.{entryAt, readEntries}
 use Rattle.pairs.specs.Pairs.{allLiteral}
-use Rattle.pairs.specs.Post.{learntState, LearntAt, Learnt, fieldsOf, partnerOf, missingFrom, literalKind, ObjectAsks, FindAsks, MissingAsks, FieldAsks, FieldSides}
+use Rattle.pairs.specs.Post.{learntState, LearntAt, Learnt, partnerOf, missingFrom, literalKind, ObjectAsks, FindAsks, MissingAsks, FieldAsks, FieldSides}
 use Rattle.pairs.proofs.Partners.{object-listed, literal-keys}
 
 -- entries read back from a scratch

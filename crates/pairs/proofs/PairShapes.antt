@@ -7,7 +7,7 @@ use borrow.Author.Tests.{eqb-true, eqb-false, not-true, not-false}
 use lib.Dec.{eqb}
 use Rattle.table.specs.Tables.{Tables, kindOf, firstOf, countOf}
 use Rattle.table.specs.Expr.{Expr, literal, name, wildcard, array, set, object, other, Exprs, Fields, count, countFields}
-use Rattle.table.specs.Decode.{expr, items, isWildcard, namedBy}
+use Rattle.table.specs.Decode.{expr, items, isWildcard, namedBy, fieldsOf}
 use Rattle.table.specs.Sound.{Node, WellFormed}
 use Rattle.table.proofs.Bools.{never}
 use Rattle.table.proofs.Trees.{expr-name, expr-array, expr-object}
@@ -17,7 +17,7 @@ use Rattle.planner.proofs.NodeKinds.{Plain, plain-literal, plain-set, plain-oth
 use Rattle.checks.specs.Post.{GoodPair}
 use Rattle.pairs.specs.declared.judge.Pairing.the-variants.{Whole, Items, ByKey, Opposed}
 use Rattle.pairs.specs.Pairs.{pair, Flat, failed, paired, Shape, items as itemsShape, fields as fieldsShape, single, shapeOf, allLiteral, distinctKeys, checkKeys, binds, whole, arrays, objects, flatten, flattenAll, flattenFields}
-use Rattle.pairs.specs.Post.{pairingOf, fieldsOf, ObjectsAsks}
+use Rattle.pairs.specs.Post.{pairingOf, ObjectsAsks}
 
 module _ (T : Tables) (w : WellFormed T) (n : ℕ) (v : Node T n) where
   pub shape-items : kindOf (T .nodes) n ≡ 7 → shapeOf (expr T n) ≡ itemsShape n (items (expr T) (T .children) (firstOf (T .nodes) n) (countOf (T .nodes) n))

@@ -15,7 +15,7 @@ use Rattle.literal.specs.Order.{keyOrder}
 use Rattle.table.specs.Names.{isSame}
 use Rattle.table.specs.Tables.{Tables, kindOf, firstOf, countOf, width, childAt}
 use Rattle.table.specs.Expr.{Expr, nodeOf}
-use Rattle.table.specs.Decode.{expr, fields, literalAt, literalNode}
+use Rattle.table.specs.Decode.{expr, fields, literalAt, literalNode, fieldsOf}
 use Rattle.table.specs.Rules.{allFrom}
 use Rattle.table.specs.Sound.{Node, WellFormed}
 use Rattle.table.proofs.Scan.{all-at}
@@ -30,7 +30,7 @@ use Rattle.planner.proofs.Objects.{key-literal, node-of, AllBelow, order-below}
 use Rattle.checks.specs.Structure.{firstOr, heldUnder, isEmpty}
 use Rattle.pairs.specs.Pairs.{Flat, failed, allLiteral, distinctKeys, lastUnder, hasPartner, checkKeys}
 use Rattle.checks.specs.Structure.{valueOrder}
-use Rattle.pairs.specs.Post.{fieldsOf, heldNode, partnerOf, missingFrom, literalKind, ObjectAsks, LiteralNode}
+use Rattle.pairs.specs.Post.{heldNode, partnerOf, missingFrom, literalKind, ObjectAsks, LiteralNode}
 
 -- the child entries of an object
 module _ (T : Tables) {n : ℕ} (a : ObjectAsks T n) where

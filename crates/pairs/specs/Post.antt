@@ -9,8 +9,8 @@ use lib.Dec.{eqb, leb}
 use lib.ListN.{length, getD, replicate}
 use Rattle.literal.specs.Literal.{Literal}
 use Rattle.table.specs.Tables.{Tables, kindOf, firstOf, countOf, childAt}
-use Rattle.table.specs.Decode.{isWildcard, expr, items, fields, literalAt}
-use Rattle.table.specs.Expr.{parts, partsAll, partsFields, Fields}
+use Rattle.table.specs.Decode.{isWildcard, expr, items, fields, literalAt, fieldsOf}
+use Rattle.table.specs.Expr.{parts, partsAll, partsFields}
 use Rattle.table.specs.Sound.{Node, WellFormed}
 use Rattle.planner.specs.declared.PlanAnswer.the-variants.{ArraySizeMismatch, ObjectFieldCountMismatch}
 use Rattle.planner.specs.Plan.{fresh, plan, after}
@@ -97,10 +97,6 @@ pub record Judges (T : Tables) (states : List ℕ) (left right : ℕ) (r : Judge
   pub other : Bool
   pub sides : SidesTold T states left right one other
   pub is : r ≡ judgementOf one other (pairingOf (shapeOf (expr T left)) (shapeOf (expr T right)))
-
--- an object's fields, as a tree
-abbrev pub fieldsOf : Tables → ℕ → Fields
-fieldsOf T n = fields (expr T) (T .children) (firstOf (T .nodes) n) (countOf (T .nodes) n)
 
 -- the node of an object's last value under a literal, or 0
 abbrev pub heldNode : Tables → ℕ → Option ℕ → ℕ

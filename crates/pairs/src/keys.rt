@@ -1,8 +1,9 @@
 // The keys of two objects, held against each other.
 ghost use mathlib.Core.Path.{_≡_};
 ghost use Rattle.table.specs.Tables.{tables};
+ghost use Rattle.table.specs.Decode.{fieldsOf};
 ghost use Rattle.pairs.specs.Pairs.{allLiteral};
-ghost use Rattle.pairs.specs.Post.{fieldsOf, ObjectAsks, FindAsks, partnerOf, MissingAsks, missingFrom, KeysAsks, KeysMatched, FieldAsks, FieldSides};
+ghost use Rattle.pairs.specs.Post.{ObjectAsks, FindAsks, partnerOf, MissingAsks, missingFrom, KeysAsks, KeysMatched, FieldAsks, FieldSides};
 use literal::Comparison;
 use planner::PlanAnswer;
 use planner::fields::field_at;

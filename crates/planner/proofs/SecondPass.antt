@@ -1,5 +1,5 @@
 -- The second pass: entries by binders, in plan order.
-use Prim.Native.Nat.{ℕ, zero, suc, _+_, _-_, _*_, _^_, _≤_, _<_}
+use Prim.Native.Nat.{ℕ, suc, _+_, _-_, _*_, _^_, _≤_, _<_}
 use mathlib.Core.Path.{_≡_, refl, sym, ap, subst, _∙_}
 use mathlib.Core.List.{List, [], _∷_, _++_, append-assoc, append-nil}
 use mathlib.Core.Bool.{Bool, true, false}
@@ -10,10 +10,10 @@ use borrow.Author.Tests.{eq-eqb, ne-eqb, le-leb, lt-leb}
 use lib.Dec.{eqb}
 use lib.ListN.{length, getD, length-append}
 use Rattle.table.specs.Tables.{Tables, kindOf, firstOf, countOf, childAt}
-use Rattle.table.specs.Expr.{Expr, literal, name, wildcard, array, set, object, other, Exprs, count}
+use Rattle.table.specs.Expr.{Expr, literal, name, wildcard, array, set, object, other, Exprs}
 use Rattle.table.specs.Decode.{expr, items, isWildcard}
 use Rattle.table.specs.Sound.{Node}
-use Rattle.table.proofs.Trees.{expr-name, expr-array, items-step, items-end}
+use Rattle.table.proofs.Trees.{expr-name, expr-array, items-step, items-end, count-items}
 use Rattle.planner.specs.Layout.{Entry, entry}
 use Rattle.planner.specs.Passes.{nameKind, nameEntryKind, leafEntryKind, layOut, layOutAll, layOutItems, layOutOrdered, concatAt}
 use Rattle.planner.specs.Post.{NameNumber, Laid, PutAt, LayAsks, LayObjectAsks, LayItemsAsks, LayOrderedAsks}
@@ -37,11 +37,6 @@ leaf-low kind h = simp (le-leb kind 5 h)
 
 pub leaf-high : (kind : ℕ) → 5 < kind → 3 ≡ leafEntryKind kind
 leaf-high kind h = simp (lt-leb kind 5 h)
-
-count-items : (g : ℕ → Expr) (ch : List ℕ) (at k : ℕ) → count (items g ch at k) ≡ k
-unfolding items count
-count-items g ch at zero = refl
-count-items g ch at (suc k) = let h = count-items g ch (at + 1) k in omega arith
 
 lay-some : (b : List ℕ) (e : Expr) (key : ℕ) → 1 ≤ length (layOut b e key)
 unfolding layOut

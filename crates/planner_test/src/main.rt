@@ -7,6 +7,7 @@ use planner::parameters::create_parameter_binding_plan;
 use scope::Scope;
 use scope::ScopingMode;
 use table::TableAnswer;
+use table::refusal_number;
 ghost use mathlib.Core.Path.{_≡_};
 ghost use Prim.Native.Nat.{_<_};
 ghost use lib.ListN.{length};
@@ -211,13 +212,7 @@ fn print_row(a: u64, b: u64, c: u64, d: u64) {
 }
 
 fn refusal(answer: TableAnswer) -> u64 {
-    match answer {
-        TableAnswer::Sound => 0,
-        TableAnswer::OverLimit => 1,
-        TableAnswer::BreaksRules => 2,
-        TableAnswer::TooDeep => 3,
-        TableAnswer::EqualNames => 4,
-    }
+    refusal_number(answer) as u64
 }
 
 // The answer's line; how many entries follow.

@@ -2,13 +2,12 @@
 ghost use mathlib.Core.Path.{_≡_};
 ghost use lib.ListN.{getD};
 ghost use Rattle.table.specs.Tables.{tables};
-ghost use Rattle.table.specs.Check.{refusal};
 ghost use Rattle.run_entry.specs.Entry.{marksOf, scopeOf, scopingOf, answerNumber, RanTables};
 use run::RunAnswer;
 use run::run;
 use scope::Scope;
 use scope::ScopingMode;
-use table::TableAnswer;
+use table::refusal_number;
 
 fn mark_at(marks: &[u8], i: usize) -> u8
     ensures { λ r. ⌜ r ≡ getD (now (marks .entry)) i 0 ⌝ }
@@ -50,25 +49,13 @@ fn scoping_of(scoping: u32) -> ScopingMode
     ScopingMode::RespectParent
 }
 
-fn table_number(answer: TableAnswer) -> u32
-    ensures { λ r. ⌜ r ≡ refusal answer ⌝ }
-{
-    match answer {
-        TableAnswer::Sound => 0,
-        TableAnswer::OverLimit => 1,
-        TableAnswer::BreaksRules => 2,
-        TableAnswer::TooDeep => 3,
-        TableAnswer::EqualNames => 4,
-    }
-}
-
 fn answer_number(answer: RunAnswer) -> u32
     ensures { λ r. ⌜ r ≡ answerNumber answer ⌝ }
 {
     match answer {
         RunAnswer::Match => 0,
         RunAnswer::NoMatch => 100,
-        RunAnswer::TableRefused(refused) => table_number(refused),
+        RunAnswer::TableRefused(refused) => refusal_number(refused),
         RunAnswer::RootOutside => 5,
         RunAnswer::ListTooShort => 20,
         RunAnswer::PatternNotSimple => 21,

@@ -22,6 +22,7 @@ use run::run;
 use scope::Scope;
 use scope::ScopingMode;
 use table::TableAnswer;
+use table::refusal_number;
 ghost use Prim.Native.Nat.{_≤_};
 ghost use mathlib.Core.Path.{_≡_};
 ghost use lib.ListN.{length};
@@ -199,13 +200,7 @@ fn print_needed(needed: usize) {
 }
 
 fn number_of(answer: TableAnswer) -> u64 {
-    match answer {
-        TableAnswer::Sound => 0,
-        TableAnswer::OverLimit => 1,
-        TableAnswer::BreaksRules => 2,
-        TableAnswer::TooDeep => 3,
-        TableAnswer::EqualNames => 4,
-    }
+    refusal_number(answer) as u64
 }
 
 fn print_run(answer: RunAnswer) {

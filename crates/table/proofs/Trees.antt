@@ -9,9 +9,20 @@ use borrow.Author.Tests.{eqb-true, ne-eqb}
 use lib.Dec.{eqb}
 use Rattle.literal.specs.Literal.{Literal}
 use Rattle.table.specs.Tables.{Tables, kindOf, firstOf, countOf, width, widthOf, childAt}
-use Rattle.table.specs.Expr.{Expr, literal, array, set, object, other, Exprs, none, item, Fields, done, field}
+use Rattle.table.specs.Expr.{Expr, literal, array, set, object, other, Exprs, none, item, Fields, done, field, count, countFields}
 use Rattle.table.specs.Decode.{literalAt, items, fields, leafOf, namedBy, isWildcard, headed, exprAt, expr}
 use Rattle.table.specs.Sound.{Node, WellFormed}
+
+-- as many as were asked for
+pub count-items : (g : ℕ → Expr) (ch : List ℕ) (at k : ℕ) → count (items g ch at k) ≡ k
+unfolding items count
+count-items g ch at zero = refl
+count-items g ch at (suc k) = let h = count-items g ch (at + 1) k in omega arith
+
+pub count-fields : (g : ℕ → Expr) (ch : List ℕ) (at k : ℕ) → countFields (fields g ch at k) ≡ k
+unfolding fields countFields
+count-fields g ch at zero = refl
+count-fields g ch at (suc k) = let h = count-fields g ch (at + 2) k in omega arith
 
 -- two accounts of the nodes that agree at the children
 module _ (g h : ℕ → Expr) (ch : List ℕ) where

@@ -77,3 +77,7 @@ exprAt T (suc fuel) n =
 -- a child's number is below its parent's, so n levels are enough
 unfoldable pub expr : Tables → ℕ → Expr
 expr T n = exprAt T n n
+
+-- an object's fields, as written
+abbrev pub fieldsOf : Tables → ℕ → Fields
+fieldsOf T n = fields (expr T) (T .children) (firstOf (T .nodes) n) (countOf (T .nodes) n)

@@ -7,7 +7,7 @@ use rules::within_limits;
 use scope::Scope;
 ghost use mathlib.Core.Path.{_≡_};
 ghost use Rattle.table.specs.Tables.{tables};
-ghost use Rattle.table.specs.Check.{checked};
+ghost use Rattle.table.specs.Check.{checked, refusal};
 
 mod depth;
 mod marks;
@@ -22,6 +22,19 @@ pub enum TableAnswer {
     BreaksRules,
     TooDeep,
     EqualNames,
+}
+
+// The number of a refusal, 0 for a sound table.
+pub fn refusal_number(answer: TableAnswer) -> u32
+    ensures { λ r. ⌜ r ≡ refusal answer ⌝ }
+{
+    match answer {
+        TableAnswer::Sound => 0,
+        TableAnswer::OverLimit => 1,
+        TableAnswer::BreaksRules => 2,
+        TableAnswer::TooDeep => 3,
+        TableAnswer::EqualNames => 4,
+    }
 }
 
 // A key that is a literal, or one that is computed.

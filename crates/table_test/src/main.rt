@@ -2,6 +2,7 @@
 use libc::STDOUT_FILENO;
 use scope::Scope;
 use table::TableAnswer;
+use table::refusal_number;
 ghost use Prim.Native.Nat.{_≤_};
 
 const NODES: [[u32; 5]; 16] = [
@@ -112,13 +113,7 @@ fn value_of(code: u64) -> u64 {
 }
 
 fn number_of(answer: TableAnswer) -> u64 {
-    match answer {
-        TableAnswer::Sound => 0,
-        TableAnswer::OverLimit => 1,
-        TableAnswer::BreaksRules => 2,
-        TableAnswer::TooDeep => 3,
-        TableAnswer::EqualNames => 4,
-    }
+    refusal_number(answer) as u64
 }
 
 fn put_word(list: &mut [u32], here: bool, index: usize, value: u64) {

@@ -3,7 +3,6 @@ use Prim.Native.Nat.{ℕ, zero, suc, _+_, _-_, _*_, _≤_, _<_}
 use mathlib.Core.Path.{_≡_, refl, sym, ap, ap₂, _∙_}
 use mathlib.Core.List.{List}
 use mathlib.Core.Bool.{Bool, true, false, cond, _&&_, not, false≢true, and-false}
-use mathlib.Core.Option.{Option}
 use mathlib.Core.Option as Option
 use native.Mathlib.Omega.{arith}
 use mir.Val.{Fits}
@@ -15,7 +14,7 @@ use lib.Seq.{getD-set-same, getD-set-other}
 use Rattle.table.specs.Tables.{Tables, kindOf, firstOf, countOf, nodeCount, childAt}
 use Rattle.table.specs.Expr.{Expr, literal, name, wildcard}
 use Rattle.table.specs.Expr as Expr
-use Rattle.table.specs.Decode.{expr, items, fields, isWildcard}
+use Rattle.table.specs.Decode.{expr, items, fields, isWildcard, fieldsOf}
 use Rattle.table.specs.Sound.{Node, WellFormed}
 use Rattle.table.proofs.Bools.{and-true, told-no, told-yes}
 use Rattle.table.proofs.Trees.{expr-literal, expr-name, expr-array, expr-object, child-node, width-array, width-object}
@@ -23,7 +22,7 @@ use Rattle.planner.specs.Layout.{literalKey}
 use Rattle.planner.specs.Passes.{keyNode}
 use Rattle.planner.specs.Simple.{keysOf, isLiteral, differing}
 use Rattle.planner.proofs.NodeKinds.{Plain, plain-literal, plain-set, plain-other, plain-kind}
-use Rattle.value.specs.Post.{admitted, admittedAll, admittedFields, isMarked, markOf, itemsMarked, fieldsMarked, ChildrenAsks, MarkAsks, Marked, KeysAsks, fieldsOf}
+use Rattle.value.specs.Post.{admitted, admittedAll, admittedFields, isMarked, markOf, itemsMarked, fieldsMarked, ChildrenAsks, MarkAsks, Marked, KeysAsks}
 use Rattle.value.proofs.Admitted.{literal-kind, array-children, object-children}
 
 -- the first of the children, and the rest

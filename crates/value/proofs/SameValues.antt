@@ -12,7 +12,7 @@ use borrow.Author.Tests.{ne-eqb, eqb-true, eqb-false, not-true, not-false}
 use lib.Dec.{T as True, eqb}
 use Rattle.literal.specs.Literal.{Literal}
 use Rattle.table.specs.Tables.{Tables, kindOf, firstOf, countOf, childAt}
-use Rattle.table.specs.Decode.{expr, items, fields, isWildcard, literalAt}
+use Rattle.table.specs.Decode.{expr, items, fields, isWildcard, literalAt, fieldsOf}
 use Rattle.table.specs.Expr as Expr
 use Rattle.table.specs.Expr.{Expr, literal, name, wildcard, array, object, other}
 use Rattle.table.specs.Sound.{WellFormed}
@@ -23,7 +23,7 @@ use Rattle.planner.specs.Simple.{sameKey, hasKey, keysOf}
 use Rattle.planner.proofs.NodeKinds.{Plain, plain-literal, plain-set, plain-other, plain-kind}
 use Rattle.planner.proofs.Objects.{key-literal}
 use Rattle.value.specs.Value.{Value, literalᵛ, ValueFields, doneᵛ, fieldᵛ, isValue, filledField, valueOf, valuesOf, valueFieldsOf, valueAt, keysᵛ, firstOf as firstUnder, under, within, sameKeys, holds, same, sameItems, sameFields}
-use Rattle.value.specs.Post.{sameLiterals, underFrom, underIn, fieldsOf, KeyedObject, ValueNode, SameAsks, SameItemsAsks, SameFieldsAsks}
+use Rattle.value.specs.Post.{sameLiterals, underFrom, underIn, KeyedObject, ValueNode, SameAsks, SameItemsAsks, SameFieldsAsks}
 use Rattle.value.proofs.Keys.{and-left, and-right, both, is-true, is-false, true-is, sets-by-count, sets-uneven}
 use Rattle.value.proofs.Admitted.{value-keys, array-item, object-value, array-children, value-node, keyed-object, value-admitted, admitted-value}
 use Rattle.value.proofs.Under.{Fielded, object-fielded, keys-length, found-field, found-value, key-of, position-fits, position-key-fits, position-value-fits}

@@ -8,7 +8,7 @@ use lib.Dec.{eqb, leb}
 use lib.ListN.{length, getD}
 use Rattle.literal.specs.Literal.{Literal}
 use Rattle.table.specs.Tables.{Tables, kindOf, firstOf, countOf, childAt}
-use Rattle.table.specs.Decode.{expr, fields, literalAt}
+use Rattle.table.specs.Decode.{expr, literalAt, fieldsOf}
 use Rattle.table.specs.Sound.{Node, WellFormed}
 use Rattle.table.specs.Expr as Expr
 use Rattle.table.specs.Expr.{Expr, literal, name, wildcard, array, set, object, other, Exprs, item, Fields, done, field}
@@ -74,9 +74,6 @@ pub record Marked (T : Tables) (names : Bool) (marks : List ℕ) : Type 0 where
 pub record KeysAsks (T : Tables) (at left : ℕ) : Type 0 where
   pub children : ChildrenAsks T at 2 left
   pub literal : (i : ℕ) → i < left → kindOf (T .nodes) (keyNode T at i) ≤ 5
-
-abbrev pub fieldsOf : Tables → ℕ → Fields
-fieldsOf T n = fields (expr T) (T .children) (firstOf (T .nodes) n) (countOf (T .nodes) n)
 
 -- are two literals there, and equal?
 abbrev pub sameLiterals : Option Literal → Option Literal → Bool

@@ -1,9 +1,9 @@
 // Are two values equal? Fields in the same order are found at once.
 ghost use mathlib.Core.Path.{_≡_};
 ghost use Rattle.table.specs.Tables.{tables};
-ghost use Rattle.table.specs.Decode.{expr, items};
+ghost use Rattle.table.specs.Decode.{expr, items, fieldsOf};
 ghost use Rattle.value.specs.Value.{valueOf, valuesOf, valueFieldsOf, same, sameItems, sameFields};
-ghost use Rattle.value.specs.Post.{SameAsks, SameItemsAsks, SameFieldsAsks, fieldsOf};
+ghost use Rattle.value.specs.Post.{SameAsks, SameItemsAsks, SameFieldsAsks};
 use crate::fields::same_literals;
 use crate::fields::value_under;
 use table::reading::child_at;

@@ -1,10 +1,10 @@
 // The fields of an object by their keys.
 ghost use mathlib.Core.Path.{_≡_};
 ghost use Rattle.table.specs.Tables.{tables};
-ghost use Rattle.table.specs.Decode.{literalNode, literalAt};
+ghost use Rattle.table.specs.Decode.{literalNode, literalAt, fieldsOf};
 ghost use Rattle.planner.specs.Simple.{keysOf};
 ghost use Rattle.value.specs.Value.{sameKeys};
-ghost use Rattle.value.specs.Post.{sameLiterals, ChildrenAsks, underFrom, underIn, fieldsOf, KeyedObject, KeySetsAsk};
+ghost use Rattle.value.specs.Post.{sameLiterals, ChildrenAsks, underFrom, underIn, KeyedObject, KeySetsAsk};
 use literal::Comparison;
 use table::reading::child_at;
 use table::reading::compare_literals;
