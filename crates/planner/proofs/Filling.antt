@@ -6,7 +6,7 @@ use mathlib.Core.Bool.{Bool, true, false}
 use native.Mathlib.Omega.{arith}
 use borrow.Author.Tests.{eqb-true, eqb-false, le-leb, lt-leb, lt-ltb, le-ltb, ltb-true}
 use lib.Dec.{eqb, ltb}
-use lib.ListN.{length, getD, set, replicate, length-set, length-replicate}
+use lib.ListN.{length, getD, set, replicate, length-set, length-replicate, getD-replicate}
 use lib.Seq.{getD-set-same, getD-set-other, ext-getD}
 use Rattle.planner.specs.declared.PlanAnswer.the-variants.{Planned, PlanTooLarge}
 use Rattle.planner.specs.Post.{Copied, wordAt, tabulate, Delivered}
@@ -63,6 +63,11 @@ module _ {f : ℕ → ℕ} {size i : ℕ} {here : List ℕ} (go : Filling f size
       ext-getD 0 here (tabulate f 0 size) (long ∙ sym (length-tabulate f 0 size)) (λ k lt.
       let z : 0 + k ≡ k = omega arith in
       go .each k (omega arith) ∙ sym (getD-tabulate f 0 size k (omega arith) ∙ ap f z))
+
+pub zeros-end : {size i : ℕ} {here : List ℕ} → Filling (λ _. 0) size i here → length here ≤ i → here ≡ replicate size 0
+zeros-end {size} {i} {here} go done =
+    let long = go .long in
+    ext-getD 0 here (replicate size 0) (long ∙ sym (length-replicate size 0)) (λ k lt. go .each k (omega arith) ∙ sym (getD-replicate size k 0 0 (omega arith)))
 
 -- a word of the scratch
 module _ (scratch : List ℕ) (size i : ℕ) where
