@@ -1,6 +1,6 @@
 -- Line 1 and line 2, as the code tests them.
 use Prim.Native.Nat.{ℕ, _<_, _≤_}
-use mathlib.Core.Bool.{Bool, false, not, _&&_, and-false}
+use mathlib.Core.Bool.{Bool, true, false, not, _&&_, and-false, false≢true}
 use mathlib.Core.List.{List}
 use mathlib.Core.Path.{_≡_}
 use borrow.Author.Tests.{le-leb, lt-leb, leb-true}
@@ -11,7 +11,7 @@ use Rattle.sheet.specs.declared.layout.Counts.{Counts}
 use Rattle.sheet.specs.declared.operation.Operation.{Operation}
 use Rattle.sheet.specs.Lines.{numberAt}
 use Rattle.sheet.specs.Sheet.{countsOf, withinLimits, operationOf, operationOk}
-use Rattle.sheet.specs.Post.{Limited, countsIn}
+use Rattle.sheet.specs.Post.{Limited, Small, countsIn}
 
 -- limits
 module _ (c : Counts) where
@@ -56,6 +56,13 @@ module _ (c : Counts) where
         strings-few = leb-true (c .strings) 8192 (f .0);
         text-few = leb-true (c .text) 16384 (f .1);
       }
+
+  -- small tables
+  pub not-small : false ≡ true → Small c
+  not-small t = absurd (false≢true t)
+
+  pub small : c .children ≤ 64 → c .numbers ≤ 32 → leb (c .names) 16 ≡ true → Small c
+  small k m t = record { children-fit = k; numbers-fit = m; names-fit = leb-true (c .names) 16 t }
 
 -- line 2
 module _ (o : Operation) where

@@ -1,6 +1,6 @@
 -- A sheet, part by part: what of its layout is left to test, its tables, and its listing.
 use Prim.Native.Nat.{ℕ, zero, suc, _+_, _-_, _*_, _/_, _%_, _<_, _≤_}
-use mathlib.Core.Bool.{Bool, true, false, cond, not, _&&_, and-false}
+use mathlib.Core.Bool.{Bool, true, false, cond, not, _&&_, and-false, false≢true}
 use mathlib.Core.List.{List, _++_}
 use mathlib.Core.Path.{_≡_, refl, sym, ap, _∙_}
 use native.Mathlib.Omega.{arith}
@@ -20,8 +20,8 @@ use Rattle.sheet.specs.declared.operation.Operation.{Operation}
 use Rattle.sheet.specs.Lines.{numberAt, isLine, linesOk, numberLinesOk, wordAt, numberWord}
 use Rattle.sheet.specs.Sheet.{countsOf, withinLimits, namesPlace, stringsPlace, textPlace, endPlace, placesOf, operationOf, operationOk, markOk, marksOk, layoutOk, marksOf, sheetOf, unparsed, parsed, parse, parsedBy}
 use Rattle.sheet.specs.Listing.{operated, linesOf, linesBytes, listingOf, Printed}
-use Rattle.sheet.specs.Post.{Limited, Filled, Read, LinesAsked, NumbersAsked, nameWord, rowMark, rowMarkOk, NamesAsked, MarksAsked, Marked, MarksRead, countsIn, operationIn, refusalLine, laidListing, Headed, HalfRead, Tabled}
-use Rattle.sheet.proofs.LineTests.{filled-first, word-in-line}
+use Rattle.sheet.specs.Post.{Limited, Small, Filled, Read, LinesAsked, NodesAsked, NumbersAsked, nameWord, rowMark, rowMarkOk, NamesAsked, MarksAsked, Overlaid, MarksRead, countsIn, operationIn, refusalLine, laidListing, tablesLeft, Headed, NodesRead, TablesAsked, TablesRead, Tabled}
+use Rattle.sheet.proofs.LineTests.{filled-first, word-in-line, nodes-split}
 use Rattle.sheet.proofs.LayoutTests.{counts-read, operation-read}
 
 -- one line of six columns
@@ -100,37 +100,43 @@ module _ (sheet : List ℕ) (c : Counts) {p : Places} (is : p ≡ placesOf c) wh
             left = simp (eq-eqb (length sheet) (endPlace c) long, told-yes (one-line sheet 37 read) good, told-yes (rw operation-said at e) t);
           }
 
--- nodes and child entries
-module _ {sheet : List ℕ} {c : Counts} {o : Operation} {p : Places} (h : Headed sheet c o) (is : p ≡ placesOf c) where
+-- nodes
+module _ {sheet : List ℕ} {c : Counts} {o : Operation} (h : Headed sheet c o) where
   few : Limited c
   few = h .sized .limited
 
-  pub children-asked : (array : List ℕ) → length array ≡ 512 → LinesAsked (p .children) 1 (c .children) array
-  children-asked array long = rw is (record { lines = record { below = omega (arith, few) }; few = omega arith; room = omega (arith, few) })
+  pub nodes-asked : (array : List ℕ) → length array ≡ 320 → c .nodes ≤ 64 → LinesAsked 74 5 (c .nodes) array
+  nodes-asked array long le = record { lines = record { below = omega (arith, few) }; few = omega arith; room = omega arith }
 
   module _ {nodes : List ℕ} {n : Bool} (read : Read (wordAt sheet 74 31 5) (c .nodes * 5) (linesOk sheet 74 5 (c .nodes)) nodes n) where
     pub nodes-fail : not n ≡ true → false ≡ layoutOk sheet c
     nodes-fail t = rw (h .left, told-no (read .ok) t)
 
-    module _ (good : not n ≡ false) {children : List ℕ} {k : Bool} (read-2 : Read (wordAt sheet (p .children) 7 1) (c .children * 1) (linesOk sheet (p .children) 1 (c .children)) children k) where
-      pub children-fail : not k ≡ true → false ≡ layoutOk sheet c
-      children-fail t = rw (h .left, told-yes (read .ok) good, told-no (rw is at (read-2 .ok)) t)
+    pub nodes-read : not n ≡ false → c .nodes * 5 ≤ length nodes → NodesRead sheet c o (take (c .nodes * 5) nodes)
+    nodes-read good room = record {
+      sized = h .sized;
+      left = h .left ∙ rw (told-yes (read .ok) good);
+      nodes-are = filled-first (read .filled (not-false n good)) room;
+    }
 
-      pub half-read : not k ≡ false → length nodes ≡ 2560 → length children ≡ 512 → HalfRead sheet c o (take (c .nodes * 5) nodes) (take (c .children) children)
-      half-read t long long-2 =
-          let e : c .children * 1 ≡ c .children = omega arith in
-          record {
-            sized = h .sized;
-            left = h .left ∙ rw (told-yes (read .ok) good, told-yes (rw is at (read-2 .ok)) t);
-            nodes-are = filled-first (read .filled (not-false n good)) (omega (arith, few));
-            children-are = filled-first (rw (is, e) at (read-2 .filled (not-false k t))) (omega (arith, few));
-          }
+  -- the first 64
+  module _ (many : 64 < c .nodes) {first : List ℕ} {b : Bool} (read : Read (wordAt sheet 74 31 5) (64 * 5) (linesOk sheet 74 5 64) first b) where
+    pub first-fail : not b ≡ true → false ≡ layoutOk sheet c
+    first-fail t =
+        let n : 64 + (c .nodes - 64) ≡ c .nodes = omega arith in
+        rw (h .left, rw n at (nodes-split sheet (c .nodes - 64)), told-no (read .ok) t)
 
-  pub nodes-prefix : (array : List ℕ) → length array ≡ 2560 → c .nodes * 5 ≡ length (take (c .nodes * 5) array)
-  nodes-prefix array long = sym (length-take-le (c .nodes * 5) array (omega (arith, few)))
+    pub more-asked : not b ≡ false → (nodes : List ℕ) → length nodes ≡ 2560 → NodesAsked sheet (c .nodes) first nodes
+    more-asked good nodes long = record { many = many; few = few .nodes-few; room = long; good = told-yes (read .ok) good; held = read .filled (not-false b good) }
 
-  pub children-prefix : (array : List ℕ) → length array ≡ 512 → c .children ≡ length (take (c .children) array)
-  children-prefix array long = sym (length-take-le (c .children) array (omega (arith, few)))
+  pub nodes-inside : (array : List ℕ) → length array ≡ 2560 → c .nodes * 5 ≤ length array
+  nodes-inside array long = omega (arith, few)
+
+pub few-inside : (c : Counts) (array : List ℕ) → c .nodes ≤ 64 → length array ≡ 320 → c .nodes * 5 ≤ length array
+few-inside c array le long = omega arith
+
+pub prefix-long : (n : ℕ) (array : List ℕ) → n ≤ length array → n ≡ length (take n array)
+prefix-long n array le = sym (length-take-le n array le)
 
 -- the words of names and marks
 module _ (sheet : List ℕ) (at count : ℕ) {rows : List ℕ} (words : Filled (wordAt sheet at 19 3) (count * 3) rows) where
@@ -158,95 +164,134 @@ module _ (sheet : List ℕ) (at count : ℕ) {rows : List ℕ} (words : Filled (
       go from zero le = refl
       go from (suc k) le = rw (mark-word from (omega arith), go (from + 1) k (omega arith))
 
-  marks-all : count ≤ 128 → {marks : List ℕ} → Marked rows count (replicate 128 0) marks → marks ≡ tabulate (wordAt sheet (at + 12) 19 1) 0 count ++ replicate (128 - count) 0
-  marks-all few {marks} m = ext-getD 0 marks (first ++ rest) long each
-    where
-      first : List ℕ
-      first = tabulate (wordAt sheet (at + 12) 19 1) 0 count
+  marks-words : {before marks : List ℕ} → Overlaid (rowMark rows) count before marks → Overlaid (wordAt sheet (at + 12) 19 1) count before marks
+  marks-words m = record { long = m .long; first = record { each = λ k lt. m .first .each k lt ∙ mark-word k lt }; rest = m .rest }
 
-      rest : List ℕ
-      rest = replicate (128 - count) 0
+-- the marks of a scope
+marks-all : (f : ℕ → ℕ) (count : ℕ) → count ≤ 128 → {marks : List ℕ} → Overlaid f count (replicate 128 0) marks → marks ≡ tabulate f 0 count ++ replicate (128 - count) 0
+marks-all f count few {marks} m = ext-getD 0 marks (first ++ rest) long each
+  where
+    first : List ℕ
+    first = tabulate f 0 count
 
-      first-long : length first ≡ count
-      first-long = length-tabulate (wordAt sheet (at + 12) 19 1) 0 count
+    rest : List ℕ
+    rest = replicate (128 - count) 0
 
-      long : length marks ≡ length (first ++ rest)
-      long = m .long ∙ sym (length-append first rest ∙ omega (arith, first-long, length-replicate {A = ℕ} (128 - count) 0))
+    first-long : length first ≡ count
+    first-long = length-tabulate f 0 count
 
-      at-k : (k : ℕ) → k < 128 → (b : Bool) → ltb k count ≡ b → getD marks k 0 ≡ getD (first ++ rest) k 0
-      at-k k lt true q =
-          let inside = ltb-true k count q in
-          let z : 0 + k ≡ k = omega arith in
-          m .first k inside ∙ (mark-word k inside
-          ∙ sym (List·getD-append first rest 0 k (omega (arith, first-long)) ∙ (getD-tabulate (wordAt sheet (at + 12) 19 1) 0 count k inside ∙ ap (wordAt sheet (at + 12) 19 1) z)))
-      at-k k lt false q =
-          let past = ltb-false k count q in
-          let f = first-long in
-          let split : length first + (k - count) ≡ k = omega arith in
-          m .rest k past ∙ (getD-replicate 128 k 0 0 lt
-          ∙ sym (ap (λ (j : ℕ). getD (first ++ rest) j 0) (sym split) ∙ (getD-append-add first rest (k - count) 0 ∙ getD-replicate (128 - count) (k - count) 0 0 (omega arith))))
+    long : length marks ≡ length (first ++ rest)
+    long = m .long ∙ sym (length-append first rest ∙ omega (arith, first-long, length-replicate {A = ℕ} (128 - count) 0))
 
-      each : (k : ℕ) → k < length marks → getD marks k 0 ≡ getD (first ++ rest) k 0
-      each k lt = at-k k (omega (arith, m .long, length-replicate {A = ℕ} 128 0)) (ltb k count) refl
+    at-k : (k : ℕ) → k < 128 → (b : Bool) → ltb k count ≡ b → getD marks k 0 ≡ getD (first ++ rest) k 0
+    at-k k lt true q =
+        let inside = ltb-true k count q in
+        let z : 0 + k ≡ k = omega arith in
+        m .first .each k inside
+        ∙ sym (List·getD-append first rest 0 k (omega (arith, first-long)) ∙ (getD-tabulate f 0 count k inside ∙ ap f z))
+    at-k k lt false q =
+        let past = ltb-false k count q in
+        let l = first-long in
+        let split : length first + (k - count) ≡ k = omega arith in
+        m .rest k past ∙ (getD-replicate 128 k 0 0 lt
+        ∙ sym (ap (λ (j : ℕ). getD (first ++ rest) j 0) (sym split) ∙ (getD-append-add first rest (k - count) 0 ∙ getD-replicate (128 - count) (k - count) 0 0 (omega arith))))
 
--- numbers and names
-module _ {sheet : List ℕ} {c : Counts} {o : Operation} {nodes children : List ℕ} {p : Places} (h : HalfRead sheet c o nodes children) (is : p ≡ placesOf c) where
-  half-few : Limited c
-  half-few = h .sized .limited
+    each : (k : ℕ) → k < length marks → getD marks k 0 ≡ getD (first ++ rest) k 0
+    each k lt = at-k k (omega (arith, m .long, length-replicate {A = ℕ} 128 0)) (ltb k count) refl
 
-  pub numbers-asked : (array : List ℕ) → length array ≡ 512 → NumbersAsked (p .numbers) (c .numbers) array
-  numbers-asked array long = rw is (record { lines = record { below = omega (arith, half-few) }; room = omega (arith, half-few) })
+-- the tables after the nodes
+module _ {c : Counts} {children numbers names : List ℕ} (asked : TablesAsked c children numbers names) {p : Places} (is : p ≡ placesOf c) where
+  pub children-asked : LinesAsked (p .children) 1 (c .children) children
+  children-asked = rw is (record { lines = record { below = omega (arith, asked) }; few = omega arith; room = omega (arith, asked) })
 
-  pub rows-asked : (array : List ℕ) → length array ≡ 384 → LinesAsked (p .names) 3 (c .names) array
-  rows-asked array long = rw is (record { lines = record { below = omega (arith, half-few) }; few = omega arith; room = omega (arith, half-few) })
+  pub numbers-asked : NumbersAsked (p .numbers) (c .numbers) numbers
+  numbers-asked = rw is (record { lines = record { below = omega (arith, asked) }; room = asked .numbers-room })
 
-  pub marks-asked : (rows marks : List ℕ) → length rows ≡ 384 → length marks ≡ 128 → MarksAsked rows (c .names) marks
-  marks-asked rows marks long long-2 = record { few = half-few .names-few; there = omega (arith, half-few); room = omega (arith, half-few) }
+  pub rows-asked : LinesAsked (p .names) 3 (c .names) names
+  rows-asked = rw is (record { lines = record { below = omega (arith, asked) }; few = omega arith; room = asked .names-room })
 
-  pub names-asked : (rows names : List ℕ) → length rows ≡ 384 → length names ≡ 256 → NamesAsked rows (c .names) names
-  names-asked rows names long long-2 = record { few = half-few .names-few; there = omega (arith, half-few); room = omega (arith, half-few) }
+  module _ {rows : List ℕ} (long : length rows ≡ length names) where
+    pub marks-asked : (marks : List ℕ) → length marks ≡ 128 → MarksAsked rows (c .names) marks
+    marks-asked marks long-2 = record { few = asked .limited .names-few; there = omega (arith, asked); room = omega (arith, asked) }
 
-  pub numbers-room : (array : List ℕ) → length array ≡ 512 → c .numbers * 2 ≤ length array
-  numbers-room array long = omega (arith, half-few)
+    pub names-asked : NamesAsked rows (c .names)
+    names-asked = record { few = asked .limited .names-few; there = omega (arith, asked) }
 
-  pub names-room : (array : List ℕ) → length array ≡ 256 → c .names * 2 ≤ length array
-  names-room array long = omega (arith, half-few)
+pub tables-unread : {sheet : List ℕ} {c : Counts} (children numbers names before marks : List ℕ) → false ≡ tablesLeft sheet c → TablesRead sheet c children numbers names before marks false
+tables-unread children numbers names before marks e = record { ok = e; held = λ t. absurd (false≢true t) }
 
-  pub numbers-prefix : (array : List ℕ) → length array ≡ 512 → c .numbers * 2 ≡ length (take (c .numbers * 2) array)
-  numbers-prefix array long = sym (length-take-le (c .numbers * 2) array (omega (arith, half-few)))
+module _ (sheet : List ℕ) (c : Counts) {p : Places} (is : p ≡ placesOf c) {children : List ℕ} {k : Bool} (read : Read (wordAt sheet (p .children) 7 1) (c .children * 1) (linesOk sheet (p .children) 1 (c .children)) children k) where
+  pub children-fail : not k ≡ true → false ≡ tablesLeft sheet c
+  children-fail t = rw (told-no (rw is at (read .ok)) t)
 
-  pub names-prefix : (array : List ℕ) → length array ≡ 256 → c .names * 2 ≡ length (take (c .names * 2) array)
-  names-prefix array long = sym (length-take-le (c .names * 2) array (omega (arith, half-few)))
+  module _ (good : not k ≡ false) {numbers : List ℕ} {n : Bool} (read-2 : Read (numberWord sheet (p .numbers)) (c .numbers * 2) (numberLinesOk sheet (p .numbers) (c .numbers)) numbers n) where
+    pub numbers-fail : not n ≡ true → false ≡ tablesLeft sheet c
+    numbers-fail t = rw (told-yes (rw is at (read .ok)) good, told-no (rw is at (read-2 .ok)) t)
 
-  module _ {numbers : List ℕ} {n : Bool} (read : Read (numberWord sheet (p .numbers)) (c .numbers * 2) (numberLinesOk sheet (p .numbers) (c .numbers)) numbers n) where
-    pub numbers-fail : not n ≡ true → false ≡ layoutOk sheet c
-    numbers-fail t = rw (h .left, told-no (rw is at (read .ok)) t)
+    module _ (good-2 : not n ≡ false) {rows : List ℕ} {l : Bool} (read-3 : Read (wordAt sheet (p .names) 19 3) (c .names * 3) (linesOk sheet (p .names) 3 (c .names)) rows l) where
+      pub rows-fail : not l ≡ true → false ≡ tablesLeft sheet c
+      rows-fail t = rw (told-yes (rw is at (read .ok)) good, told-yes (rw is at (read-2 .ok)) good-2, told-no (rw is at (read-3 .ok)) t)
 
-    module _ (good : not n ≡ false) {rows : List ℕ} {k : Bool} (read-2 : Read (wordAt sheet (p .names) 19 3) (c .names * 3) (linesOk sheet (p .names) 3 (c .names)) rows k) where
-      pub rows-fail : not k ≡ true → false ≡ layoutOk sheet c
-      rows-fail t = rw (h .left, told-yes (rw is at (read .ok)) good, told-no (rw is at (read-2 .ok)) t)
-
-      module _ (good-2 : not k ≡ false) {marks : List ℕ} {m : Bool} (read-3 : MarksRead rows (c .names) (replicate 128 0) marks m) where
+      module _ (good-3 : not l ≡ false) {before marks : List ℕ} {m : Bool} (read-4 : MarksRead rows (c .names) before marks m) where
         rows-are : Filled (wordAt sheet (namesPlace c) 19 3) (c .names * 3) rows
-        rows-are = rw is at (read-2 .filled (not-false k good-2))
+        rows-are = rw is at (read-3 .filled (not-false l good-3))
 
         marks-say : m ≡ marksOk sheet (namesPlace c) (c .names)
-        marks-say = read-3 .ok ∙ marks-tested sheet (namesPlace c) (c .names) rows-are
+        marks-say = read-4 .ok ∙ marks-tested sheet (namesPlace c) (c .names) rows-are
 
-        pub marks-fail : not m ≡ true → false ≡ layoutOk sheet c
-        marks-fail t = rw (h .left, told-yes (rw is at (read .ok)) good, told-yes (rw is at (read-2 .ok)) good-2, told-no marks-say t)
+        pub marks-fail : not m ≡ true → false ≡ tablesLeft sheet c
+        marks-fail t = rw (told-yes (rw is at (read .ok)) good, told-yes (rw is at (read-2 .ok)) good-2, told-yes (rw is at (read-3 .ok)) good-3, told-no marks-say t)
 
-        pub tabled : not m ≡ false → {names : List ℕ} → Filled (nameWord rows) (c .names * 2) names → length numbers ≡ 512 → length names ≡ 256
-            → Tabled sheet c o nodes children (take (c .numbers * 2) numbers) (take (c .names * 2) names) marks
-        tabled t {names} words long long-2 = record {
-          sized = h .sized;
-          layout = h .left ∙ rw (told-yes (rw is at (read .ok)) good, told-yes (rw is at (read-2 .ok)) good-2, told-yes marks-say t);
-          nodes-are = h .nodes-are;
-          children-are = h .children-are;
-          numbers-are = filled-first (rw is at (read .filled (not-false n good))) (omega (arith, half-few));
-          names-are = filled-first (names-words sheet (namesPlace c) (c .names) rows-are words) (omega (arith, half-few));
-          marks-are = marks-all sheet (namesPlace c) (c .names) rows-are (half-few .names-few) (read-3 .marked (not-false m t));
-        }
+        pub tables-read : not m ≡ false → {names : List ℕ} → Filled (nameWord rows) (c .names * 2) names → TablesRead sheet c children numbers names before marks true
+        tables-read t {names} words =
+            let e : c .children * 1 ≡ c .children = omega arith in
+            record {
+              ok = rw (told-yes (rw is at (read .ok)) good, told-yes (rw is at (read-2 .ok)) good-2, told-yes (rw is at (read-3 .ok)) good-3, told-yes marks-say t);
+              held = λ _. record {
+                children-filled = rw (is, e) at (read .filled (not-false k good));
+                numbers-filled = rw is at (read-2 .filled (not-false n good-2));
+                names-filled = names-words sheet (namesPlace c) (c .names) rows-are words;
+                marked = marks-words sheet (namesPlace c) (c .names) rows-are (read-4 .marked (not-false m t));
+              };
+            }
+
+-- and their space
+pub small-asked : {c : Counts} → Limited c → {b : Bool} → (b ≡ true → Small c) → b ≡ true → (children numbers names : List ℕ) → length children ≡ 64 → length numbers ≡ 64 → length names ≡ 48 → TablesAsked c children numbers names
+small-asked limits small t children numbers names k m x =
+    let s = small t in
+    record { limited = limits; children-room = omega (arith, s); numbers-room = omega (arith, s); names-room = omega (arith, s) }
+
+pub large-asked : {c : Counts} → Limited c → (children numbers names : List ℕ) → length children ≡ 512 → length numbers ≡ 512 → length names ≡ 384 → TablesAsked c children numbers names
+large-asked limits children numbers names k m x =
+    record { limited = limits; children-room = omega (arith, limits); numbers-room = omega (arith, limits); names-room = omega (arith, limits) }
+
+module _ {c : Counts} {children numbers names : List ℕ} (asked : TablesAsked c children numbers names) (after : List ℕ) where
+  pub children-inside : length after ≡ length children → c .children ≤ length after
+  children-inside long = omega (arith, asked)
+
+  pub numbers-inside : length after ≡ length numbers → c .numbers * 2 ≤ length after
+  numbers-inside long = omega (arith, asked)
+
+  pub names-inside : length after ≡ length names → c .names * 2 ≤ length after
+  names-inside long = omega (arith, asked)
+
+module _ {sheet : List ℕ} {c : Counts} {o : Operation} {nodes : List ℕ} (h : NodesRead sheet c o nodes) {children numbers names marks : List ℕ} {r : Bool} (read : TablesRead sheet c children numbers names (replicate 128 0) marks r) where
+  pub tables-fail : not r ≡ true → false ≡ layoutOk sheet c
+  tables-fail t = rw (h .left, told-no (read .ok) t)
+
+  pub tabled : not r ≡ false → c .children ≤ length children → c .numbers * 2 ≤ length numbers → c .names * 2 ≤ length names
+      → Tabled sheet c o nodes (take (c .children) children) (take (c .numbers * 2) numbers) (take (c .names * 2) names) marks
+  tabled t k m x =
+      let held = read .held (not-false r t) in
+      record {
+        sized = h .sized;
+        layout = h .left ∙ told-yes (read .ok) t;
+        nodes-are = h .nodes-are;
+        children-are = filled-first (held .children-filled) k;
+        numbers-are = filled-first (held .numbers-filled) m;
+        names-are = filled-first (held .names-filled) x;
+        marks-are = marks-all (wordAt sheet (namesPlace c + 12) 19 1) (c .names) (h .sized .limited .names-few) (held .marked);
+      }
 
 -- the strings, the text and the scope
 module _ {sheet : List ℕ} {c : Counts} {o : Operation} {nodes children numbers names marks : List ℕ} {p : Places} (t : Tabled sheet c o nodes children numbers names marks) (is : p ≡ placesOf c) where

@@ -29,10 +29,19 @@ pub record Limited (c : Counts) : Type 0 where
   pub strings-few : c .strings ≤ 8192
   pub text-few : c .text ≤ 16384
 
+-- counts for which small arrays have room
+pub record Small (c : Counts) : Type 0 where
+  pub children-fit : c .children ≤ 64
+  pub numbers-fit : c .numbers ≤ 32
+  pub names-fit : c .names ≤ 16
+
 -- what was read of a column, into word w
 pub record WordRead (sheet : List ℕ) (at w : ℕ) (before after : List ℕ) (r : Bool) : Type 0 where
   pub ok : r ≡ isReadable (columnAt sheet at)
   pub stored : r ≡ true → after ≡ set before w (numberAt sheet at)
+
+abbrev pub wordIn : List ℕ → ℕ → ℕ
+wordIn array k = getD array k 0
 
 -- the first words of an array
 pub record Filled (f : ℕ → ℕ) (count : ℕ) (array : List ℕ) : Type 0 where
@@ -53,6 +62,14 @@ pub record LineAsked (sheet : List ℕ) (at columns i : ℕ) (out : List ℕ) : 
   pub asked : LinesAsked at columns (i + 1) out
   pub before : Filled (wordAt sheet at (lineLength columns) columns) (i * columns) out
 
+-- more than 64 lines of nodes, of which the first are good and their words held
+pub record NodesAsked (sheet : List ℕ) (count : ℕ) (first out : List ℕ) : Type 0 where
+  pub many : 64 < count
+  pub few : count ≤ 512
+  pub room : length out ≡ 2560
+  pub good : linesOk sheet 74 5 64 ≡ true
+  pub held : Filled (wordAt sheet 74 31 5) 320 first
+
 pub record NumbersAsked (at count : ℕ) (out : List ℕ) : Type 0 where
   pub lines : Inside at 21 count
   pub room : count * 2 ≤ length out
@@ -71,25 +88,24 @@ rowMark rows x = getD rows (x * 3 + 2) 0
 abbrev pub rowMarkOk : List ℕ → ℕ → Bool
 rowMarkOk rows x = leb (rowMark rows x) 31
 
-pub record NamesAsked (rows : List ℕ) (count : ℕ) (names : List ℕ) : Type 0 where
+pub record NamesAsked (rows : List ℕ) (count : ℕ) : Type 0 where
   pub few : count ≤ 128
   pub there : count * 3 ≤ length rows
-  pub room : count * 2 ≤ length names
 
 pub record MarksAsked (rows : List ℕ) (count : ℕ) (marks : List ℕ) : Type 0 where
   pub few : count ≤ 128
   pub there : count * 3 ≤ length rows
   pub room : count ≤ length marks
 
--- the marks of the names, and what was there after them
-pub record Marked (rows : List ℕ) (count : ℕ) (before after : List ℕ) : Type 0 where
+-- the first words of an array by a function, the rest as they were
+pub record Overlaid (f : ℕ → ℕ) (count : ℕ) (before after : List ℕ) : Type 0 where
   pub long : length after ≡ length before
-  pub first : (x : ℕ) → x < count → getD after x 0 ≡ rowMark rows x
+  pub first : Filled f count after
   pub rest : (x : ℕ) → count ≤ x → getD after x 0 ≡ getD before x 0
 
 pub record MarksRead (rows : List ℕ) (count : ℕ) (before after : List ℕ) (r : Bool) : Type 0 where
   pub ok : r ≡ allFrom (rowMarkOk rows) 0 count
-  pub marked : r ≡ true → Marked rows count before after
+  pub marked : r ≡ true → Overlaid (rowMark rows) count before after
 
 -- line 1 and line 2, by their words
 abbrev pub countsIn : List ℕ → Counts
@@ -144,16 +160,16 @@ refusalLine number = linesBytes (line number 0 0 0 ∷ [])
 abbrev pub laidListing : List ℕ → Counts → List ℕ
 laidListing sheet c = linesBytes (linesOfSheet (cond (layoutOk sheet c) (parsed (sheetOf sheet c)) (unparsed 7)))
 
--- the tests of the layout that are left after line 2, and after the child entries
-abbrev pub namesLeft : List ℕ → Counts → Bool
-namesLeft sheet c =
-    numberLinesOk sheet (numbersPlace c) (c .numbers)
+-- the tests of the layout that are left after the nodes, and after line 2
+abbrev pub tablesLeft : List ℕ → Counts → Bool
+tablesLeft sheet c =
+    linesOk sheet (childrenPlace c) 1 (c .children)
+    && (numberLinesOk sheet (numbersPlace c) (c .numbers)
     && (linesOk sheet (namesPlace c) 3 (c .names)
-    && marksOk sheet (namesPlace c) (c .names))
+    && marksOk sheet (namesPlace c) (c .names)))
 
 abbrev pub nodesLeft : List ℕ → Counts → Bool
-nodesLeft sheet c =
-    linesOk sheet 74 5 (c .nodes) && (linesOk sheet (childrenPlace c) 1 (c .children) && namesLeft sheet c)
+nodesLeft sheet c = linesOk sheet 74 5 (c .nodes) && tablesLeft sheet c
 
 -- a sheet of the length that line 1 says, with a good line 2
 pub record Sized (sheet : List ℕ) (c : Counts) (o : Operation) : Type 0 where
@@ -165,12 +181,28 @@ pub record Headed (sheet : List ℕ) (c : Counts) (o : Operation) : Type 0 where
   pub sized : Sized sheet c o
   pub left : layoutOk sheet c ≡ nodesLeft sheet c
 
--- and the first two tables in arrays
-pub record HalfRead (sheet : List ℕ) (c : Counts) (o : Operation) (nodes children : List ℕ) : Type 0 where
+-- and the nodes in an array
+pub record NodesRead (sheet : List ℕ) (c : Counts) (o : Operation) (nodes : List ℕ) : Type 0 where
   pub sized : Sized sheet c o
-  pub left : layoutOk sheet c ≡ namesLeft sheet c
+  pub left : layoutOk sheet c ≡ tablesLeft sheet c
   pub nodes-are : nodes ≡ nodesOf sheet c
-  pub children-are : children ≡ childrenOf sheet c
+
+-- the other tables: the space for them, and what was read into it
+pub record TablesAsked (c : Counts) (children numbers names : List ℕ) : Type 0 where
+  pub limited : Limited c
+  pub children-room : c .children ≤ length children
+  pub numbers-room : c .numbers * 2 ≤ length numbers
+  pub names-room : c .names * 3 ≤ length names
+
+pub record TablesHeld (sheet : List ℕ) (c : Counts) (children numbers names before marks : List ℕ) : Type 0 where
+  pub children-filled : Filled (wordAt sheet (childrenPlace c) 7 1) (c .children) children
+  pub numbers-filled : Filled (numberWord sheet (numbersPlace c)) (c .numbers * 2) numbers
+  pub names-filled : Filled (wordAt sheet (namesPlace c) 19 2) (c .names * 2) names
+  pub marked : Overlaid (wordAt sheet (namesPlace c + 12) 19 1) (c .names) before marks
+
+pub record TablesRead (sheet : List ℕ) (c : Counts) (children numbers names before marks : List ℕ) (r : Bool) : Type 0 where
+  pub ok : r ≡ tablesLeft sheet c
+  pub held : r ≡ true → TablesHeld sheet c children numbers names before marks
 
 -- and all tables, with the marks
 pub record Tabled (sheet : List ℕ) (c : Counts) (o : Operation) (nodes children numbers names marks : List ℕ) : Type 0 where

@@ -1,7 +1,8 @@
 // Line 1, and the places of the parts.
 ghost use mathlib.Core.Path.{_≡_};
+ghost use mathlib.Core.Bool.{true};
 ghost use Rattle.sheet.specs.Sheet.{withinLimits, placesOf};
-ghost use Rattle.sheet.specs.Post.{countsIn, Limited};
+ghost use Rattle.sheet.specs.Post.{countsIn, Limited, Small};
 
 // What line 1 says.
 pub(crate) struct Counts {
@@ -61,6 +62,19 @@ pub(crate) fn within_limits(counts: Counts) -> bool
         return false;
     }
     counts.text <= 16384
+}
+
+// Whether the tables after the nodes are small: then clearing large arrays would take longer than reading them.
+pub(crate) fn is_small(counts: Counts) -> bool
+    ensures { λ r. ⌜ (r ≡ true → Small counts) ⌝ }
+{
+    if 64 < counts.children {
+        return false;
+    }
+    if 32 < counts.numbers {
+        return false;
+    }
+    counts.names <= 16
 }
 
 pub(crate) fn places_of(counts: Counts) -> Places

@@ -6,22 +6,25 @@ mod names;
 mod operation;
 
 ghost use mathlib.Core.Path.{_≡_};
+ghost use Prim.Native.Nat.{_<_};
 ghost use lib.ListN.{length};
 ghost use Rattle.table.specs.Tables.{tables};
 ghost use Rattle.planner.specs.Answer.{line};
 ghost use Rattle.sheet.specs.Listing.{operated, linesOf, linesBytes, listingOf, Printed};
-ghost use Rattle.sheet.specs.Post.{refusalLine, Limited, laidListing, Headed, HalfRead, Tabled};
+ghost use Rattle.sheet.specs.Post.{refusalLine, Limited, laidListing, Headed, NodesRead, TablesAsked, TablesRead, Tabled};
 use layout::Counts;
 use layout::counts_of;
+use layout::is_small;
 use layout::places_of;
 use layout::within_limits;
 use lines::read_lines;
+use lines::read_nodes_on;
 use lines::read_numbers;
 use listing::row_from;
 use listing::row_of;
 use listing::write_lines;
+use names::close_up;
 use names::fill_marks;
-use names::fill_names;
 use operation::Operation;
 use operation::operate;
 use operation::operation_of;
@@ -163,41 +166,61 @@ fn plan_tables(
     )
 }
 
-// The numbers and the names of a sheet.
-fn plan_names(
+// The tables after the nodes, into space for them. Whether their layout is good.
+fn read_tables(
+    sheet: &[u8],
+    counts: Counts,
+    children: &mut [u32],
+    numbers: &mut [u64],
+    names: &mut [u32],
+    marks: &mut [u8; 128],
+) -> bool
+    requires { ⌜ TablesAsked counts (now children) (now numbers) (now names) ⌝ }
+    ensures { λ r. ⌜ TablesRead (now (sheet .entry)) counts (now (children .exit)) (now (numbers .exit)) (now (names .exit)) (now (marks .entry)) (now (marks .exit)) r ⌝ }
+{
+    let places = places_of(counts);
+    if !read_lines(sheet, places.children, 1, counts.children, children) {
+        return false;
+    }
+    if !read_numbers(sheet, places.numbers, counts.numbers, numbers) {
+        return false;
+    }
+    if !read_lines(sheet, places.names, 3, counts.names, names) {
+        return false;
+    }
+    if !fill_marks(names, counts.names, marks) {
+        return false;
+    }
+    close_up(names, counts.names);
+    true
+}
+
+fn plan_read(
     sheet: &[u8],
     counts: Counts,
     operation: Operation,
     nodes: &[u32],
-    children: &[u32],
+    children: &mut [u32],
+    numbers: &mut [u64],
+    names: &mut [u32],
     out: &mut [u8],
 ) -> usize
-    requires { ⌜ HalfRead (now sheet) counts operation (now nodes) (now children) ⌝ }
+    requires { ⌜ NodesRead (now sheet) counts operation (now nodes) × TablesAsked counts (now children) (now numbers) (now names) ⌝ }
     ensures { λ r. ⌜ Printed (laidListing (now (sheet .entry)) counts) (now (out .entry)) (now (out .exit)) r ⌝ }
 {
-    let places = places_of(counts);
+    let child_words = counts.children;
     let number_words = counts.numbers * 2;
     let name_words = counts.names * 2;
-    let mut numbers = [0u64; 512];
-    if !read_numbers(sheet, places.numbers, counts.numbers, &mut numbers) {
-        return refuse(7, out);
-    }
-    let mut rows = [0u32; 384];
-    if !read_lines(sheet, places.names, 3, counts.names, &mut rows) {
-        return refuse(7, out);
-    }
     let mut marks = [0u8; 128];
-    if !fill_marks(&rows, counts.names, &mut marks) {
+    if !read_tables(sheet, counts, children, numbers, names, &mut marks) {
         return refuse(7, out);
     }
-    let mut names = [0u32; 256];
-    fill_names(&rows, counts.names, &mut names);
     plan_tables(
         sheet,
         counts,
         operation,
         nodes,
-        children,
+        &children[..child_words],
         &numbers[..number_words],
         &names[..name_words],
         marks,
@@ -205,30 +228,78 @@ fn plan_names(
     )
 }
 
-// The nodes and the child entries of a sheet.
+// A sheet whose nodes are read: arrays for the other tables.
+fn plan_sized(
+    sheet: &[u8],
+    counts: Counts,
+    operation: Operation,
+    nodes: &[u32],
+    out: &mut [u8],
+) -> usize
+    requires { ⌜ NodesRead (now sheet) counts operation (now nodes) ⌝ }
+    ensures { λ r. ⌜ Printed (laidListing (now (sheet .entry)) counts) (now (out .entry)) (now (out .exit)) r ⌝ }
+{
+    if is_small(counts) {
+        let mut children = [0u32; 64];
+        let mut numbers = [0u64; 64];
+        let mut names = [0u32; 48];
+        return plan_read(
+            sheet,
+            counts,
+            operation,
+            nodes,
+            &mut children,
+            &mut numbers,
+            &mut names,
+            out,
+        );
+    }
+    let mut children = [0u32; 512];
+    let mut numbers = [0u64; 512];
+    let mut names = [0u32; 384];
+    plan_read(
+        sheet,
+        counts,
+        operation,
+        nodes,
+        &mut children,
+        &mut numbers,
+        &mut names,
+        out,
+    )
+}
+
+// More than 64 nodes: the first are read before space for all is cleared.
+fn plan_many(sheet: &[u8], counts: Counts, operation: Operation, out: &mut [u8]) -> usize
+    requires { ⌜ Headed (now sheet) counts operation × (64 < counts .nodes) ⌝ }
+    ensures { λ r. ⌜ Printed (laidListing (now (sheet .entry)) counts) (now (out .entry)) (now (out .exit)) r ⌝ }
+{
+    let node_words = counts.nodes * 5;
+    let mut first = [0u32; 320];
+    if !read_lines(sheet, 74, 5, 64, &mut first) {
+        return refuse(7, out);
+    }
+    let mut nodes = [0u32; 2560];
+    if !read_nodes_on(sheet, counts.nodes, &first, &mut nodes) {
+        return refuse(7, out);
+    }
+    plan_sized(sheet, counts, operation, &nodes[..node_words], out)
+}
+
+// A sheet with a good line 2.
 fn plan_nodes(sheet: &[u8], counts: Counts, operation: Operation, out: &mut [u8]) -> usize
     requires { ⌜ Headed (now sheet) counts operation ⌝ }
     ensures { λ r. ⌜ Printed (laidListing (now (sheet .entry)) counts) (now (out .entry)) (now (out .exit)) r ⌝ }
 {
-    let places = places_of(counts);
+    if 64 < counts.nodes {
+        return plan_many(sheet, counts, operation, out);
+    }
     let node_words = counts.nodes * 5;
-    let child_words = counts.children;
-    let mut nodes = [0u32; 2560];
+    let mut nodes = [0u32; 320];
     if !read_lines(sheet, 74, 5, counts.nodes, &mut nodes) {
         return refuse(7, out);
     }
-    let mut children = [0u32; 512];
-    if !read_lines(sheet, places.children, 1, child_words, &mut children) {
-        return refuse(7, out);
-    }
-    plan_names(
-        sheet,
-        counts,
-        operation,
-        &nodes[..node_words],
-        &children[..child_words],
-        out,
-    )
+    plan_sized(sheet, counts, operation, &nodes[..node_words], out)
 }
 
 // A sheet whose line 1 keeps the limits.

@@ -1,9 +1,9 @@
 // Lines of columns of six, and of one column of twenty, read into arrays.
 ghost use mathlib.Core.Path.{_≡_};
-ghost use Prim.Native.Nat.{_+_, _*_, _<_};
+ghost use Prim.Native.Nat.{_+_, _*_, _<_, _≤_};
 ghost use lib.ListN.{length};
 ghost use Rattle.sheet.specs.Lines.{isLineFeed, lineLength, lineOk, linesOk, numberLineOk, numberLinesOk, wordAt, numberWord};
-ghost use Rattle.sheet.specs.Post.{WordRead, LineAsked, LinesAsked, NumberAsked, NumbersAsked, Read};
+ghost use Rattle.sheet.specs.Post.{Filled, wordIn, WordRead, LineAsked, LinesAsked, NodesAsked, NumberAsked, NumbersAsked, Read};
 use columns::Column;
 use columns::SignedColumn;
 use columns::read_column;
@@ -67,6 +67,26 @@ pub(crate) fn read_lines(
         i += 1;
     }
     true
+}
+
+fn copy_words(from: &[u32; 320], out: &mut [u32])
+    requires { ⌜ 320 ≤ length (now out) ⌝ }
+    ensures { λ _. ⌜ Filled (wordIn (now (from .entry))) 320 (now (out .exit)) ⌝ }
+{
+    let mut w: usize = 0;
+    while w < 320 {
+        out[w] = from[w];
+        w += 1;
+    }
+}
+
+// The nodes' lines after the first 64, whose words are copied.
+pub(crate) fn read_nodes_on(sheet: &[u8], count: usize, first: &[u32; 320], out: &mut [u32]) -> bool
+    requires { ⌜ NodesAsked (now sheet) count (now first) (now out) ⌝ }
+    ensures { λ r. ⌜ Read (wordAt (now (sheet .entry)) 74 31 5) (count * 5) (linesOk (now (sheet .entry)) 74 5 count) (now (out .exit)) r ⌝ }
+{
+    copy_words(first, out);
+    read_lines(sheet, 2058, 5, count - 64, &mut out[320..])
 }
 
 // Line i: a column of twenty, then LF. Its words are 1 for below zero or 0, and the size.

@@ -2,14 +2,15 @@
 ghost use Prim.Native.Nat.{_*_};
 ghost use Rattle.sheet.specs.Post.{Filled, nameWord, NamesAsked, MarksAsked, MarksRead};
 
-pub(crate) fn fill_names(rows: &[u32], count: usize, names: &mut [u32])
-    requires { ⌜ NamesAsked (now rows) count (now names) ⌝ }
-    ensures { λ _. ⌜ Filled (nameWord (now (rows .entry))) (count * 2) (now (names .exit)) ⌝ }
+// Starts and lengths, with the marks between them left out.
+pub(crate) fn close_up(rows: &mut [u32], count: usize)
+    requires { ⌜ NamesAsked (now rows) count ⌝ }
+    ensures { λ _. ⌜ Filled (nameWord (now (rows .entry))) (count * 2) (now (rows .exit)) ⌝ }
 {
     let words = count * 2;
     let mut w: usize = 0;
     while w < words {
-        names[w] = rows[w / 2 * 3 + w % 2];
+        rows[w] = rows[w / 2 * 3 + w % 2];
         w += 1;
     }
 }

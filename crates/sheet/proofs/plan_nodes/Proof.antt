@@ -1,4 +1,4 @@
-use Rattle.sheet.proofs.Parsing.{laid-broken, children-asked, nodes-fail, children-fail, half-read, nodes-prefix, children-prefix}
+use Rattle.sheet.proofs.Parsing.{laid-broken, nodes-asked, nodes-fail, nodes-read, few-inside, prefix-long}
 use borrow.Author.Needs.{needs}
 use Rattle.sheet.proofs.plan_nodes.Statement.{statement}
 use Rattle.sheet.proofs.plan_nodes.Tie as tie
@@ -10,22 +10,14 @@ plan-nodes-spec =
     (λ c κs. search needs)
     (λ c. search needs)
     (λ c. search needs)
-    (λ c κs. search needs)
+    (λ c. search needs)
+    (λ c. search needs)
+    (λ c κs. search (nodes-asked, needs))
     (λ c κs. search needs)
     (λ c. search needs)
     (λ c. search (laid-broken, nodes-fail, needs))
     (λ c. search needs)
-    (λ c κs. search (children-asked, needs))
-    (λ c κs. search needs)
-    (λ c. search needs)
-    (λ c. search (laid-broken, children-fail, needs))
-    (λ c. search needs)
-    (λ c. search (nodes-prefix, needs))
-    (λ c. search needs)
-    (λ c. search (children-prefix, needs))
-    (λ c κs.
-    let second = c .before .before .before .before .before in
-    let first = second .before .before .before .before in
-    search (half-read, first .before .before .before .places-of .ensures, first .read-lines .ensures, second .before .before .if1 .left, second .read-lines2 .ensures, c .before .before .before .if2 .left, needs))
+    (λ c. search (prefix-long, few-inside, needs))
+    (λ c κs. nodes-read (search needs) (c .before .before .before .before .read-lines .ensures) (search needs) (search (few-inside, needs)))
     (λ c. search needs)
     (λ c. search needs))

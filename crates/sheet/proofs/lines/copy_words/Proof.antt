@@ -1,0 +1,29 @@
+use Prim.Native.Nat.{_-_}
+use Rattle.sheet.specs.Post.{wordIn, Overlaid}
+use Rattle.sheet.proofs.NameWords.{overlaid-none, overlaid-on, overlaid-first, overlaid-room}
+use borrow.Author.Needs.{needs}
+use Rattle.sheet.proofs.lines.copy_words.Statement.{statement}
+use Rattle.sheet.proofs.lines.copy_words.Tie as tie
+
+abbrev Inv-loop : tie.InvT-loop
+Inv-loop from out₀ w₀ out w = Overlaid (wordIn from) w out₀ out
+
+abbrev μ-loop : tie.MeasureT-loop
+μ-loop from out₀ w₀ out w = 320 - w
+
+pub copy-words-spec : {M : Type 1} → statement M
+copy-words-spec =
+    tie.close
+    (tie.spec
+    Inv-loop
+    μ-loop
+    (λ c. search (overlaid-none, needs))
+    (λ c. search needs)
+    (λ c. search needs)
+    (λ c. search needs)
+    (λ c. search (overlaid-room, needs))
+    (λ c. search needs)
+    (λ c. search needs)
+    (λ c. search (overlaid-on, overlaid-room, needs))
+    (λ c. search needs)
+    (λ c. search (overlaid-first, needs)))
