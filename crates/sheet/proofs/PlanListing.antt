@@ -136,19 +136,3 @@ module _ (o : Operation) (T : Tables) (s : Scope) {blank plan : List ℕ} {a : P
 
   pub operation-small : {before after : List ℕ} {r : ℕ} → Printed (linesBytes (answerLines first plan)) before after r → Printed (linesBytes (linesOf (operated o T s))) before after r
   operation-small p = rw (← small-listed .lines, ← is) p
-
--- a refusal of the sheet itself
-module _ {first : Line} {n : ℕ} (is : first ≡ line n 0 0 0) (plan : List ℕ) where
-  no-entries : entriesIn first ≡ 0
-  no-entries = rw is (go (eqb n 0))
-    where
-      go : (b : Bool) → _≡_ {A = ℕ} (cond b 0 0) 0
-      go true = refl
-      go false = refl
-
-  pub refusal-held : entriesIn first * 4 ≤ length plan
-  refusal-held = omega (arith, no-entries)
-
-  pub refusal-listed : {before after : List ℕ} {r : ℕ} → Printed (linesBytes (answerLines first plan)) before after r → Printed (refusalLine n) before after r
-  unfolding readEntries
-  refusal-listed p = rw (no-entries, is) at p

@@ -9,9 +9,8 @@ ghost use mathlib.Core.Path.{_≡_};
 ghost use Prim.Native.Nat.{_<_};
 ghost use lib.ListN.{length};
 ghost use Rattle.table.specs.Tables.{tables};
-ghost use Rattle.planner.specs.Answer.{line};
 ghost use Rattle.sheet.specs.Listing.{operated, linesOf, linesBytes, listingOf, Printed};
-ghost use Rattle.sheet.specs.Post.{refusalLine, Limited, laidListing, Headed, NodesRead, TablesAsked, TablesRead, Tabled};
+ghost use Rattle.sheet.specs.Post.{Limited, laidListing, Headed, NodesRead, TablesAsked, TablesRead, Tabled};
 use layout::Counts;
 use layout::counts_of;
 use layout::is_small;
@@ -20,7 +19,7 @@ use layout::within_limits;
 use lines::read_lines;
 use lines::read_nodes_on;
 use lines::read_numbers;
-use listing::row_from;
+use listing::refuse;
 use listing::row_of;
 use listing::write_lines;
 use names::close_up;
@@ -121,12 +120,6 @@ fn plan_listed(
         );
     }
     write_lines(out, first, &plan)
-}
-
-fn refuse(number: u64, out: &mut [u8]) -> usize
-    ensures { λ r. ⌜ Printed (refusalLine number) (now (out .entry)) (now (out .exit)) r ⌝ }
-{
-    write_lines(out, row_from(number, 0, 0, 0), &[])
 }
 
 // A sheet of good layout, whose tables and marks stand in arrays.

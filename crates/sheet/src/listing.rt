@@ -7,7 +7,7 @@ ghost use Rattle.planner.specs.Answer.{lineOf, line};
 ghost use Rattle.planner.specs.Entries.{entryAt};
 ghost use Rattle.columns.specs.Columns.{stored};
 ghost use Rattle.sheet.specs.Listing.{entryLine, lineBytes, linesBytes, Printed};
-ghost use Rattle.sheet.specs.Post.{rowLine, writePair, entriesIn, entryLines, answerLines, EntriesAsked};
+ghost use Rattle.sheet.specs.Post.{rowLine, writePair, entriesIn, entryLines, answerLines, EntriesAsked, refusalLine};
 use columns::write_column;
 use planner::PlanAnswer;
 use table::TableAnswer;
@@ -20,7 +20,7 @@ pub(crate) struct Row {
     pub fourth: u64,
 }
 
-pub(crate) fn row_from(number: u64, second: u64, third: u64, fourth: u64) -> Row
+fn row_from(number: u64, second: u64, third: u64, fourth: u64) -> Row
     ensures { λ r. ⌜ rowLine r ≡ line number second third fourth ⌝ }
 {
     Row {
@@ -161,4 +161,28 @@ pub(crate) fn write_lines(out: &mut [u8], first: Row, plan: &[u32]) -> usize
     write_row(out, 0, first);
     write_entries(out, plan, count);
     count * 25 + 25
+}
+
+fn copy_bytes(from: &[u8], out: &mut [u8])
+    requires { ⌜ length (now out) ≡ length (now from) ⌝ }
+    ensures { λ _. ⌜ now (out .exit) ≡ now (from .entry) ⌝ }
+{
+    let mut i: usize = 0;
+    while i < out.len() {
+        out[i] = from[i];
+        i += 1;
+    }
+}
+
+// A refusal that has no place and no counts: a line of its number and three zeros.
+pub(crate) fn refuse(number: u64, out: &mut [u8]) -> usize
+    ensures { λ r. ⌜ Printed (refusalLine number) (now (out .entry)) (now (out .exit)) r ⌝ }
+{
+    clear(out);
+    if out.len() < 25 {
+        return 0;
+    }
+    write_column(out, 0, number);
+    copy_bytes(b"     0     0     0\n", &mut out[6..25]);
+    25
 }
