@@ -2,7 +2,6 @@
 ghost use mathlib.Core.Path.{_≡_};
 ghost use Prim.Native.Nat.{_+_, _*_, _≤_};
 ghost use lib.ListN.{length, getD, replicate};
-ghost use Rattle.table.specs.Check.{refusal};
 ghost use Rattle.planner.specs.Answer.{lineOf, line};
 ghost use Rattle.planner.specs.Entries.{entryAt};
 ghost use Rattle.columns.specs.Columns.{stored};
@@ -10,7 +9,7 @@ ghost use Rattle.sheet.specs.Listing.{entryLine, lineBytes, linesBytes, 
 ghost use Rattle.sheet.specs.Post.{rowLine, writePair, entriesIn, entryLines, answerLines, EntriesAsked, refusalLine};
 use columns::write_column;
 use planner::PlanAnswer;
-use table::TableAnswer;
+use table::refusal_number;
 
 // The numbers of a line.
 pub(crate) struct Row {
@@ -31,18 +30,6 @@ fn row_from(number: u64, second: u64, third: u64, fourth: u64) -> Row
     }
 }
 
-fn table_refusal(answer: TableAnswer) -> u64
-    ensures { λ r. ⌜ r ≡ refusal answer ⌝ }
-{
-    match answer {
-        TableAnswer::Sound => 0,
-        TableAnswer::OverLimit => 1,
-        TableAnswer::BreaksRules => 2,
-        TableAnswer::TooDeep => 3,
-        TableAnswer::EqualNames => 4,
-    }
-}
-
 pub(crate) fn row_of(answer: PlanAnswer) -> Row
     ensures { λ r. ⌜ rowLine r ≡ lineOf answer ⌝ }
 {
@@ -52,7 +39,7 @@ pub(crate) fn row_of(answer: PlanAnswer) -> Row
             side,
             entries,
         } => row_from(0, form as u64, side as u64, entries as u64),
-        PlanAnswer::TableRefused(refused) => row_from(table_refusal(refused), 0, 0, 0),
+        PlanAnswer::TableRefused(refused) => row_from(refusal_number(refused) as u64, 0, 0, 0),
         PlanAnswer::RootOutside => row_from(5, 0, 0, 0),
         PlanAnswer::PlanTooLarge { needed } => row_from(6, 0, needed as u64, 0),
         PlanAnswer::ColonEqualsRequiresBindableLeft { left } => row_from(11, left as u64, 0, 0),

@@ -1,0 +1,52 @@
+"""Tests of mistakes.py."""
+
+import pathlib
+import tempfile
+import unittest
+
+import mistakes
+
+EDIT = "mistake: swapped in keys::order, same: the other way round\nfile: src/keys.rt\nold: a\nnew: b\n"
+FACT = "/x/proofs/keys/order/Proof.antt:8:11: error: `order-spec`: `search`: no proof of `Post` was found\n"
+CYCLE = "/x/proofs/keys/+first+order+second/Proof.antt:8:11: error: `order-returns`: `search`: no proof of `Post`\n"
+SHAPE = "/x/proofs/keys/order/Proof.antt:9:1: error: `order-spec`: `mul` is not a name\n"
+AUTOMATIC = "fn c::same: no proof: expected `same-spec` in /x/proofs/same/Proof.antt; `search` does not close `returns`\n"
+
+
+class Mistakes(unittest.TestCase):
+    def test_names_and_functions(self):
+        self.assertEqual(mistakes.mistakes(EDIT), [("swapped", ["keys::order", "same"])])
+
+    def test_refused_for_a_fact(self):
+        for error in (FACT, CYCLE):
+            log = error + "fn c::keys::order: not proved\n"
+            self.assertIsNone(mistakes.fault(log, "c", "keys::order"))
+        self.assertIsNone(mistakes.fault(AUTOMATIC, "c", "same"))
+
+    def test_not_refused_by_itself(self):
+        calls = "fn c::keys::order: not proved; it calls `c::same`, which is not proved\n"
+        self.assertIn("it calls", mistakes.fault(FACT + calls, "c", "keys::order"))
+        self.assertEqual(mistakes.fault("fn c::same: proved\n", "c", "same"), "proved")
+        self.assertIn("nothing", mistakes.fault("", "c", "same"))
+
+    def test_refused_for_its_shape(self):
+        log = SHAPE + FACT + "fn c::keys::order: not proved\n"
+        self.assertIn("not a name", mistakes.fault(log, "c", "keys::order"))
+
+    def test_whole_repository(self):
+        with tempfile.TemporaryDirectory() as folder:
+            root = pathlib.Path(folder)
+            (root / "crates/c/must-fail").mkdir(parents=True)
+            self.assertEqual(mistakes.main(root), 1)
+            edit = root / "crates/c/must-fail/first.edit"
+            edit.write_text(EDIT)
+            self.assertEqual(len(mistakes.faults(root, edit)[0]), 2)
+            (root / "target/must-fail/c/first").mkdir(parents=True)
+            log = root / "target/must-fail/c/first/.log"
+            log.write_text(FACT + "fn c::keys::order: not proved\n" + AUTOMATIC)
+            self.assertEqual(mistakes.faults(root, edit), ([], 1))
+            self.assertEqual(mistakes.main(root), 0)
+
+
+if __name__ == "__main__":
+    unittest.main()
