@@ -7,7 +7,7 @@ An edit (crates/NAME/must-fail/*.edit) holds several mistakes, each under a line
 
 `rt must-fail` asks only that the crate with the whole edit is refused. This reads
 what the prover said of each function: it must be refused by itself, not because
-it calls another one that is, and for a fact for which no proof was found.
+it calls another one that is, and for a fact: none is found, or another is given.
 """
 
 import pathlib
@@ -15,7 +15,8 @@ import re
 import sys
 
 MISTAKE = re.compile(r"^mistake: (\w+) in ([\w:, ]+?): ", re.MULTILINE)
-NO_FACT = re.compile(r"`search`: no proof of")
+# No proof is found, or the fact that the proof gives is not the one that is asked for.
+NO_FACT = re.compile(r"`search`: no proof of|the two types differ only where")
 UNCLOSED = re.compile(r"no proof: expected `[^`]*` in [^;]*; `search` does not close ")
 
 
