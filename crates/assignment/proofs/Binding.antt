@@ -10,7 +10,7 @@ use Rattle.planner.specs.declared.PlanAnswer.{PlanAnswer}
 use Rattle.planner.specs.declared.PlanAnswer.the-variants.{ArrayLengthMismatch, ObjectLiteralKeysMismatch, IncompatibleDestructuringPatterns}
 use Rattle.planner.specs.Layout.{Entry}
 use Rattle.planner.specs.Operations.{planned, Answered}
-use Rattle.planner.proofs.Operations.{refuses}
+use Rattle.planner.proofs.laws.Operations.{refuses}
 use Rattle.checks.specs.declared.LiteralStructureCheck.{LiteralStructureCheck}
 use Rattle.checks.specs.declared.LiteralStructureCheck.the-variants.{Match, Unknown, ArrayMismatch, ObjectMismatch}
 use Rattle.checks.specs.Refusals.{unlessMismatch}

@@ -14,8 +14,8 @@ use Rattle.table.specs.Tables.{Tables, isNode}
 use Rattle.table.specs.Decode.{expr}
 use Rattle.table.specs.Check.{checked}
 use Rattle.table.specs.Sound.{Node, WellFormed}
-use Rattle.table.proofs.Bools.{and-true, never}
-use Rattle.table.proofs.Facts.{sound-table}
+use Rattle.table.proofs.tests.Bools.{and-true, never}
+use Rattle.table.proofs.trees.Facts.{sound-table}
 use Rattle.planner.specs.declared.PlanAnswer.{PlanAnswer}
 use Rattle.planner.specs.declared.PlanAnswer.the-variants.{Planned, RootOutside, PlanTooLarge, IncompatibleDestructuringPatterns}
 use Rattle.planner.specs.Answer.{lineOf}
@@ -23,9 +23,9 @@ use Rattle.planner.specs.Layout.{Entry, entries, words, bindsAny}
 use Rattle.planner.specs.Simple.{simple}
 use Rattle.planner.specs.Operations.{Outcome, refused, planned, fits, zeros, answered, written, Answered, tableFirst, planOf}
 use Rattle.planner.specs.Entries.{readEntries}
-use Rattle.planner.proofs.Written.{length-words}
-use Rattle.planner.proofs.ReadBack.{read-words}
-use Rattle.planner.proofs.Operations.{root-node}
+use Rattle.planner.proofs.buffer.Written.{length-words}
+use Rattle.planner.proofs.buffer.ReadBack.{read-words}
+use Rattle.planner.proofs.laws.Operations.{root-node}
 use Rattle.checks.specs.declared.LiteralStructureCheck.{LiteralStructureCheck}
 use Rattle.checks.specs.declared.LiteralStructureCheck.the-variants.{Match, Unknown, ArrayMismatch, ObjectMismatch}
 use Rattle.checks.specs.Structure.{structure}

@@ -20,16 +20,16 @@ use Rattle.table.specs.Names.{classOf}
 use Rattle.table.specs.Expr.{Expr, name, wildcard}
 use Rattle.table.specs.Decode.{expr, isWildcard}
 use Rattle.table.specs.Check.{checked}
-use Rattle.table.proofs.Trees.{expr-name, expr-array, expr-object}
+use Rattle.table.proofs.trees.Trees.{expr-name, expr-array, expr-object}
 use Rattle.planner.specs.declared.PlanAnswer.{PlanAnswer}
 use Rattle.planner.specs.declared.PlanAnswer.the-variants.{Planned, RootOutside, ColonEqualsRequiresBindableLeft, VariableAlreadyDefined}
 use Rattle.planner.specs.Layout.{Entry, entries, words, bindsAny}
-use Rattle.planner.specs.Passes.{stateBy}
+use Rattle.planner.specs.code.Passes.{stateBy}
 use Rattle.planner.specs.Operations.{planned, answered, written, Answered, isSound, planOf}
-use Rattle.planner.specs.Post.{GoodRoot, PatternAsks, PatternPlanned}
-use Rattle.planner.proofs.NodeKinds.{Plain, plain-literal, plain-set, plain-other, plain-kind}
-use Rattle.planner.proofs.SamePlan.{class-wild}
-use Rattle.planner.proofs.Operations.{refuses, table-passes, read-plan}
+use Rattle.planner.specs.code.Post.{GoodRoot, PatternAsks, PatternPlanned}
+use Rattle.planner.proofs.destructuring.NodeKinds.{Plain, plain-literal, plain-set, plain-other, plain-kind}
+use Rattle.planner.proofs.laws.SamePlan.{class-wild}
+use Rattle.planner.proofs.laws.Operations.{refuses, table-passes, read-plan}
 use Rattle.assignment.specs.declared.AssignOp.{AssignOp}
 use Rattle.assignment.specs.declared.AssignOp.the-variants.{ColEq, Eq}
 use Rattle.checks.specs.declared.LiteralStructureCheck.{LiteralStructureCheck}

@@ -4,7 +4,7 @@ ghost use mathlib.Core.List.{[]};
 ghost use Rattle.table.specs.Tables.{tables};
 ghost use Rattle.table.specs.Decode.{expr};
 ghost use Rattle.planner.specs.Operations.{planned, Answered};
-ghost use Rattle.planner.specs.Post.{GoodRoot};
+ghost use Rattle.planner.specs.code.Post.{GoodRoot};
 ghost use Rattle.planner.specs.Entries.{readEntries};
 ghost use Rattle.checks.specs.PatternStructure.{structureBy};
 ghost use Rattle.pairs.specs.Pairs.{shapeOf};

@@ -18,13 +18,13 @@ use Rattle.table.specs.Tables.{Tables, kindOf, firstOf, countOf, width, childAt
 use Rattle.table.specs.Expr.{Expr, literal, name, wildcard, array, set, object, other, count}
 use Rattle.table.specs.Decode.{expr, items, fields, literalAt, isWildcard, fieldsOf}
 use Rattle.table.specs.Sound.{Node, WellFormed}
-use Rattle.table.proofs.Trees.{expr-name, expr-array, expr-object, width-array, items-step, items-end, fields-step, fields-end, child-node, count-items}
+use Rattle.table.proofs.trees.Trees.{expr-name, expr-array, expr-object, width-array, items-step, items-end, fields-step, fields-end, child-node, count-items}
 use Rattle.planner.specs.Layout.{Slot, FieldOrder, heldIn}
-use Rattle.planner.specs.Passes.{keyNode, valueNode}
-use Rattle.planner.specs.Ordering.{FieldsIn}
-use Rattle.planner.proofs.NodeKinds.{Plain, plain-literal, plain-set, plain-other, plain-kind}
-use Rattle.planner.proofs.FieldOrder.{mapSlot}
-use Rattle.planner.proofs.Objects.{key-literal}
+use Rattle.planner.specs.code.Passes.{keyNode, valueNode}
+use Rattle.planner.specs.code.Ordering.{FieldsIn}
+use Rattle.planner.proofs.destructuring.NodeKinds.{Plain, plain-literal, plain-set, plain-other, plain-kind}
+use Rattle.planner.proofs.fields.FieldOrder.{mapSlot}
+use Rattle.planner.proofs.fields.Objects.{key-literal}
 use Rattle.checks.specs.declared.LiteralStructureCheck.{LiteralStructureCheck}
 use Rattle.checks.specs.declared.LiteralStructureCheck.the-variants.{Match, Unknown, ArrayMismatch, ObjectMismatch}
 use Rattle.checks.proofs.LiteralStructureCheck.{the-type}

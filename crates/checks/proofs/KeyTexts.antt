@@ -14,10 +14,10 @@ use Rattle.table.specs.Tables.{Tables}
 use Rattle.table.specs.Decode.{expr, fields}
 use Rattle.table.specs.Sound.{Node, WellFormed}
 use Rattle.planner.specs.Layout.{Slot, FieldOrder, noFields, addField, heldIn, inOrder}
-use Rattle.planner.specs.Passes.{keyNode, fieldKey, orderFrom, orderOf}
-use Rattle.planner.specs.Post.{OrderedBy}
-use Rattle.planner.proofs.FieldOrder.{AllSlots, Keyed, ordered-first}
-use Rattle.planner.proofs.Objects.{key-literal, order-below, below-at}
+use Rattle.planner.specs.code.Passes.{keyNode, fieldKey, orderFrom, orderOf}
+use Rattle.planner.specs.code.Post.{OrderedBy}
+use Rattle.planner.proofs.fields.FieldOrder.{AllSlots, Keyed, ordered-first}
+use Rattle.planner.proofs.fields.Objects.{key-literal, order-below, below-at}
 use Rattle.checks.specs.Structure.{slotText, textOr, keyTexts, before, insertText, sortTexts}
 use Rattle.checks.specs.Texts.{insertOr, textsFrom, orderedKey}
 

@@ -23,14 +23,14 @@ use Rattle.table.specs.Tables.{Tables, kindOf, firstOf, countOf, width, childAt
 use Rattle.table.specs.Expr.{Expr}
 use Rattle.table.specs.Decode.{expr, fields, literalNode, literalAt, refOf}
 use Rattle.table.specs.Sound.{Node, WellFormed}
-use Rattle.table.proofs.Trees.{width-object, child-node}
+use Rattle.table.proofs.trees.Trees.{width-object, child-node}
 use Rattle.planner.specs.Layout.{Slot, FieldOrder, noFields, addField}
-use Rattle.planner.specs.Passes.{keyNode, valueNode, fieldKey, orderFrom, orderOf}
-use Rattle.planner.specs.Post.{OrderAsks, OrderedBy}
-use Rattle.planner.specs.Ordering.{Between, FindAsks, FoundBy}
-use Rattle.planner.proofs.FieldOrder.{mapSlot, mapOrder, add-map, blank, Ordered, place-held, to-slot, same-before, literals-first, ordered-first}
-use Rattle.planner.proofs.FieldLoops.{ref-above}
-use Rattle.planner.proofs.Objects.{key-literal}
+use Rattle.planner.specs.code.Passes.{keyNode, valueNode, fieldKey, orderFrom, orderOf}
+use Rattle.planner.specs.code.Post.{OrderAsks, OrderedBy}
+use Rattle.planner.specs.code.Ordering.{Between, FindAsks, FoundBy}
+use Rattle.planner.proofs.fields.FieldOrder.{mapSlot, mapOrder, add-map, blank, Ordered, place-held, to-slot, same-before, literals-first, ordered-first}
+use Rattle.planner.proofs.fields.FieldLoops.{ref-above}
+use Rattle.planner.proofs.fields.Objects.{key-literal}
 use Rattle.checks.specs.Structure.{valueOrder, slotText, heldUnder, held}
 use Rattle.checks.specs.Texts.{BothAsk, TextsCompared}
 use Rattle.checks.specs.PatternStructure.{ObjectsAsk, orderOfNode, patternsOf, KeysCompared, PartnerAsks, PartnerIs}

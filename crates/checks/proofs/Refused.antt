@@ -7,7 +7,7 @@ use lib.ListN.{length, replicate}
 use Rattle.planner.specs.declared.PlanAnswer.{PlanAnswer}
 use Rattle.planner.specs.declared.PlanAnswer.the-variants.{ArrayLengthMismatch, ObjectLiteralKeysMismatch, VariableAlreadyDefined}
 use Rattle.planner.specs.Operations.{Outcome, Answered}
-use Rattle.planner.proofs.Operations.{refuses}
+use Rattle.planner.proofs.laws.Operations.{refuses}
 use Rattle.checks.specs.declared.LiteralStructureCheck.{LiteralStructureCheck}
 use Rattle.checks.specs.declared.LiteralStructureCheck.the-variants.{Match, Unknown, ArrayMismatch, ObjectMismatch}
 use Rattle.checks.specs.Refusals.{unlessMismatch, unlessDefined}

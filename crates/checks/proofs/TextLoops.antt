@@ -22,10 +22,10 @@ use Rattle.table.proofs.Key.{the-type as the-key}
 use Rattle.table.specs.Tables.{Tables, tables, kindOf, childAt}
 use Rattle.table.specs.Decode.{literalNode, refOf}
 use Rattle.table.specs.Sound.{Node, WellFormed}
-use Rattle.planner.specs.Passes.{keyNode, fieldKey}
-use Rattle.planner.specs.Ordering.{RoomAsks, moved}
-use Rattle.planner.specs.Post.{OrderAsks}
-use Rattle.planner.proofs.FieldLoops.{moved-take, ref-above}
+use Rattle.planner.specs.code.Passes.{keyNode, fieldKey}
+use Rattle.planner.specs.code.Ordering.{RoomAsks, moved}
+use Rattle.planner.specs.code.Post.{OrderAsks}
+use Rattle.planner.proofs.fields.FieldLoops.{moved-take, ref-above}
 use Rattle.checks.specs.Structure.{sortTexts}
 use Rattle.checks.specs.Texts.{isGreater, isEqual, literalsOf, KeysOf, textAt, TextAsks, TextPlace, AddKeyAsks, insertOr, KeyAdded, textsFrom, SortedKeys, orderedKey, OrderedAsks, agreeFrom, textsAgree, BothAsk, TextsCompared}
 use Rattle.checks.proofs.TextOrder.{after, sort-ascending, after-before, after-behind, blankText, keys-length, compared-at, put-key, texts-agree}

@@ -15,7 +15,7 @@ use Rattle.literal.specs.Order.{Order, less, same, more, opposite, bytesOrder, 
 use Rattle.literal.specs.Text.{keyText, textCompared, textsCompared}
 use Rattle.literal.proofs.Orders.{bytes-order, never}
 use Rattle.table.specs.Names.{isSame, sameBytes}
-use Rattle.planner.proofs.FieldOrder.{map-take, map-drop, drop-take}
+use Rattle.planner.proofs.fields.FieldOrder.{map-take, map-drop, drop-take}
 use Rattle.checks.specs.Structure.{before, insertText, sortTexts, sameTexts}
 use Rattle.checks.specs.Texts.{isGreater, isEqual, KeysOf, textAt, agreeFrom, textsAgree}
 

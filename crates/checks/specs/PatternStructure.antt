@@ -13,8 +13,8 @@ use Rattle.table.specs.Sound.{Node, WellFormed}
 use Rattle.checks.specs.declared.LiteralStructureCheck.{LiteralStructureCheck}
 use Rattle.checks.specs.declared.LiteralStructureCheck.the-variants.{Match, Unknown, ArrayMismatch}
 use Rattle.planner.specs.Layout.{literalKey, Slot, FieldOrder, noFields}
-use Rattle.planner.specs.Passes.{keyNode, valueNode, orderOf}
-use Rattle.planner.specs.Ordering.{FieldsIn}
+use Rattle.planner.specs.code.Passes.{keyNode, valueNode, orderOf}
+use Rattle.planner.specs.code.Ordering.{FieldsIn}
 use Rattle.checks.specs.Post.{GoodPair}
 use Rattle.checks.specs.Structure.{valueOrder, andThen, objectStructure, held, partner, slotText, keyTexts, sortTexts, sameTexts, isEmpty}
 

@@ -13,8 +13,8 @@ use Rattle.literal.specs.declared.Comparison.the-variants.{Less, Equal, Greater
 use Rattle.literal.specs.Text.{keyText, textsCompared}
 use Rattle.table.specs.Tables.{Tables, kindOf}
 use Rattle.table.specs.Decode.{literalNode}
-use Rattle.planner.specs.Passes.{fieldKey}
-use Rattle.planner.specs.Post.{OrderAsks, OrderedBy}
+use Rattle.planner.specs.code.Passes.{fieldKey}
+use Rattle.planner.specs.code.Post.{OrderAsks, OrderedBy}
 use Rattle.checks.specs.Structure.{textOr, insertText, sortTexts, sameTexts}
 
 abbrev pub isGreater : Comparison → Bool

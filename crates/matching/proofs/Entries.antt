@@ -14,8 +14,8 @@ use Rattle.table.specs.Decode.{expr}
 use Rattle.table.specs.Expr as Expr
 use Rattle.table.specs.Expr.{Expr, literal, name, array, object}
 use Rattle.table.specs.Sound.{WellFormed}
-use Rattle.planner.specs.Post.{NameNumber}
-use Rattle.planner.proofs.Objects.{node-of}
+use Rattle.planner.specs.code.Post.{NameNumber}
+use Rattle.planner.proofs.fields.Objects.{node-of}
 use Rattle.value.specs.Value.{Value, isValue, valueOf, same}
 use Rattle.value.specs.Post.{SameAsks}
 use Rattle.matching.specs.Matching.{Outcome, matched, missed, assign, setting, comparing, provided, run}

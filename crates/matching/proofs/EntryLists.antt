@@ -14,8 +14,8 @@ use Rattle.literal.proofs.Orders.{key-order}
 use Rattle.planner.specs.Layout.{Entry, entry, Slot, placed, insert, FieldOrder, noFields, addField, heldIn, inOrder, concat, words}
 use Rattle.table.specs.Names.{isSame}
 use Rattle.planner.specs.Simple.{sameKey}
-use Rattle.planner.proofs.Written.{length-words}
-use Rattle.planner.proofs.FieldOrder.{AllSlots, insert-all}
+use Rattle.planner.proofs.buffer.Written.{length-words}
+use Rattle.planner.proofs.fields.FieldOrder.{AllSlots, insert-all}
 
 module _ (P : Entry → Type 0) where
   unfoldable pub AllE : List Entry → Type 0

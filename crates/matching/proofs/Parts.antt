@@ -15,13 +15,13 @@ use Rattle.table.specs.Expr as Expr
 use Rattle.table.specs.Expr.{Expr, array, object, Fields, done, field}
 use Rattle.table.specs.Rules.{elem}
 use Rattle.table.specs.Sound.{Node, WellFormed}
-use Rattle.table.proofs.Bools.{and-true, told-no, told-yes}
-use Rattle.table.proofs.Trees.{expr-array, expr-object}
+use Rattle.table.proofs.tests.Bools.{and-true, told-no, told-yes}
+use Rattle.table.proofs.trees.Trees.{expr-array, expr-object}
 use Rattle.planner.specs.Layout.{literalKey}
-use Rattle.planner.specs.Passes.{keyNode, valueNode}
+use Rattle.planner.specs.code.Passes.{keyNode, valueNode}
 use Rattle.planner.specs.Plan.{arrayPlan, objectPlan}
 use Rattle.planner.specs.Simple.{addKey, keysOf}
-use Rattle.planner.proofs.Objects.{node-of}
+use Rattle.planner.proofs.fields.Objects.{node-of}
 use Rattle.value.specs.Value.{Value, valueOf, valuesOf, valueFieldsOf, valueAt, under, within, sameKeys}
 use Rattle.value.specs.Post.{admitted, underFrom, underIn, KeyedObject, KeySetsAsk, ValueNode}
 use Rattle.value.proofs.Keys.{is-true, true-is, within→}

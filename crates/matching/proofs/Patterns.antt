@@ -14,11 +14,11 @@ use Rattle.table.specs.Expr as Expr
 use Rattle.table.specs.Expr.{Expr, literal, name, wildcard, array, object, other, depth, depthAll, depthFields}
 use Rattle.table.specs.Rules.{elem}
 use Rattle.table.specs.Sound.{Node, WellFormed}
-use Rattle.table.proofs.Lists.{elem-head, elem-tail, elem-left, elem-right}
-use Rattle.table.proofs.Trees.{expr-name, expr-array, expr-object}
-use Rattle.planner.specs.Passes.{valueNode}
+use Rattle.table.proofs.trees.Lists.{elem-head, elem-tail, elem-left, elem-right}
+use Rattle.table.proofs.trees.Trees.{expr-name, expr-array, expr-object}
+use Rattle.planner.specs.code.Passes.{valueNode}
 use Rattle.planner.specs.Simple.{simple}
-use Rattle.planner.proofs.NodeKinds.{Plain, plain-literal, plain-set, plain-other, plain-kind}
+use Rattle.planner.proofs.destructuring.NodeKinds.{Plain, plain-literal, plain-set, plain-other, plain-kind}
 use Rattle.value.specs.Post.{admitted}
 use Rattle.value.proofs.Admitted.{admits-simple}
 use Rattle.matching.specs.Post.{visited, visitedAll, visitedFields}

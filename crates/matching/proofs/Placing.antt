@@ -16,10 +16,10 @@ use Rattle.table.specs.Rules.{elem}
 use Rattle.table.specs.Sound.{WellFormed}
 use Rattle.planner.specs.Plan.{DestructuringPlan, var, equalityExpr, fresh, plan}
 use Rattle.planner.specs.Layout.{Entry, entries}
-use Rattle.planner.specs.Passes.{bindersOf, layOut}
-use Rattle.planner.proofs.Binders.{lay-plan-of}
-use Rattle.planner.proofs.Sizes.{lay-few-of}
-use Rattle.planner.proofs.Objects.{node-of}
+use Rattle.planner.specs.code.Passes.{bindersOf, layOut}
+use Rattle.planner.proofs.laws.Binders.{lay-plan-of}
+use Rattle.planner.proofs.laws.Sizes.{lay-few-of}
+use Rattle.planner.proofs.fields.Objects.{node-of}
 use Rattle.value.specs.Value.{valueOf}
 use Rattle.matching.specs.Matching.{Outcome, run}
 use Rattle.matching.specs.Post.{nodeAt, placeOf, kindAt, readPlan, visited, entryKind, EntryOf, envOf, runAt, EntryAsks, Came, PlacesAsks, Noted, PlanIn, PatternAsks, PatternCame}

@@ -16,12 +16,12 @@ use Rattle.table.specs.Expr as Expr
 use Rattle.table.specs.Expr.{Expr, literal, name, wildcard, array, object, other, Exprs, item, Fields, done, field, nodeOf}
 use Rattle.table.specs.Rules.{elem}
 use Rattle.table.specs.Sound.{Node, WellFormed}
-use Rattle.table.proofs.Bools.{and-true}
-use Rattle.table.proofs.Lists.{elem-nil, elem-cons, elem-append}
-use Rattle.table.proofs.Trees.{child-node, width-array, width-object, count-items}
+use Rattle.table.proofs.tests.Bools.{and-true}
+use Rattle.table.proofs.trees.Lists.{elem-nil, elem-cons, elem-append}
+use Rattle.table.proofs.trees.Trees.{child-node, width-array, width-object, count-items}
 use Rattle.planner.specs.Plan.{var, equalityExpr, arrayPlan, objectPlan, itemPlan, fieldPlan, fresh, plan, plans, fieldPlans, after}
 use Rattle.planner.specs.Layout.{Entry, entry, literalKey, FieldOrder, noFields, addField, entries, entriesAll, fieldOrder}
-use Rattle.planner.specs.Passes.{binderOf, layOut, layOutAll, layOutFields}
+use Rattle.planner.specs.code.Passes.{binderOf, layOut, layOutAll, layOutFields}
 use Rattle.planner.specs.Simple.{sameKey, hasKey, differing, addKey, keysOf, isLiteral, simple, simpleAll, simpleFields}
 use Rattle.value.proofs.Admitted.{array-item, object-value}
 use Rattle.matching.specs.Post.{visited, visitedAll, visitedFields, entryKind, readPlan, readPlans, readFields}

@@ -14,7 +14,7 @@ use Rattle.table.specs.Rules.{elem}
 use Rattle.table.specs.Sound.{Node, WellFormed}
 use Rattle.planner.specs.Plan.{DestructuringPlan, var, ignore, equalityExpr, equalityValue, arrayPlan, objectPlan, Plans, noPlan, itemPlan, FieldPlans, noField, fieldPlan, plan}
 use Rattle.planner.specs.Layout.{entries}
-use Rattle.planner.specs.Post.{NameNumber, Laid}
+use Rattle.planner.specs.code.Post.{NameNumber, Laid}
 use Rattle.planner.specs.Simple.{simple}
 use Rattle.value.specs.Value.{valueOf, valueAt}
 use Rattle.value.specs.Post.{ValueNode}

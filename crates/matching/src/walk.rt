@@ -5,7 +5,7 @@ ghost use lib.ListN.{getD, set};
 ghost use Rattle.table.specs.Tables.{tables, firstOf};
 ghost use Rattle.table.specs.Decode.{expr};
 ghost use Rattle.value.specs.Value.{valueOf, same};
-ghost use Rattle.planner.specs.Post.{NameNumber};
+ghost use Rattle.planner.specs.code.Post.{NameNumber};
 ghost use Rattle.matching.specs.Post.{nodeAt, placeOf, runAt, EntryAsks, ItemsAsks, FieldsAsks, Came, CompareAsks, PlacesAsks, Noted, PatternAsks, PatternCame};
 use table::reading::child_at;
 use table::reading::count_of;

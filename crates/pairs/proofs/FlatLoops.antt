@@ -11,13 +11,13 @@ use Rattle.table.specs.Tables.{Tables, kindOf, firstOf, countOf, childAt}
 use Rattle.table.specs.Expr.{parts, partsAll, partsFields, Exprs, Fields}
 use Rattle.table.specs.Decode.{expr, items, fields}
 use Rattle.table.specs.Sound.{Node, WellFormed}
-use Rattle.table.proofs.Trees.{expr-object, items-step, items-end, fields-step, fields-end}
+use Rattle.table.proofs.trees.Trees.{expr-object, items-step, items-end, fields-step, fields-end}
 use Rattle.planner.specs.declared.PlanAnswer.{PlanAnswer}
 use Rattle.planner.specs.Layout.{Entry}
-use Rattle.planner.specs.Passes.{unboundIn}
+use Rattle.planner.specs.code.Passes.{unboundIn}
 use Rattle.planner.specs.Entries.{Wrote}
-use Rattle.planner.specs.Post.{States}
-use Rattle.planner.proofs.Copies.{wrote-none, wrote-append, wrote-long}
+use Rattle.planner.specs.code.Post.{States}
+use Rattle.planner.proofs.buffer.Copies.{wrote-none, wrote-append, wrote-long}
 use Rattle.pairs.specs.declared.flatten.Flattened.{Flattened}
 use Rattle.pairs.specs.declared.flatten.Flattened.the-variants.{Next, Refused}
 use Rattle.pairs.specs.Pairs.{Pair, pairEntries, pairsEntries, Flat, failed, paired, before, further, flatten}

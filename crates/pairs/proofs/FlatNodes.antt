@@ -16,16 +16,16 @@ use Rattle.table.specs.Expr.{Expr, count, parts}
 use Rattle.table.specs.Expr as Expr
 use Rattle.table.specs.Decode.{expr, items, fieldsOf}
 use Rattle.table.specs.Sound.{Node, WellFormed}
-use Rattle.table.proofs.Trees.{expr-array, expr-object, width-array, child-node, count-items, count-fields}
-use Rattle.table.proofs.Forest.{tree-few}
+use Rattle.table.proofs.trees.Trees.{expr-array, expr-object, width-array, child-node, count-items, count-fields}
+use Rattle.table.proofs.trees.Forest.{tree-few}
 use Rattle.planner.specs.declared.PlanAnswer.{PlanAnswer}
 use Rattle.planner.specs.declared.PlanAnswer.the-variants.{ArraySizeMismatch, ObjectFieldCountMismatch, ObjectKeyNotFound, IncompatibleDestructuringPatterns}
 use Rattle.planner.specs.Plan.{equalityExpr}
 use Rattle.planner.specs.Layout.{Entry, entry, entries}
 use Rattle.planner.specs.Operations.{answered, written, Answered}
 use Rattle.planner.specs.Entries.{Wrote}
-use Rattle.planner.specs.Post.{OrderAsks, OrderedBy, StatesOf, Delivered}
-use Rattle.planner.proofs.Objects.{node-of}
+use Rattle.planner.specs.code.Post.{OrderAsks, OrderedBy, StatesOf, Delivered}
+use Rattle.planner.proofs.fields.Objects.{node-of}
 use Rattle.pairs.specs.declared.flatten.Flattened.{Flattened}
 use Rattle.pairs.specs.declared.flatten.Flattened.the-variants.{Next, Refused}
 use Rattle.pairs.specs.declared.judge.Pairing.{Pairing}
@@ -40,7 +40,7 @@ use Rattle.pairs.specs.Pairs.{pair, pairsEntries, Flat, failed, flatOutc
 use Rattle.pairs.specs.Post.{Scoped, pairingOf, missingFrom, InOrder, LiteralNode, MissingAsks, Flattens, Came, sideFlat, nodesFlat, arraysFlat, objectsFlat, itemsFlat, fieldsFlat, mostOf, mostItems, BindAsks, SidesAsks, Judges, Compared, KeysAsks, KeysMatched, MatchedBy, ObjectFieldsAsks, FlattenAsks, ByKeyAsks, ArraysAsks, ItemsAsks}
 use Rattle.checks.specs.Post.{GoodPair}
 use Rattle.pairs.proofs.Seen.{scoped-start}
-use Rattle.planner.proofs.Copies.{wrote-delivered}
+use Rattle.planner.proofs.buffer.Copies.{wrote-delivered}
 use Rattle.pairs.proofs.Partners.{object-child, object-listed, object-order, literal-each, check-missing, missing-none}
 use Rattle.pairs.proofs.KeySearch.{total-distinct}
 use Rattle.pairs.proofs.PairShapes.{shape-items, shape-fields, shape-single, flat-neither, flat-whole, flat-items, flat-fields, flat-array-object, flat-object-array}

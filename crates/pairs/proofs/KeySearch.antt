@@ -21,9 +21,9 @@ use Rattle.table.specs.Names.{isSame}
 use Rattle.table.specs.Tables.{Tables, firstOf, countOf, childAt}
 use Rattle.table.specs.Decode.{literalAt, fieldsOf}
 use Rattle.planner.specs.Layout.{Slot, heldIn, FieldOrder, inOrder}
-use Rattle.planner.specs.Passes.{fieldKey, orderOf}
-use Rattle.planner.proofs.FieldOrder.{all-at, Sorted, Keyed, Ordered, ordered-first, more-before, less-behind, same-before}
-use Rattle.planner.proofs.Objects.{AllBelow, order-below}
+use Rattle.planner.specs.code.Passes.{fieldKey, orderOf}
+use Rattle.planner.proofs.fields.FieldOrder.{all-at, Sorted, Keyed, Ordered, ordered-first, more-before, less-behind, same-before}
+use Rattle.planner.proofs.fields.Objects.{AllBelow, order-below}
 use Rattle.checks.specs.Structure.{heldUnder}
 use Rattle.pairs.specs.Pairs.{distinctKeys}
 use Rattle.pairs.specs.Post.{heldNode, partnerOf, InOrder, FindAsks}

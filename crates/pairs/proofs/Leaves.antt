@@ -12,7 +12,7 @@ use lib.ListN.{getD, set}
 use lib.Seq.{getD-set-other}
 use Rattle.table.specs.Tables.{Tables, kindOf, firstOf, countOf, childAt}
 use Rattle.table.specs.Rules.{allFrom}
-use Rattle.table.proofs.Scan.{Scan, scan-start, scan-on, scan-fails, scan-ends}
+use Rattle.table.proofs.tests.Scan.{Scan, scan-start, scan-on, scan-fails, scan-ends}
 use Rattle.table.specs.Decode.{fieldsOf}
 use Rattle.planner.specs.Layout.{Entry, bindsAny}
 use Rattle.planner.specs.Entries.{entryAt, readEntries}

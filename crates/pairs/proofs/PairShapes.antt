@@ -9,11 +9,11 @@ use Rattle.table.specs.Tables.{Tables, kindOf, firstOf, countOf}
 use Rattle.table.specs.Expr.{Expr, literal, name, wildcard, array, set, object, other, Exprs, Fields, count, countFields}
 use Rattle.table.specs.Decode.{expr, items, isWildcard, namedBy, fieldsOf}
 use Rattle.table.specs.Sound.{Node, WellFormed}
-use Rattle.table.proofs.Bools.{never}
-use Rattle.table.proofs.Trees.{expr-name, expr-array, expr-object}
+use Rattle.table.proofs.tests.Bools.{never}
+use Rattle.table.proofs.trees.Trees.{expr-name, expr-array, expr-object}
 use Rattle.planner.specs.declared.PlanAnswer.the-variants.{ArraySizeMismatch, ObjectFieldCountMismatch, IncompatibleDestructuringPatterns}
 use Rattle.planner.specs.Plan.{equalityExpr}
-use Rattle.planner.proofs.NodeKinds.{Plain, plain-literal, plain-set, plain-other, plain-kind}
+use Rattle.planner.proofs.destructuring.NodeKinds.{Plain, plain-literal, plain-set, plain-other, plain-kind}
 use Rattle.checks.specs.Post.{GoodPair}
 use Rattle.pairs.specs.declared.judge.Pairing.the-variants.{Whole, Items, ByKey, Opposed}
 use Rattle.pairs.specs.Pairs.{pair, Flat, failed, paired, Shape, items as itemsShape, fields as fieldsShape, single, shapeOf, allLiteral, distinctKeys, checkKeys, binds, whole, arrays, objects, flatten, flattenAll, flattenFields}

@@ -12,9 +12,9 @@ use Rattle.table.specs.Decode.{expr}
 use Rattle.table.specs.Sound.{Node, WellFormed}
 use Rattle.planner.specs.Plan.{DestructuringPlan, plan, after}
 use Rattle.planner.specs.Layout.{Entry, entry, entries, bindsAny, introducesBinding}
-use Rattle.planner.specs.Passes.{unboundIn}
-use Rattle.planner.specs.Post.{Walks, PlanAsks, PlannedBy}
-use Rattle.planner.proofs.Objects.{node-of}
+use Rattle.planner.specs.code.Passes.{unboundIn}
+use Rattle.planner.specs.code.Post.{Walks, PlanAsks, PlannedBy}
+use Rattle.planner.proofs.fields.Objects.{node-of}
 use Rattle.pairs.specs.declared.flatten.Flattened.{Flattened}
 use Rattle.pairs.specs.declared.flatten.Flattened.the-variants.{Next, Refused}
 use Rattle.pairs.specs.declared.judge.Pairing.{Pairing}
@@ -27,8 +27,8 @@ use Rattle.pairs.specs.Post.{Scoped, Previewed, Learnt, Came, Flattens, 
 use Rattle.planner.specs.Entries.{readEntries, Wrote}
 use Rattle.pairs.proofs.PairShapes.{or-false}
 use Rattle.pairs.proofs.Seen.{plan-scoped, scoped-learnt}
-use Rattle.planner.proofs.ReadBack.{read-laid, length-read}
-use Rattle.planner.proofs.Copies.{wrote-append}
+use Rattle.planner.proofs.buffer.ReadBack.{read-laid, length-read}
+use Rattle.planner.proofs.buffer.Copies.{wrote-append}
 
 -- a preview
 pub ask-preview : {T : Tables} {states : List ℕ} {n : ℕ} → Walks T states n → (start : List ℕ) {binders : List ℕ} → binders ≡ replicate (length start) 0 → length start ≡ 128 → PlanAsks T states n binders

@@ -12,15 +12,15 @@ use Rattle.literal.specs.Order.{keyOrder}
 use Rattle.table.specs.Names.{isSame}
 use Rattle.table.specs.Expr.{Expr, literal, name, wildcard, array, set, object, other, Exprs, none, item, Fields, done, field, count, countFields}
 use Rattle.table.specs.Rules.{elem, noRepeat}
-use Rattle.table.proofs.Bools.{and-true, or-true, never}
-use Rattle.table.proofs.Lists.{elem-nil, elem-append, append-no-repeat}
+use Rattle.table.proofs.tests.Bools.{and-true, or-true, never}
+use Rattle.table.proofs.trees.Lists.{elem-nil, elem-append, append-no-repeat}
 use Rattle.planner.specs.declared.PlanAnswer.{PlanAnswer}
 use Rattle.planner.specs.Answer.{lineOf}
 use Rattle.planner.specs.Plan.{DestructuringPlan, equalityExpr, plan, after, boundVars}
 use Rattle.planner.specs.Layout.{literalKey, Slot, FieldOrder, noFields, addField}
 use Rattle.planner.specs.Simple.{differing, keysOf, isLiteral, simple, simpleAll, simpleFields, mentions}
-use Rattle.planner.proofs.FieldOrder.{AllSlots, insert-all}
-use Rattle.planner.proofs.PlanLaws.{elem-either, or-turn, or-left, or-right, after-bound, bound-new, bound-once}
+use Rattle.planner.proofs.fields.FieldOrder.{AllSlots, insert-all}
+use Rattle.planner.proofs.laws.PlanLaws.{elem-either, or-turn, or-left, or-right, after-bound, bound-new, bound-once}
 use Rattle.checks.specs.Structure.{firstOr, heldUnder, valueOrder}
 use Rattle.pairs.specs.Pairs.{Pair, pair, Flat, failed, paired, before, further, Shape, items, fields, single, shapeOf, allLiteral, distinctKeys, lastUnder, hasPartner, checkKeys, onPartner, binds, side, whole, inParts, arrays, objects, flatten, flattenAll, flattenFields}
 use Rattle.pairs.specs.PairsPromise.{Settled, boundBy, PairsPromise}

@@ -15,18 +15,18 @@ use Rattle.table.specs.Expr.{Expr, array, object, Exprs, Fields, nodeOf}
 use Rattle.table.specs.Decode.{expr, items, fields}
 use Rattle.table.specs.Rules.{elem}
 use Rattle.table.specs.Sound.{Node, WellFormed}
-use Rattle.table.proofs.Bools.{or-true, never}
-use Rattle.table.proofs.Trees.{width-array, width-object, child-node, expr-array, expr-object}
+use Rattle.table.proofs.tests.Bools.{or-true, never}
+use Rattle.table.proofs.trees.Trees.{width-array, width-object, child-node, expr-array, expr-object}
 use Rattle.planner.specs.Answer.{lineOf}
 use Rattle.planner.specs.Plan.{DestructuringPlan, var, ignore, equalityExpr, equalityValue, arrayPlan, objectPlan, Plans, noPlan, itemPlan, FieldPlans, noField, fieldPlan, boundVars}
 use Rattle.planner.specs.Layout.{Entry, literalKey, FieldOrder, noFields, addField, inOrder, concat, entries, entriesAll, fieldOrder}
 use Rattle.planner.specs.Simple.{simple, mentions}
 use Rattle.planner.specs.Laws.{boundNames}
 use Rattle.planner.specs.Operations.{Outcome, refused, planned}
-use Rattle.planner.proofs.Sizes.{total, total-append, add-total}
-use Rattle.planner.proofs.Objects.{node-of}
-use Rattle.planner.proofs.Binders.{names-all}
-use Rattle.planner.proofs.PlanLaws.{hit, occurs, occurs-elem, occurs-none, once-occurs, occurs-once, bound-append, times, times-append}
+use Rattle.planner.proofs.laws.Sizes.{total, total-append, add-total}
+use Rattle.planner.proofs.fields.Objects.{node-of}
+use Rattle.planner.proofs.laws.Binders.{names-all}
+use Rattle.planner.proofs.laws.PlanLaws.{hit, occurs, occurs-elem, occurs-none, once-occurs, occurs-once, bound-append, times, times-append}
 use Rattle.pairs.specs.Pairs.{Pair, pairEntries, pairsEntries, Flat, flatOutcome, shapeOf, flatten}
 use Rattle.pairs.specs.PairsPromise.{boundBy, EntriesPromise}
 use Rattle.pairs.proofs.PairShapes.{shape-items, shape-fields, shape-single}

@@ -14,15 +14,15 @@ use Rattle.literal.specs.Order.{Order, less, same, more, keyOrder}
 use Rattle.literal.proofs.Orders.{key-order}
 use Rattle.table.specs.Expr.{Expr, literal, name, wildcard, array, set, object, other, Exprs, none, item, Fields, done, field, nodeOf}
 use Rattle.table.specs.Rules.{elem}
-use Rattle.table.proofs.Bools.{and-true, or-true}
+use Rattle.table.proofs.tests.Bools.{and-true, or-true}
 use Rattle.planner.specs.Plan.{var, equalityExpr, fresh, plan, plans, fieldPlans, after, afterAll, afterFields, boundVars, boundVarsAll, boundVarsFields}
 use Rattle.planner.specs.Layout.{Entry, literalKey, Slot, placed, insert, FieldOrder, noFields, addField, heldIn, inOrder, concat, entries, entriesAll, fieldOrder, bindsAny}
 use Rattle.table.specs.Names.{isSame}
 use Rattle.planner.specs.Simple.{sameKey, hasKey, differing, addKey, keysOf, isLiteral, simple, simpleAll, simpleFields, mentions, mentionsAny, mentionsFields}
 use Rattle.planner.specs.Laws.{boundNames}
-use Rattle.planner.proofs.Sizes.{total, total-append}
-use Rattle.planner.proofs.Binders.{AllNames, AllNamesAll, AllNamesFields}
-use Rattle.planner.proofs.PlanLaws.{or-left, or-right, hit, occurs, times, times-append, times-concat}
+use Rattle.planner.proofs.laws.Sizes.{total, total-append}
+use Rattle.planner.proofs.laws.Binders.{AllNames, AllNamesAll, AllNamesFields}
+use Rattle.planner.proofs.laws.PlanLaws.{or-left, or-right, hit, occurs, times, times-append, times-concat}
 use Rattle.pairs.specs.PairsPromise.{Settled}
 
 -- keys

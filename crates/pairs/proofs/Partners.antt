@@ -18,15 +18,15 @@ use Rattle.table.specs.Expr.{Expr, nodeOf}
 use Rattle.table.specs.Decode.{expr, fields, literalAt, literalNode, fieldsOf}
 use Rattle.table.specs.Rules.{allFrom}
 use Rattle.table.specs.Sound.{Node, WellFormed}
-use Rattle.table.proofs.Scan.{all-at}
-use Rattle.table.proofs.Trees.{width-object, child-node}
-use Rattle.table.proofs.Words.{ref-none}
+use Rattle.table.proofs.tests.Scan.{all-at}
+use Rattle.table.proofs.trees.Trees.{width-object, child-node}
+use Rattle.table.proofs.trees.Words.{ref-none}
 use Rattle.planner.specs.Layout.{literalKey, Slot, heldIn, FieldOrder, noFields, addField}
-use Rattle.planner.specs.Passes.{orderFrom, keyNode, valueNode, fieldKey, orderOf}
-use Rattle.planner.specs.Post.{OrderAsks}
-use Rattle.planner.proofs.FieldOrder.{mapSlot, mapOrder, add-map}
+use Rattle.planner.specs.code.Passes.{orderFrom, keyNode, valueNode, fieldKey, orderOf}
+use Rattle.planner.specs.code.Post.{OrderAsks}
+use Rattle.planner.proofs.fields.FieldOrder.{mapSlot, mapOrder, add-map}
 use Rattle.planner.specs.declared.PlanAnswer.the-variants.{ObjectKeyNotFound}
-use Rattle.planner.proofs.Objects.{key-literal, node-of, AllBelow, order-below}
+use Rattle.planner.proofs.fields.Objects.{key-literal, node-of, AllBelow, order-below}
 use Rattle.checks.specs.Structure.{firstOr, heldUnder, isEmpty}
 use Rattle.pairs.specs.Pairs.{Flat, failed, allLiteral, distinctKeys, lastUnder, hasPartner, checkKeys}
 use Rattle.checks.specs.Structure.{valueOrder}

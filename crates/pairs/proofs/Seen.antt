@@ -13,15 +13,15 @@ use Rattle.table.specs.Tables.{Tables, nameCount, firstOf}
 use Rattle.table.specs.Decode.{expr}
 use Rattle.table.specs.Rules.{elem}
 use Rattle.table.specs.Sound.{Node, WellFormed}
-use Rattle.table.proofs.Trees.{expr-name}
+use Rattle.table.proofs.trees.Trees.{expr-name}
 use Rattle.scope.specs.declared.Scope.{Scope}
 use Rattle.scope.specs.declared.ScopingMode.{ScopingMode}
 use Rattle.scope.specs.Scope.{isUnbound}
 use Rattle.planner.specs.Plan.{DestructuringPlan, var, equalityExpr, arrayPlan, objectPlan, itemPlan, fieldPlan, fresh, plan, plans, fieldPlans, after, afterAll, afterFields}
-use Rattle.planner.specs.Passes.{unboundIn, bindersOf}
-use Rattle.planner.specs.Post.{States, StatesOf}
-use Rattle.planner.proofs.Binders.{AllNames, names-all, bound-agree-of}
-use Rattle.planner.proofs.SamePlan.{SameOn, after-same, plan-same, states-wild, states-agree}
+use Rattle.planner.specs.code.Passes.{unboundIn, bindersOf}
+use Rattle.planner.specs.code.Post.{States, StatesOf}
+use Rattle.planner.proofs.laws.Binders.{AllNames, names-all, bound-agree-of}
+use Rattle.planner.proofs.laws.SamePlan.{SameOn, after-same, plan-same, states-wild, states-agree}
 use Rattle.pairs.specs.Post.{Scoped, learntState, Learnt}
 
 elem-or : (x : ℕ) (xs ys : List ℕ) → elem x (xs ++ ys) ≡ (elem x xs || elem x ys)

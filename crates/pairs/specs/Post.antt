@@ -15,8 +15,8 @@ use Rattle.table.specs.Sound.{Node, WellFormed}
 use Rattle.planner.specs.declared.PlanAnswer.the-variants.{ArraySizeMismatch, ObjectFieldCountMismatch}
 use Rattle.planner.specs.Plan.{fresh, plan, after}
 use Rattle.planner.specs.Layout.{entry, entries, introducesBinding, Slot}
-use Rattle.planner.specs.Passes.{unboundIn, bindersOf, keyNode, valueNode, orderOf}
-use Rattle.planner.specs.Post.{States, OrderedBy}
+use Rattle.planner.specs.code.Passes.{unboundIn, bindersOf, keyNode, valueNode, orderOf}
+use Rattle.planner.specs.code.Post.{States, OrderedBy}
 use Rattle.pairs.specs.declared.flatten.Flattened.{Flattened}
 use Rattle.pairs.specs.declared.flatten.Flattened.the-variants.{Next, Refused}
 use Rattle.pairs.specs.declared.judge.Pairing.{Pairing}

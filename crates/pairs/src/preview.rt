@@ -4,7 +4,7 @@ ghost use mathlib.Core.Path.{_≡_};
 ghost use Rattle.table.specs.Tables.{tables};
 ghost use Rattle.planner.specs.Layout.{bindsAny};
 ghost use Rattle.planner.specs.Entries.{readEntries};
-ghost use Rattle.planner.specs.Post.{Walks};
+ghost use Rattle.planner.specs.code.Post.{Walks};
 ghost use Rattle.pairs.specs.Post.{ReadAsks, Previewed, LearntAt, Learnt, SidesAsks, SidesTold};
 use planner::buffer::clear;
 use planner::destructuring::create_destructuring_plan_with_tracking;

@@ -5,8 +5,5 @@ pub mod Simple
 pub mod Parameters
 pub mod Operations
 pub mod Laws
-pub mod Passes
-pub mod Post
+pub mod code
 pub mod Entries
-pub mod Ordering
-pub mod Validation

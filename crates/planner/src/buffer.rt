@@ -5,7 +5,7 @@ ghost use mathlib.Core.List.{[], _∷_};
 ghost use lib.ListN.{length, replicate};
 ghost use Rattle.planner.specs.Layout.{entry};
 ghost use Rattle.planner.specs.Entries.{readEntries, Wrote, CopyAsks};
-ghost use Rattle.planner.specs.Post.{Copied, Delivered, wordAt, tabulate};
+ghost use Rattle.planner.specs.code.Post.{Copied, Delivered, wordAt, tabulate};
 use crate::PlanAnswer;
 
 // The first `words` words of the scratch.

@@ -2,9 +2,9 @@
 ghost use mathlib.Core.Path.{_≡_};
 ghost use Rattle.table.specs.Tables.{tables};
 ghost use Rattle.table.specs.Decode.{expr};
-ghost use Rattle.planner.specs.Post.{NameNumber, Walks, WalksChildren, PlanAsks, PlannedBy, PatternAsks, PatternPlanned, GoodRoot};
+ghost use Rattle.planner.specs.code.Post.{NameNumber, Walks, WalksChildren, PlanAsks, PlannedBy, PatternAsks, PatternPlanned, GoodRoot};
 ghost use Rattle.planner.specs.Operations.{patternPlanned, patternOutcome, Answered};
-ghost use Rattle.planner.specs.Passes.{unboundIn, bindName, bindersOf, bindersFrom};
+ghost use Rattle.planner.specs.code.Passes.{unboundIn, bindName, bindersOf, bindersFrom};
 use crate::PlanAnswer;
 use crate::buffer::clear;
 use crate::buffer::deliver;

@@ -17,13 +17,13 @@ use Rattle.table.specs.Expr.{Expr, literal, name, wildcard, array, object, othe
 use Rattle.table.specs.Decode.{expr}
 use Rattle.table.specs.Rules.{elem}
 use Rattle.table.specs.Sound.{Node, Named, WellFormed}
-use Rattle.table.proofs.Bools.{and-true}
-use Rattle.table.proofs.Lists.{elem-nil, elem-cons, elem-append}
+use Rattle.table.proofs.tests.Bools.{and-true}
+use Rattle.table.proofs.trees.Lists.{elem-nil, elem-cons, elem-append}
 use Rattle.planner.specs.Plan.{after, afterAll, afterFields}
 use Rattle.planner.specs.Layout.{literalKey}
-use Rattle.planner.specs.Post.{PatternPlanned}
+use Rattle.planner.specs.code.Post.{PatternPlanned}
 use Rattle.planner.specs.Simple.{isLiteral, keysOf, differing, simple, simpleAll, simpleFields, mentions, mentionsAny, mentionsFields}
-use Rattle.planner.proofs.Binders.{AllNames, AllNamesAll, AllNamesFields, names-all}
+use Rattle.planner.proofs.laws.Binders.{AllNames, AllNamesAll, AllNamesFields, names-all}
 use Rattle.value.proofs.Keys.{or-left, or-right, or-elim, is-true, true-is}
 use Rattle.matching.proofs.Fits.{silent}
 use Rattle.report.specs.Report.{namesMet, namesMetAll, namesMetFields}

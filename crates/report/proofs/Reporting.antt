@@ -20,14 +20,14 @@ use Rattle.table.specs.Decode.{expr}
 use Rattle.table.specs.Rules.{elem}
 use Rattle.table.specs.Check.{checked}
 use Rattle.table.specs.Sound.{Named}
-use Rattle.table.proofs.Bools.{told-no, told-yes}
+use Rattle.table.proofs.tests.Bools.{told-no, told-yes}
 use Rattle.planner.specs.Plan.{var, equalityExpr, fresh, plan, plans, fieldPlans, after}
 use Rattle.planner.specs.Layout.{Entry, literalKey, FieldOrder, noFields, addField, concat, entries, entriesAll, fieldOrder}
 use Rattle.planner.specs.Operations.{isSound, planOf}
-use Rattle.planner.specs.Post.{PatternPlanned, tabulate}
-use Rattle.planner.proofs.Binders.{AllNames, AllNamesAll, AllNamesFields, names-all}
-use Rattle.planner.proofs.Filling.{length-tabulate, getD-tabulate}
-use Rattle.planner.proofs.Operations.{table-passes, sound-well, root-node}
+use Rattle.planner.specs.code.Post.{PatternPlanned, tabulate}
+use Rattle.planner.proofs.laws.Binders.{AllNames, AllNamesAll, AllNamesFields, names-all}
+use Rattle.planner.proofs.buffer.Filling.{length-tabulate, getD-tabulate}
+use Rattle.planner.proofs.laws.Operations.{table-passes, sound-well, root-node}
 use Rattle.matching.proofs.EntryLists.{AllE, all-append, all-at, AllOrder, all-none, all-add, all-order, blank, scratch-kind, scratch-node}
 use Rattle.report.specs.declared.ReportAnswer.{ReportAnswer}
 use Rattle.report.specs.declared.ReportAnswer.the-variants.{Reported, TableRefused, RootOutside, ListTooShort}

@@ -12,7 +12,7 @@ use Rattle.table.specs.Expr.{Expr}
 use Rattle.table.specs.Rules.{elem}
 use Rattle.planner.specs.Layout.{entries}
 use Rattle.planner.specs.Operations.{planOf}
-use Rattle.planner.specs.Post.{tabulate, NameNumber, GoodRoot}
+use Rattle.planner.specs.code.Post.{tabulate, NameNumber, GoodRoot}
 use Rattle.report.specs.Report.{boundIn, namesMet, reported}
 
 -- a name is met where its word is not 0

@@ -17,7 +17,7 @@ use Rattle.table.specs.Rules.{elem}
 use Rattle.table.specs.Check.{checked}
 use Rattle.planner.specs.Layout.{Entry, entries}
 use Rattle.planner.specs.Operations.{planOf}
-use Rattle.planner.specs.Post.{tabulate}
+use Rattle.planner.specs.code.Post.{tabulate}
 use Rattle.report.specs.declared.ReportAnswer.{ReportAnswer}
 use Rattle.report.specs.declared.ReportAnswer.the-variants.{Reported, TableRefused, RootOutside, ListTooShort}
 

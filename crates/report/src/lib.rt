@@ -4,7 +4,7 @@ ghost use mathlib.Core.Path.{_≡_};
 ghost use lib.ListN.{length};
 ghost use Rattle.table.specs.Tables.{tables};
 ghost use Rattle.table.specs.Decode.{expr};
-ghost use Rattle.planner.specs.Post.{tabulate, GoodRoot};
+ghost use Rattle.planner.specs.code.Post.{tabulate, GoodRoot};
 ghost use Rattle.report.specs.Report.{ReportedBy};
 ghost use Rattle.report.specs.Post.{MetBy, metMark, EntryBound, markedBy, BoundAsks, BoundMarked, ReportAsks, PlannedMarked, ReportMarked};
 use planner::buffer::clear;

@@ -10,9 +10,9 @@ use lib.ListN.{length, getD}
 use Rattle.table.specs.Tables.{Tables, nodeCount, nameCount, isNode}
 use Rattle.table.specs.Decode.{expr}
 use Rattle.table.specs.Sound.{Node}
-use Rattle.table.proofs.Bools.{and-true}
-use Rattle.table.proofs.Scan.{Scan, scan-start, scan-on, scan-fails, scan-ends}
-use Rattle.planner.specs.Post.{GoodRoot}
+use Rattle.table.proofs.tests.Bools.{and-true}
+use Rattle.table.proofs.tests.Scan.{Scan, scan-start, scan-on, scan-fails, scan-ends}
+use Rattle.planner.specs.code.Post.{GoodRoot}
 use Rattle.planner.specs.Simple.{simple}
 use Rattle.value.specs.Value.{isValue}
 use Rattle.value.specs.Post.{Marked}

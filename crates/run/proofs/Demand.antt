@@ -17,12 +17,12 @@ use Rattle.table.specs.Tables.{Tables, nodeCount, nameCount, isNode}
 use Rattle.table.specs.Decode.{expr}
 use Rattle.table.specs.Rules.{allFrom}
 use Rattle.table.specs.Sound.{Node}
-use Rattle.table.proofs.Bools.{and-true}
+use Rattle.table.proofs.tests.Bools.{and-true}
 use Rattle.planner.specs.Layout.{entries}
 use Rattle.planner.specs.Operations.{planOf, fits}
 use Rattle.planner.specs.Plan.{plan}
 use Rattle.planner.specs.Simple.{mentions}
-use Rattle.planner.proofs.Filling.{length-tabulate, getD-tabulate}
+use Rattle.planner.proofs.buffer.Filling.{length-tabulate, getD-tabulate}
 use Rattle.value.specs.Value.{Value, valueOf, nodeᵛ, Same}
 use Rattle.value.proofs.Keys.{is-true, true-is}
 use Rattle.value.proofs.Equal.{laws}

@@ -19,18 +19,18 @@ use Rattle.table.specs.Decode.{expr}
 use Rattle.table.specs.Rules.{elem}
 use Rattle.table.specs.Check.{checked}
 use Rattle.table.specs.Sound.{Node, Named, WellFormed, SoundTable}
-use Rattle.table.proofs.Bools.{and-true, told-no, told-yes}
-use Rattle.table.proofs.Facts.{sound-table}
-use Rattle.table.proofs.Scan.{all-at}
+use Rattle.table.proofs.tests.Bools.{and-true, told-no, told-yes}
+use Rattle.table.proofs.trees.Facts.{sound-table}
+use Rattle.table.proofs.tests.Scan.{all-at}
 use Rattle.planner.specs.Plan.{plan, after}
 use Rattle.planner.specs.Layout.{entries}
 use Rattle.planner.specs.Operations.{isSound, planned, fits, written, planOf}
-use Rattle.planner.specs.Post.{GoodRoot, Laid, PatternAsks, PatternPlanned, Delivered, wordAt, tabulate}
+use Rattle.planner.specs.code.Post.{GoodRoot, Laid, PatternAsks, PatternPlanned, Delivered, wordAt, tabulate}
 use Rattle.planner.specs.declared.PlanAnswer.{PlanAnswer}
 use Rattle.planner.specs.Simple.{simple, mentions}
-use Rattle.planner.proofs.Filling.{length-tabulate, getD-tabulate}
-use Rattle.planner.proofs.Operations.{delivered, table-passes, root-node}
-use Rattle.planner.proofs.Objects.{node-of}
+use Rattle.planner.proofs.buffer.Filling.{length-tabulate, getD-tabulate}
+use Rattle.planner.proofs.laws.Operations.{delivered, table-passes, root-node}
+use Rattle.planner.proofs.fields.Objects.{node-of}
 use Rattle.value.specs.Value.{Value, isValue, valueOf, valueAt, Proper}
 use Rattle.value.specs.Post.{ValueNode}
 use Rattle.value.proofs.Keys.{true-is, is-true}

@@ -11,11 +11,11 @@ use Rattle.table.specs.Expr as Expr
 use Rattle.table.specs.Expr.{Expr}
 use Rattle.table.specs.Decode.{expr, items, fields}
 use Rattle.table.specs.Sound.{Node, WellFormed}
-use Rattle.table.proofs.Trees.{width-array, width-object}
+use Rattle.table.proofs.trees.Trees.{width-array, width-object}
 use Rattle.planner.specs.Layout.{literalKey}
 use Rattle.planner.specs.Plan.{DestructuringPlan, var, ignore, equalityExpr, equalityValue, arrayPlan, objectPlan, Plans, noPlan, itemPlan, FieldPlans, noField, fieldPlan}
 use Rattle.planner.specs.Simple.{sameKey}
-use Rattle.planner.proofs.Objects.{node-of}
+use Rattle.planner.proofs.fields.Objects.{node-of}
 use Rattle.value.specs.Value.{Value, literalᵛ, arrayᵛ, objectᵛ, Values, noneᵛ, itemᵛ, ValueFields, doneᵛ, fieldᵛ, filledField, valueOf, valuesOf, valueFieldsOf, nodeᵛ, firstOf as firstUnder, under, keysᵛ, sameKeys, same}
 use Rattle.value.specs.Post.{ValueNode}
 use Rattle.value.proofs.Node as Node·

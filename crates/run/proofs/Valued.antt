@@ -17,11 +17,11 @@ use Rattle.scope.proofs.Laws.{answer-promise}
 use Rattle.table.specs.Tables.{Tables, nameCount}
 use Rattle.table.specs.Decode.{expr}
 use Rattle.table.specs.Rules.{allFrom}
-use Rattle.table.proofs.Scan.{Scan, scan-start, scan-on, scan-fails, scan-ends}
-use Rattle.planner.specs.Passes.{unboundMark}
-use Rattle.planner.specs.Post.{NameNumber}
+use Rattle.table.proofs.tests.Scan.{Scan, scan-start, scan-on, scan-fails, scan-ends}
+use Rattle.planner.specs.code.Passes.{unboundMark}
+use Rattle.planner.specs.code.Post.{NameNumber}
 use Rattle.planner.specs.Simple.{mentions}
-use Rattle.planner.proofs.States.{mark-never}
+use Rattle.planner.proofs.laws.States.{mark-never}
 use Rattle.report.specs.Post.{MetBy}
 use Rattle.report.proofs.Meeting.{mentions-met}
 use Rattle.run.specs.Operations.{listedNode, knownListed}

@@ -6,7 +6,7 @@ use lib.Dec.{eqb}
 use lib.ListN.{length}
 use Rattle.table.specs.Tables.{Tables, nameCount}
 use Rattle.table.specs.Sound.{WellFormed}
-use Rattle.planner.specs.Post.{GoodRoot}
+use Rattle.planner.specs.code.Post.{GoodRoot}
 use Rattle.value.specs.Post.{Marked}
 use Rattle.run.specs.Operations.{isValueNode}
 

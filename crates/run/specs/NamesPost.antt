@@ -11,7 +11,7 @@ use Rattle.scope.specs.Scope.{isUnbound}
 use Rattle.table.specs.Tables.{Tables}
 use Rattle.table.specs.Decode.{expr}
 use Rattle.table.specs.Rules.{allFrom}
-use Rattle.planner.specs.Post.{GoodRoot}
+use Rattle.planner.specs.code.Post.{GoodRoot}
 use Rattle.planner.specs.Simple.{simple}
 
 -- as many names as a table has, and a list that is long enough

@@ -18,7 +18,7 @@ use Rattle.table.specs.Rules.{allFrom}
 use Rattle.table.specs.Check.{checked}
 use Rattle.planner.specs.Layout.{Entry, entries}
 use Rattle.planner.specs.Operations.{planOf, planned, fits, zeros, written}
-use Rattle.planner.specs.Post.{tabulate}
+use Rattle.planner.specs.code.Post.{tabulate}
 use Rattle.planner.specs.Simple.{simple, mentions}
 use Rattle.value.specs.Value.{Value, isValue, valueOf, valueAt, nodeᵛ}
 use Rattle.matching.specs.Matching.{Env, Outcome, matched, missed, fault, outcome}

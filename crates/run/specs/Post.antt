@@ -14,7 +14,7 @@ use Rattle.table.specs.Check.{checked}
 use Rattle.table.specs.Sound.{Node}
 use Rattle.planner.specs.Plan.{plan}
 use Rattle.planner.specs.Layout.{entries}
-use Rattle.planner.specs.Post.{Laid, PatternPlanned}
+use Rattle.planner.specs.code.Post.{Laid, PatternPlanned}
 use Rattle.planner.specs.Simple.{simple}
 use Rattle.value.specs.Value.{isValue}
 use Rattle.run.specs.declared.RunAnswer.{RunAnswer}

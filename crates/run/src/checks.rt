@@ -4,7 +4,7 @@ ghost use mathlib.Core.Path.{_≡_};
 ghost use mathlib.Core.Bool.{_&&_};
 ghost use Rattle.table.specs.Tables.{tables};
 ghost use Rattle.table.specs.Decode.{expr};
-ghost use Rattle.planner.specs.Post.{GoodRoot};
+ghost use Rattle.planner.specs.code.Post.{GoodRoot};
 ghost use Rattle.planner.specs.Simple.{simple};
 ghost use Rattle.value.specs.Value.{isValue};
 ghost use Rattle.run.specs.Operations.{isValueNode, valuesListed};

@@ -7,7 +7,7 @@ ghost use lib.ListN.{length};
 ghost use Rattle.scope.specs.Scope.{isUnbound};
 ghost use Rattle.table.specs.Tables.{tables};
 ghost use Rattle.table.specs.Decode.{expr};
-ghost use Rattle.planner.specs.Post.{NameNumber};
+ghost use Rattle.planner.specs.code.Post.{NameNumber};
 ghost use Rattle.run.specs.Operations.{knownListed};
 ghost use Rattle.run.specs.NamesPost.{ListAsks, StartOf, NamesSet, hasValue, allHaveValues, KnownAsks};
 use report::names_met;

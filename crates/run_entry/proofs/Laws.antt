@@ -12,7 +12,7 @@ use Rattle.scope.specs.declared.ScopingMode.the-variants.{RespectParent, AllowS
 use Rattle.scope.specs.Scope.{isUnbound}
 use Rattle.table.specs.Tables.{Tables}
 use Rattle.table.specs.Decode.{expr}
-use Rattle.planner.proofs.Filling.{Filling, filling-ends}
+use Rattle.planner.proofs.buffer.Filling.{Filling, filling-ends}
 use Rattle.run.specs.declared.RunAnswer.{RunAnswer}
 use Rattle.run.specs.declared.RunAnswer.the-variants.{Match, NoMatch, TableRefused, RootOutside, ListTooShort, PatternNotSimple, NotAValue, NameWithoutValue, PlanTooLarge}
 use Rattle.run.specs.Operations.{runOutcome, plannedName, Ran}

@@ -12,7 +12,7 @@ use Rattle.scope.specs.Scope.{isUnbound}
 use Rattle.table.specs.Tables.{Tables}
 use Rattle.table.specs.Decode.{expr}
 use Rattle.table.specs.Check.{refusal}
-use Rattle.planner.specs.Post.{tabulate}
+use Rattle.planner.specs.code.Post.{tabulate}
 use Rattle.run.specs.declared.RunAnswer.{RunAnswer}
 use Rattle.run.specs.declared.RunAnswer.the-variants.{Match, NoMatch, TableRefused, RootOutside, ListTooShort, PatternNotSimple, NotAValue, NameWithoutValue, PlanTooLarge}
 use Rattle.run.specs.Operations.{runOutcome, runAnswer, planAfter, plannedName, valuesAfter}

@@ -6,7 +6,7 @@ use mathlib.Core.Path.{_≡_}
 use borrow.Author.Tests.{le-leb, lt-leb, leb-true}
 use lib.Dec.{leb}
 use lib.ListN.{getD}
-use Rattle.table.proofs.Bools.{and-true, told-yes}
+use Rattle.table.proofs.tests.Bools.{and-true, told-yes}
 use Rattle.sheet.specs.declared.layout.Counts.{Counts}
 use Rattle.sheet.specs.declared.operation.Operation.{Operation}
 use Rattle.sheet.specs.Lines.{numberAt}

@@ -17,9 +17,9 @@ use Rattle.columns.specs.declared.SignedColumn.{SignedColumn}
 use Rattle.columns.specs.declared.SignedColumn.the-variants as SignedColumn
 use Rattle.columns.specs.Columns.{columnAt, signedColumnAt}
 use Rattle.table.specs.Rules.{allFrom}
-use Rattle.table.proofs.Scan.{Scan, scan-start, scan-ends, all-on, all-fails}
-use Rattle.planner.specs.Post.{tabulate}
-use Rattle.planner.proofs.Filling.{filling-next, length-tabulate, getD-tabulate}
+use Rattle.table.proofs.tests.Scan.{Scan, scan-start, scan-ends, all-on, all-fails}
+use Rattle.planner.specs.code.Post.{tabulate}
+use Rattle.planner.proofs.buffer.Filling.{filling-next, length-tabulate, getD-tabulate}
 use Rattle.sheet.specs.Lines.{numberAt, isLineFeed, columnOk, isLine, lineLength, lineOk, linesOk, isNumberLine, numberLineOk, numberLinesOk, wordAt, numberWord}
 use Rattle.sheet.specs.Post.{Inside, WordRead, wordIn, Filled, Read, LinesAsked, LineAsked, NodesAsked, NumbersAsked, NumberAsked}
 

@@ -16,8 +16,8 @@ use Rattle.planner.specs.declared.PlanAnswer.{PlanAnswer}
 use Rattle.planner.specs.declared.PlanAnswer.the-variants.{TableRefused}
 use Rattle.planner.specs.Answer.{Line, line, lineOf}
 use Rattle.planner.specs.Entries.{entryAt, readEntries}
-use Rattle.planner.proofs.Filling.{Filling}
-use Rattle.planner.proofs.ReadBack.{length-read}
+use Rattle.planner.proofs.buffer.Filling.{Filling}
+use Rattle.planner.proofs.buffer.ReadBack.{length-read}
 use Rattle.sheet.specs.declared.listing.Row.{Row}
 use Rattle.sheet.specs.Listing.{entryLine, lineBytes, linesBytes, printed, printedCount, Printed}
 use Rattle.sheet.specs.Post.{wordIn, rowLine, writePair, entriesIn, entryLines, answerLines, EntriesAsked, refusalLine}

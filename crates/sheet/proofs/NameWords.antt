@@ -9,7 +9,7 @@ use lib.ListN.{length, getD, set, length-set}
 use lib.Seq.{getD-set-other}
 use mir.Syntax.{w8, w64}
 use mir.Val.{Fits}
-use Rattle.table.proofs.Scan.{Scan, scan-start, scan-on, scan-fails, scan-ends}
+use Rattle.table.proofs.tests.Scan.{Scan, scan-start, scan-on, scan-fails, scan-ends}
 use Rattle.sheet.specs.Post.{Filled, nameWord, rowMark, rowMarkOk, NamesAsked, MarksAsked, Overlaid, MarksRead}
 use Rattle.sheet.proofs.LineTests.{filled-none, filled-on}
 

@@ -11,9 +11,9 @@ use lib.ListN.{length, getD, take, drop, replicate, length-append, length-replic
 use lib.Seq.{ext-getD, length-take-le, getD-append-add}
 use Rattle.table.specs.Rules.{allFrom}
 use Rattle.table.specs.Tables.{tables}
-use Rattle.table.proofs.Bools.{told-no, told-yes}
-use Rattle.planner.specs.Post.{tabulate}
-use Rattle.planner.proofs.Filling.{length-tabulate, getD-tabulate}
+use Rattle.table.proofs.tests.Bools.{told-no, told-yes}
+use Rattle.planner.specs.code.Post.{tabulate}
+use Rattle.planner.proofs.buffer.Filling.{length-tabulate, getD-tabulate}
 use Rattle.sheet.specs.declared.layout.Counts.{Counts}
 use Rattle.sheet.specs.declared.layout.Places.{Places}
 use Rattle.sheet.specs.declared.operation.Operation.{Operation}

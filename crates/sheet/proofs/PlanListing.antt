@@ -17,8 +17,8 @@ use Rattle.planner.specs.Answer.{Line, line, lineOf}
 use Rattle.planner.specs.Layout.{Entry, words}
 use Rattle.planner.specs.Operations.{Outcome, refused, planned, answered, written, Answered, patternOutcome, indexOutcome, parameterOutcome}
 use Rattle.planner.specs.Entries.{readEntries}
-use Rattle.planner.proofs.ReadBack.{read-words}
-use Rattle.planner.proofs.Written.{length-words}
+use Rattle.planner.proofs.buffer.ReadBack.{read-words}
+use Rattle.planner.proofs.buffer.Written.{length-words}
 use Rattle.assignment.specs.declared.AssignOp.the-variants.{ColEq, Eq}
 use Rattle.assignment.specs.Assignment.{assignmentOutcome}
 use Rattle.some_in.specs.SomeIn.{someInOutcome}

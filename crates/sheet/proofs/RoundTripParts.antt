@@ -15,8 +15,8 @@ use Rattle.columns.proofs.ReadBack.{read-back}
 use Rattle.literal.specs.Literal.{isNumber}
 use Rattle.columns.specs.Laws.{belowWord}
 use Rattle.table.specs.Rules.{allFrom}
-use Rattle.planner.specs.Post.{tabulate}
-use Rattle.planner.proofs.Filling.{length-tabulate, getD-tabulate}
+use Rattle.planner.specs.code.Post.{tabulate}
+use Rattle.planner.proofs.buffer.Filling.{length-tabulate, getD-tabulate}
 use Rattle.sheet.specs.Lines.{isReadable, numberOf, numberAt, isLineFeed, columnOk, isLine, lineLength, lineOk, linesOk}
 use Rattle.sheet.specs.Render.{writeColumns, writeLine, writeLines}
 

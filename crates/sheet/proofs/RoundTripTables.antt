@@ -17,7 +17,7 @@ use Rattle.columns.specs.Laws.{belowWord}
 use Rattle.columns.proofs.ReadBack.{read-back}
 use Rattle.table.specs.Rules.{numberOk}
 use Rattle.table.specs.Tables.{Tables, nodeCount, numberCount, nameCount}
-use Rattle.planner.specs.Post.{tabulate}
+use Rattle.planner.specs.code.Post.{tabulate}
 use Rattle.sheet.specs.Lines.{numberAt, isSigned, isLineFeed, isNumberLine, numberLineOk, numberLinesOk, linesOk, wordAt, signedWord, numberWord}
 use Rattle.sheet.specs.Sheet.{markOk, marksOk}
 use Rattle.sheet.specs.Render.{writeLine, writeLines, nodeRow, childRow, nameRow, numberLine, Narrow}

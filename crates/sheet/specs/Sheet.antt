@@ -10,7 +10,7 @@ use Rattle.scope.specs.declared.ScopingMode.{ScopingMode}
 use Rattle.scope.specs.declared.ScopingMode.the-variants.{RespectParent, AllowShadowing}
 use Rattle.table.specs.Rules.{allFrom}
 use Rattle.table.specs.Tables.{Tables, tables}
-use Rattle.planner.specs.Post.{tabulate}
+use Rattle.planner.specs.code.Post.{tabulate}
 use Rattle.sheet.specs.declared.layout.Counts.{Counts}
 use Rattle.sheet.specs.declared.layout.Places.{Places}
 use Rattle.sheet.specs.declared.operation.Operation.{Operation}

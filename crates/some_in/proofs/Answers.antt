@@ -19,12 +19,12 @@ use Rattle.planner.specs.declared.PlanAnswer.the-variants.{RootOutside, Variabl
 use Rattle.planner.specs.Layout.{Entry}
 use Rattle.planner.specs.Entries.{readEntries, Wrote, CopyAsks}
 use Rattle.planner.specs.Operations.{refused, planned, Answered, isSound}
-use Rattle.planner.specs.Post.{PatternPlanned, Delivered}
-use Rattle.planner.specs.Validation.{firstDefined}
-use Rattle.planner.proofs.Operations.{refuses, read-plan, table-passes}
-use Rattle.planner.proofs.ReadBack.{length-read}
-use Rattle.planner.proofs.Copies.{wrote-append, wrote-delivered}
-use Rattle.planner.proofs.Validating.{validated-by}
+use Rattle.planner.specs.code.Post.{PatternPlanned, Delivered}
+use Rattle.planner.specs.code.Validation.{firstDefined}
+use Rattle.planner.proofs.laws.Operations.{refuses, read-plan, table-passes}
+use Rattle.planner.proofs.buffer.ReadBack.{length-read}
+use Rattle.planner.proofs.buffer.Copies.{wrote-append, wrote-delivered}
+use Rattle.planner.proofs.laws.Validating.{validated-by}
 use Rattle.checks.specs.declared.LiteralStructureCheck.{LiteralStructureCheck}
 use Rattle.checks.specs.Refusals.{unlessMismatch}
 use Rattle.checks.proofs.Refused.{passes-undefined, refuses-defined}

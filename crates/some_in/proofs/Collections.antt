@@ -11,9 +11,9 @@ use lib.Dec.{eqb}
 use Rattle.table.specs.Tables.{Tables, kindOf, firstOf, countOf, childAt, width}
 use Rattle.table.specs.Expr.{Expr, name, wildcard, Exprs}
 use Rattle.table.specs.Decode.{expr, items, isWildcard}
-use Rattle.table.proofs.Trees.{expr-name, expr-array, expr-object, width-array, items-step, items-end, child-node}
+use Rattle.table.proofs.trees.Trees.{expr-name, expr-array, expr-object, width-array, items-step, items-end, child-node}
 use Rattle.planner.specs.Plan.{DestructuringPlan, plan}
-use Rattle.planner.proofs.NodeKinds.{Plain, plain-literal, plain-set, plain-other, plain-kind}
+use Rattle.planner.proofs.destructuring.NodeKinds.{Plain, plain-literal, plain-set, plain-other, plain-kind}
 use Rattle.checks.specs.declared.LiteralStructureCheck.{LiteralStructureCheck}
 use Rattle.checks.specs.declared.LiteralStructureCheck.the-variants.{Match, Unknown, ArrayMismatch, ObjectMismatch}
 use Rattle.checks.specs.PatternStructure.{structureBy}

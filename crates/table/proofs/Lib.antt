@@ -1,13 +1,2 @@
-pub mod Bools
-pub mod Scan
-pub mod Trees
-pub mod Words
-pub mod Fresh
-pub mod Deepest
-pub mod Bytes
-pub mod Prints
-pub mod Facts
-pub mod Clauses
-pub mod Answers
-pub mod Lists
-pub mod Forest
+pub mod tests
+pub mod trees

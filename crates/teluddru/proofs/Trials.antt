@@ -18,7 +18,7 @@ use Rattle.planner.specs.Operations.{answered, written}
 use Rattle.checks.specs.Structure.{planOrder, keyTexts, insertText, sortTexts, sameTexts, heldUnder, structure}
 use Rattle.pairs.specs.Pairs.{pairsEntries, flatten}
 use Rattle.assignment.specs.Assignment.{firstSameScope}
-use Rattle.planner.specs.Post.{tabulate}
+use Rattle.planner.specs.code.Post.{tabulate}
 use Rattle.planner.specs.Simple.{simple, hasKey, differing, keysOf, mentions}
 use Rattle.value.specs.Value.{valueOf, isValue, same, within, keysᵛ, under}
 use Rattle.matching.specs.Matching.{run, planKeys, sameLength}

@@ -14,12 +14,12 @@ use Rattle.table.specs.Expr as Expr
 use Rattle.table.specs.Expr.{Expr, literal, name, wildcard, array, set, object, other, Exprs, item, Fields, done, field}
 use Rattle.table.specs.Decode.{expr, items, fields, isWildcard, fieldsOf}
 use Rattle.table.specs.Sound.{Node, WellFormed}
-use Rattle.table.proofs.Bools.{and-true}
-use Rattle.table.proofs.Trees.{expr-name, expr-array, expr-object, width-array, width-object, child-node}
+use Rattle.table.proofs.tests.Bools.{and-true}
+use Rattle.table.proofs.trees.Trees.{expr-name, expr-array, expr-object, width-array, width-object, child-node}
 use Rattle.planner.specs.Layout.{literalKey}
-use Rattle.planner.specs.Passes.{keyNode, valueNode}
+use Rattle.planner.specs.code.Passes.{keyNode, valueNode}
 use Rattle.planner.specs.Simple.{addKey, keysOf, isLiteral, differing, simple, simpleAll, simpleFields}
-use Rattle.planner.proofs.NodeKinds.{Plain, plain-literal, plain-set, plain-other, plain-kind}
+use Rattle.planner.proofs.destructuring.NodeKinds.{Plain, plain-literal, plain-set, plain-other, plain-kind}
 use Rattle.value.specs.Value.{isValue, areValues, holdValues, filledField, valueOf, valuesOf, valueFieldsOf, keysᵛ, proper, properAll, properFields, Proper}
 use Rattle.value.specs.Post.{admitted, admittedAll, admittedFields, ChildrenAsks, KeyedObject, ValueNode}
 use Rattle.value.proofs.Keys.{and-left, and-right, both}

@@ -16,12 +16,12 @@ use Rattle.table.specs.Tables.{Tables}
 use Rattle.table.specs.Decode.{expr, fields}
 use Rattle.table.specs.Sound.{Node, WellFormed}
 use Rattle.planner.specs.Layout.{Slot, placed, insert, FieldOrder, noFields, addField, heldIn, inOrder}
-use Rattle.planner.specs.Passes.{keyNode, fieldKey, orderFrom, orderOf}
-use Rattle.planner.specs.Post.{OrderAsks, OrderedBy}
+use Rattle.planner.specs.code.Passes.{keyNode, fieldKey, orderFrom, orderOf}
+use Rattle.planner.specs.code.Post.{OrderAsks, OrderedBy}
 use Rattle.table.specs.Names.{isSame}
 use Rattle.planner.specs.Simple.{sameKey, hasKey, differing, addKey, keysOf}
-use Rattle.planner.proofs.FieldOrder.{AllSlots, Above, Sorted, none-sorted, insert-sorted}
-use Rattle.planner.proofs.Objects.{key-literal}
+use Rattle.planner.proofs.fields.FieldOrder.{AllSlots, Above, Sorted, none-sorted, insert-sorted}
+use Rattle.planner.proofs.fields.Objects.{key-literal}
 use Rattle.value.specs.Post.{KeysAsks}
 use Rattle.value.proofs.Admitted.{key-node}
 

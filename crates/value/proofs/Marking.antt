@@ -16,12 +16,12 @@ use Rattle.table.specs.Expr.{Expr, literal, name, wildcard}
 use Rattle.table.specs.Expr as Expr
 use Rattle.table.specs.Decode.{expr, items, fields, isWildcard, fieldsOf}
 use Rattle.table.specs.Sound.{Node, WellFormed}
-use Rattle.table.proofs.Bools.{and-true, told-no, told-yes}
-use Rattle.table.proofs.Trees.{expr-literal, expr-name, expr-array, expr-object, child-node, width-array, width-object}
+use Rattle.table.proofs.tests.Bools.{and-true, told-no, told-yes}
+use Rattle.table.proofs.trees.Trees.{expr-literal, expr-name, expr-array, expr-object, child-node, width-array, width-object}
 use Rattle.planner.specs.Layout.{literalKey}
-use Rattle.planner.specs.Passes.{keyNode}
+use Rattle.planner.specs.code.Passes.{keyNode}
 use Rattle.planner.specs.Simple.{keysOf, isLiteral, differing}
-use Rattle.planner.proofs.NodeKinds.{Plain, plain-literal, plain-set, plain-other, plain-kind}
+use Rattle.planner.proofs.destructuring.NodeKinds.{Plain, plain-literal, plain-set, plain-other, plain-kind}
 use Rattle.value.specs.Post.{admitted, admittedAll, admittedFields, isMarked, markOf, itemsMarked, fieldsMarked, ChildrenAsks, MarkAsks, Marked, KeysAsks}
 use Rattle.value.proofs.Admitted.{literal-kind, array-children, object-children}
 

@@ -16,12 +16,12 @@ use Rattle.table.specs.Decode.{expr, items, fields, isWildcard, literalAt, fiel
 use Rattle.table.specs.Expr as Expr
 use Rattle.table.specs.Expr.{Expr, literal, name, wildcard, array, object, other}
 use Rattle.table.specs.Sound.{WellFormed}
-use Rattle.table.proofs.Trees.{expr-literal, expr-name, expr-array, expr-object, child-node, width-array, width-object}
+use Rattle.table.proofs.trees.Trees.{expr-literal, expr-name, expr-array, expr-object, child-node, width-array, width-object}
 use Rattle.planner.specs.Layout.{literalKey}
-use Rattle.planner.specs.Passes.{valueNode}
+use Rattle.planner.specs.code.Passes.{valueNode}
 use Rattle.planner.specs.Simple.{sameKey, hasKey, keysOf}
-use Rattle.planner.proofs.NodeKinds.{Plain, plain-literal, plain-set, plain-other, plain-kind}
-use Rattle.planner.proofs.Objects.{key-literal}
+use Rattle.planner.proofs.destructuring.NodeKinds.{Plain, plain-literal, plain-set, plain-other, plain-kind}
+use Rattle.planner.proofs.fields.Objects.{key-literal}
 use Rattle.value.specs.Value.{Value, literalᵛ, ValueFields, doneᵛ, fieldᵛ, isValue, filledField, valueOf, valuesOf, valueFieldsOf, valueAt, keysᵛ, firstOf as firstUnder, under, within, sameKeys, holds, same, sameItems, sameFields}
 use Rattle.value.specs.Post.{sameLiterals, underFrom, underIn, KeyedObject, ValueNode, SameAsks, SameItemsAsks, SameFieldsAsks}
 use Rattle.value.proofs.Keys.{and-left, and-right, both, is-true, is-false, true-is, sets-by-count, sets-uneven}

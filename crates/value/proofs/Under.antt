@@ -17,12 +17,12 @@ use Rattle.literal.specs.declared.Comparison.{Comparison}
 use Rattle.literal.specs.declared.Comparison.the-variants.{Less, Equal, Greater, NoLiteral}
 use Rattle.table.specs.Tables.{Tables, kindOf, firstOf, countOf, childAt}
 use Rattle.table.specs.Decode.{expr, fields, literalAt, fieldsOf}
-use Rattle.table.proofs.Bools.{and-true}
+use Rattle.table.proofs.tests.Bools.{and-true}
 use Rattle.planner.specs.Layout.{literalKey}
-use Rattle.planner.specs.Passes.{keyNode, valueNode}
+use Rattle.planner.specs.code.Passes.{keyNode, valueNode}
 use Rattle.table.specs.Names.{isSame}
 use Rattle.planner.specs.Simple.{sameKey, hasKey, differing, addKey, keysOf}
-use Rattle.planner.proofs.Objects.{key-literal}
+use Rattle.planner.proofs.fields.Objects.{key-literal}
 use Rattle.value.specs.Value.{filledField, valueOf, valueFieldsOf, valueAt, firstOf as firstUnder, under, within, sameKeys}
 use Rattle.value.specs.Post.{ChildrenAsks, sameLiterals, underFrom, underIn, KeyedObject, KeySetsAsk}
 use Rattle.value.proofs.Keys.{or-left, or-right, is-true, is-false, true-is, key→, key-refl, sets-by-count, sets-uneven}

@@ -13,7 +13,7 @@ use Rattle.table.specs.Sound.{Node, WellFormed}
 use Rattle.table.specs.Expr as Expr
 use Rattle.table.specs.Expr.{Expr, literal, name, wildcard, array, set, object, other, Exprs, item, Fields, done, field}
 use Rattle.planner.specs.Layout.{literalKey}
-use Rattle.planner.specs.Passes.{keyNode}
+use Rattle.planner.specs.code.Passes.{keyNode}
 use Rattle.planner.specs.Simple.{sameKey, differing, keysOf, isLiteral}
 use Rattle.value.specs.Value.{isValue}
 

@@ -1,6 +1,6 @@
 use Prim.Native.Nat.{_-_}
 use lib.ListN.{length}
-use Rattle.planner.proofs.Filling.{Filling, filling-begin, filling-next, filling-ends}
+use Rattle.planner.proofs.buffer.Filling.{Filling, filling-begin, filling-next, filling-ends}
 use Rattle.report.specs.Post.{metMark}
 use borrow.Author.Needs.{needs}
 use Rattle.report.proofs.mark_met.Statement.{statement}

@@ -1,6 +1,6 @@
 use Prim.Native.Nat.{_-_}
 use lib.ListN.{getD}
-use Rattle.planner.proofs.Filling.{Filling, filling-start, filling-on}
+use Rattle.planner.proofs.buffer.Filling.{Filling, filling-start, filling-on}
 use Rattle.run_entry.proofs.Laws.{marks-end}
 use borrow.Author.Needs.{needs}
 use Rattle.run_entry.proofs.marks_of.Statement.{statement}

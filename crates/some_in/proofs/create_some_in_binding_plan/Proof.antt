@@ -1,4 +1,4 @@
-use Rattle.planner.proofs.Operations.{table-refuses, sound-well, root-node}
+use Rattle.planner.proofs.laws.Operations.{table-refuses, sound-well, root-node}
 use Rattle.some_in.proofs.Answers.{value-outside, collection-outside, goes-without, key-outside, goes-with}
 use borrow.Author.Needs.{needs}
 use Rattle.some_in.proofs.create_some_in_binding_plan.Statement.{statement}

@@ -1,5 +1,5 @@
-use Rattle.table.proofs.Answers.{answer-limit, answer-rules, ask-depths, answer-deep, few-names, answer-names, answer-sound}
-use Rattle.table.proofs.Bools.{told-yes}
+use Rattle.table.proofs.tests.Answers.{answer-limit, answer-rules, ask-depths, answer-deep, few-names, answer-names, answer-sound}
+use Rattle.table.proofs.tests.Bools.{told-yes}
 use borrow.Author.Needs.{needs}
 use Rattle.table.proofs.check.Statement.{statement}
 use Rattle.table.proofs.check.Tie as tie

@@ -1,4 +1,4 @@
-use Rattle.planner.proofs.ReadBack.{delivered-read}
+use Rattle.planner.proofs.buffer.ReadBack.{delivered-read}
 use Rattle.assignment.proofs.Binding.{side-opposed, side-match, side-unknown, side-array, side-object}
 use borrow.Author.Needs.{needs}
 use Rattle.assignment.proofs.assignment.bind_side.Statement.{statement}

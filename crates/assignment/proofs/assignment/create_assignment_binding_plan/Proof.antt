@@ -1,5 +1,5 @@
 use Rattle.assignment.proofs.Sides.{left-outside, right-outside, assigns-colon, assigns-equals}
-use Rattle.planner.proofs.Operations.{table-refuses, sound-well, root-node}
+use Rattle.planner.proofs.laws.Operations.{table-refuses, sound-well, root-node}
 use borrow.Author.Needs.{needs}
 use Rattle.assignment.proofs.assignment.create_assignment_binding_plan.Statement.{
   statement,

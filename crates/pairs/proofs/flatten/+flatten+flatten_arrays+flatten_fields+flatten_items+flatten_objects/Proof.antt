@@ -1,6 +1,6 @@
 use Prim.Native.Nat.{_-_, _*_}
 use Rattle.table.specs.Tables.{tables}
-use Rattle.planner.proofs.SecondPass.{object-falls, child-falls}
+use Rattle.planner.proofs.destructuring.SecondPass.{object-falls, child-falls}
 use Rattle.pairs.proofs.FlatNodes.{ask-sides, at-low, ask-bind-left, ask-bind-right, flat-compared, flat-bind-left, flat-bind-right, ask-arrays, ask-keyed, flat-by-items, flat-by-keys, flat-refused, arrays-differ, ask-items, arrays-items, ask-fields, objects-refused}
 use Rattle.pairs.proofs.FlatLoops.{PairingItems, items-start, items-left-fits, items-right-fits, items-child, items-below, items-on, items-fail, items-over, PairingFields, fields-start, fields-fit, fields-ask, fields-child, fields-below, fields-on, fields-fail, fields-over, parts-fall}
 use borrow.Author.Needs.{needs}

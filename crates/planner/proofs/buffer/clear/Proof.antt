@@ -1,4 +1,4 @@
-use Rattle.planner.proofs.Filling.{all-cleared}
+use Rattle.planner.proofs.buffer.Filling.{all-cleared}
 use borrow.Author.Needs.{needs}
 use Rattle.planner.proofs.buffer.clear.Statement.{statement}
 use Rattle.planner.proofs.buffer.clear.Tie as tie

@@ -1,8 +1,8 @@
 use Prim.Native.Nat.{_-_, _≤_}
 use lib.ListN.{length}
-use Rattle.planner.specs.Post.{wordAt}
-use Rattle.planner.proofs.Filling.{Filling, filling-next, filling-ends, word-out}
-use Rattle.planner.proofs.Copies.{clearing-start}
+use Rattle.planner.specs.code.Post.{wordAt}
+use Rattle.planner.proofs.buffer.Filling.{Filling, filling-next, filling-ends, word-out}
+use Rattle.planner.proofs.buffer.Copies.{clearing-start}
 use borrow.Author.Needs.{needs}
 use Rattle.planner.proofs.buffer.clear_after.Statement.{statement}
 use Rattle.planner.proofs.buffer.clear_after.Tie as tie

@@ -1,4 +1,4 @@
-use Rattle.planner.proofs.Filling.{deliver-small, deliver-fits}
+use Rattle.planner.proofs.buffer.Filling.{deliver-small, deliver-fits}
 use borrow.Author.Needs.{needs}
 use Rattle.planner.proofs.buffer.close.Statement.{statement}
 use Rattle.planner.proofs.buffer.close.Tie as tie

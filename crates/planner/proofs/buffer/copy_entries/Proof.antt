@@ -1,5 +1,5 @@
 use Prim.Native.Nat.{_-_}
-use Rattle.planner.proofs.Copies.{Copying, copying-start, copying-place, copying-on, copying-end-fits, copying-ends}
+use Rattle.planner.proofs.buffer.Copies.{Copying, copying-start, copying-place, copying-on, copying-end-fits, copying-ends}
 use borrow.Author.Needs.{needs}
 use Rattle.planner.proofs.buffer.copy_entries.Statement.{statement}
 use Rattle.planner.proofs.buffer.copy_entries.Tie as tie

@@ -1,6 +1,6 @@
 use Prim.Native.Nat.{_-_}
 use lib.ListN.{length, getD}
-use Rattle.planner.proofs.Filling.{Filling, filling-begin, filling-on, copied-ends}
+use Rattle.planner.proofs.buffer.Filling.{Filling, filling-begin, filling-on, copied-ends}
 use borrow.Author.Needs.{needs}
 use Rattle.planner.proofs.buffer.copy_words.Statement.{statement}
 use Rattle.planner.proofs.buffer.copy_words.Tie as tie

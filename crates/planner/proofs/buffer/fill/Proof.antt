@@ -1,4 +1,4 @@
-use Rattle.planner.proofs.Filling.{copied-cleared}
+use Rattle.planner.proofs.buffer.Filling.{copied-cleared}
 use borrow.Author.Needs.{needs}
 use Rattle.planner.proofs.buffer.fill.Statement.{statement}
 use Rattle.planner.proofs.buffer.fill.Tie as tie

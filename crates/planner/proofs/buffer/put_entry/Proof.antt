@@ -1,5 +1,5 @@
 use lib.Seq.{lt-length-set}
-use Rattle.planner.proofs.Copies.{word-2, word-3, word-4, wrote-in, wrote-out}
+use Rattle.planner.proofs.buffer.Copies.{word-2, word-3, word-4, wrote-in, wrote-out}
 use borrow.Author.Needs.{needs}
 use Rattle.planner.proofs.buffer.put_entry.Statement.{statement}
 use Rattle.planner.proofs.buffer.put_entry.Tie as tie

@@ -1,4 +1,4 @@
-use Rattle.planner.proofs.States.{state-underscore, state-reserved, state-ordinary}
+use Rattle.planner.proofs.laws.States.{state-underscore, state-reserved, state-ordinary}
 use borrow.Author.Needs.{needs}
 use Rattle.planner.proofs.context.name_state.Statement.{statement}
 use Rattle.planner.proofs.context.name_state.Tie as tie

@@ -1,4 +1,4 @@
-use Rattle.planner.proofs.States.{mark-yes, mark-no, mark-never}
+use Rattle.planner.proofs.laws.States.{mark-yes, mark-no, mark-never}
 use borrow.Author.Needs.{needs}
 use Rattle.planner.proofs.context.unbound_mark.Statement.{statement}
 use Rattle.planner.proofs.context.unbound_mark.Tie as tie

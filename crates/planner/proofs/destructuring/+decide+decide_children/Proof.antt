@@ -1,8 +1,8 @@
-use Rattle.planner.proofs.Walking.{ask-name, ask-items, ask-values, child-falls}
+use Rattle.planner.proofs.destructuring.Walking.{ask-name, ask-items, ask-values, child-falls}
 use Prim.Native.Nat.{_-_, _*_}
 use native.Mathlib.Omega.{arith}
 use Rattle.table.specs.Tables.{tables}
-use Rattle.planner.proofs.FirstPass.{decided-name, decided-items, decided-values, decided-plain, Deciding, deciding-start, deciding-child, deciding-below, deciding-on, deciding-fits, deciding-ends}
+use Rattle.planner.proofs.destructuring.FirstPass.{decided-name, decided-items, decided-values, decided-plain, Deciding, deciding-start, deciding-child, deciding-below, deciding-on, deciding-fits, deciding-ends}
 use borrow.Author.Needs.{needs}
 use Prim.Native.Nat.{ℕ, _<_}
 use borrow.Fn.Kinds.{In}

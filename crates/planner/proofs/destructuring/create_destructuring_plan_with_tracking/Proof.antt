@@ -1,4 +1,4 @@
-use Rattle.planner.proofs.Tracked.{tracked-room, tracked}
+use Rattle.planner.proofs.destructuring.Tracked.{tracked-room, tracked}
 use borrow.Author.Needs.{needs}
 use Rattle.planner.proofs.destructuring.create_destructuring_plan_with_tracking.Statement.{
   statement,

@@ -1,4 +1,4 @@
-use Rattle.planner.proofs.FirstPass.{name-known, name-seen, name-binds}
+use Rattle.planner.proofs.destructuring.FirstPass.{name-known, name-seen, name-binds}
 use borrow.Author.Needs.{needs}
 use Rattle.planner.proofs.destructuring.decide_name.Statement.{statement}
 use Rattle.planner.proofs.destructuring.decide_name.Tie as tie

@@ -1,4 +1,4 @@
-use Rattle.planner.proofs.Operations.{ask-pattern, pattern-delivered}
+use Rattle.planner.proofs.laws.Operations.{ask-pattern, pattern-delivered}
 use borrow.Author.Needs.{needs}
 use Rattle.planner.proofs.destructuring.deliver_pattern.Statement.{statement}
 use Rattle.planner.proofs.destructuring.deliver_pattern.Tie as tie

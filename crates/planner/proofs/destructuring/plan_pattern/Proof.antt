@@ -1,4 +1,4 @@
-use Rattle.planner.proofs.Operations.{ask-plan, pattern-planned}
+use Rattle.planner.proofs.laws.Operations.{ask-plan, pattern-planned}
 use borrow.Author.Needs.{needs}
 use Rattle.planner.proofs.destructuring.plan_pattern.Statement.{statement}
 use Rattle.planner.proofs.destructuring.plan_pattern.Tie as tie

@@ -1,4 +1,4 @@
-use Rattle.planner.proofs.FieldLoops.{total-fits, literals-fit, ask-find, append-room, found-place, place-fits, insert-room, added-computed, added-equal, added-new}
+use Rattle.planner.proofs.fields.FieldLoops.{total-fits, literals-fit, ask-find, append-room, found-place, place-fits, insert-room, added-computed, added-equal, added-new}
 use borrow.Author.Needs.{needs}
 use Rattle.planner.proofs.fields.add_field.Statement.{statement}
 use Rattle.planner.proofs.fields.add_field.Tie as tie

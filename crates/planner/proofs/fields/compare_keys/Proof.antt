@@ -1,4 +1,4 @@
-use Rattle.planner.proofs.FieldLoops.{compared-keys}
+use Rattle.planner.proofs.fields.FieldLoops.{compared-keys}
 use borrow.Author.Needs.{needs}
 use Rattle.planner.proofs.fields.compare_keys.Statement.{statement}
 use Rattle.planner.proofs.fields.compare_keys.Tie as tie

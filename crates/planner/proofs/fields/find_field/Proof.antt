@@ -1,6 +1,6 @@
 use Prim.Native.Nat.{_-_}
 use Rattle.table.specs.Tables.{tables}
-use Rattle.planner.proofs.FieldLoops.{Finding, finding-start, finding-equal, finding-down, finding-up, finding-ends}
+use Rattle.planner.proofs.fields.FieldLoops.{Finding, finding-start, finding-equal, finding-down, finding-up, finding-ends}
 use borrow.Author.Needs.{needs}
 use Rattle.planner.proofs.fields.find_field.Statement.{statement}
 use Rattle.planner.proofs.fields.find_field.Tie as tie

@@ -1,4 +1,4 @@
-use Rattle.planner.proofs.FieldLoops.{Moving, moving-start, moving-on, moving-ends}
+use Rattle.planner.proofs.fields.FieldLoops.{Moving, moving-start, moving-on, moving-ends}
 use borrow.Author.Needs.{needs}
 use Rattle.planner.proofs.fields.insert_at.Statement.{statement}
 use Rattle.planner.proofs.fields.insert_at.Tie as tie

@@ -1,6 +1,6 @@
 use Prim.Native.Nat.{_-_}
 use Rattle.table.specs.Tables.{tables}
-use Rattle.planner.proofs.FieldLoops.{Arranging, arranging-start, arranging-next, arranging-on, arranging-ends}
+use Rattle.planner.proofs.fields.FieldLoops.{Arranging, arranging-start, arranging-next, arranging-on, arranging-ends}
 use borrow.Author.Needs.{needs}
 use Rattle.planner.proofs.fields.order_fields.Statement.{statement}
 use Rattle.planner.proofs.fields.order_fields.Tie as tie

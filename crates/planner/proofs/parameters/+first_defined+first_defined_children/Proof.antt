@@ -1,8 +1,8 @@
 use Prim.Native.Nat.{_-_, _*_}
 use native.Mathlib.Omega.{arith}
 use Rattle.table.specs.Tables.{tables}
-use Rattle.planner.proofs.Walking.{ask-name, ask-items, ask-members, ask-values, child-falls}
-use Rattle.planner.proofs.Validating.{found-name, found-items, found-members, found-values, found-none, Looking, looking-start, looking-child, looking-below, looking-on, looking-found, looking-fits, looking-ends}
+use Rattle.planner.proofs.destructuring.Walking.{ask-name, ask-items, ask-members, ask-values, child-falls}
+use Rattle.planner.proofs.laws.Validating.{found-name, found-items, found-members, found-values, found-none, Looking, looking-start, looking-child, looking-below, looking-on, looking-found, looking-fits, looking-ends}
 use borrow.Author.Needs.{needs}
 use Prim.Native.Nat.{ℕ, _<_}
 use borrow.Fn.Kinds.{In}

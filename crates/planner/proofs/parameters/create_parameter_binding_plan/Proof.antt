@@ -1,5 +1,5 @@
-use Rattle.planner.proofs.Operations.{sound-well, root-node}
-use Rattle.planner.proofs.Operations.{table-refuses, root-refuses, goes-on}
+use Rattle.planner.proofs.laws.Operations.{sound-well, root-node}
+use Rattle.planner.proofs.laws.Operations.{table-refuses, root-refuses, goes-on}
 use borrow.Author.Needs.{needs}
 use Rattle.planner.proofs.parameters.create_parameter_binding_plan.Statement.{statement}
 use Rattle.planner.proofs.parameters.create_parameter_binding_plan.Tie as tie

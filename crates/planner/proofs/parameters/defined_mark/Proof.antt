@@ -1,4 +1,4 @@
-use Rattle.planner.proofs.Validating.{mark-planned, mark-free, mark-defined}
+use Rattle.planner.proofs.laws.Validating.{mark-planned, mark-free, mark-defined}
 use borrow.Author.Needs.{needs}
 use Rattle.planner.proofs.parameters.defined_mark.Statement.{statement}
 use Rattle.planner.proofs.parameters.defined_mark.Tie as tie

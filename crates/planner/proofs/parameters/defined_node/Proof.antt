@@ -1,4 +1,4 @@
-use Rattle.planner.proofs.Validating.{node-defined, node-free}
+use Rattle.planner.proofs.laws.Validating.{node-defined, node-free}
 use borrow.Author.Needs.{needs}
 use Rattle.planner.proofs.parameters.defined_node.Statement.{statement}
 use Rattle.planner.proofs.parameters.defined_node.Tie as tie

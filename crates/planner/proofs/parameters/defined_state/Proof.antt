@@ -1,4 +1,4 @@
-use Rattle.planner.proofs.Validating.{defined-underscore, defined-reserved, defined-ordinary}
+use Rattle.planner.proofs.laws.Validating.{defined-underscore, defined-reserved, defined-ordinary}
 use borrow.Author.Needs.{needs}
 use Rattle.planner.proofs.parameters.defined_state.Statement.{statement}
 use Rattle.planner.proofs.parameters.defined_state.Tie as tie

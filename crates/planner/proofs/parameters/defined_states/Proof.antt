@@ -1,7 +1,7 @@
 use Prim.Native.Nat.{_-_, _≤_}
 use native.Mathlib.Omega.{arith}
-use Rattle.planner.proofs.Filling.{Filling, filling-start, filling-on}
-use Rattle.planner.proofs.Validating.{definedAt, defined-end}
+use Rattle.planner.proofs.buffer.Filling.{Filling, filling-start, filling-on}
+use Rattle.planner.proofs.laws.Validating.{definedAt, defined-end}
 use borrow.Author.Needs.{needs}
 use Rattle.planner.proofs.parameters.defined_states.Statement.{statement}
 use Rattle.planner.proofs.parameters.defined_states.Tie as tie

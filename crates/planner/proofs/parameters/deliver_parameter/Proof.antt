@@ -1,5 +1,5 @@
-use Rattle.planner.proofs.Operations.{ask-pattern}
-use Rattle.planner.proofs.Validating.{parameter-refused, parameter-delivered}
+use Rattle.planner.proofs.laws.Operations.{ask-pattern}
+use Rattle.planner.proofs.laws.Validating.{parameter-refused, parameter-delivered}
 use borrow.Author.Needs.{needs}
 use Rattle.planner.proofs.parameters.deliver_parameter.Statement.{statement}
 use Rattle.planner.proofs.parameters.deliver_parameter.Tie as tie

@@ -1,4 +1,4 @@
-use Rattle.planner.proofs.Validating.{parameter-respects, parameter-shadows}
+use Rattle.planner.proofs.laws.Validating.{parameter-respects, parameter-shadows}
 use borrow.Author.Needs.{needs}
 use Rattle.planner.proofs.parameters.validate_parameter.Statement.{statement}
 use Rattle.planner.proofs.parameters.validate_parameter.Tie as tie

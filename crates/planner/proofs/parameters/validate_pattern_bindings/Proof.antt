@@ -1,4 +1,4 @@
-use Rattle.planner.proofs.Validating.{ask-defined, ask-first, first-validated}
+use Rattle.planner.proofs.laws.Validating.{ask-defined, ask-first, first-validated}
 use borrow.Author.Needs.{needs}
 use Rattle.planner.proofs.parameters.validate_pattern_bindings.Statement.{statement}
 use Rattle.planner.proofs.parameters.validate_pattern_bindings.Tie as tie

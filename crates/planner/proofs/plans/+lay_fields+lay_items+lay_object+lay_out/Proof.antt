@@ -1,7 +1,7 @@
 use Prim.Native.Nat.{_-_, _*_}
 use Rattle.table.specs.Tables.{tables}
-use Rattle.planner.proofs.SecondPass.{put-room, ask-object, ask-name, laid-name, ask-items, laid-array, laid-plain, LayingItems, laying-start, laying-child, laying-below, laying-on, laying-fits, laying-ends, LayingFields, ordering-start, ordering-inside, ordering-place, ordering-key, ordering-value, ordering-child, ordering-below, ordering-on, ordering-ends, object-falls, items-fall, fields-fall, child-falls}
-use Rattle.planner.proofs.Objects.{ask-order, ask-ordered, laid-object}
+use Rattle.planner.proofs.destructuring.SecondPass.{put-room, ask-object, ask-name, laid-name, ask-items, laid-array, laid-plain, LayingItems, laying-start, laying-child, laying-below, laying-on, laying-fits, laying-ends, LayingFields, ordering-start, ordering-inside, ordering-place, ordering-key, ordering-value, ordering-child, ordering-below, ordering-on, ordering-ends, object-falls, items-fall, fields-fall, child-falls}
+use Rattle.planner.proofs.fields.Objects.{ask-order, ask-ordered, laid-object}
 use borrow.Author.Needs.{needs}
 use Prim.Native.Nat.{ℕ, _<_}
 use borrow.Fn.Kinds.{In}

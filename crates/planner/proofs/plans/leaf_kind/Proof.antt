@@ -1,4 +1,4 @@
-use Rattle.planner.proofs.SecondPass.{leaf-low, leaf-high}
+use Rattle.planner.proofs.destructuring.SecondPass.{leaf-low, leaf-high}
 use borrow.Author.Needs.{needs}
 use Rattle.planner.proofs.plans.leaf_kind.Statement.{statement}
 use Rattle.planner.proofs.plans.leaf_kind.Tie as tie

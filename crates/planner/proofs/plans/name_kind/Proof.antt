@@ -1,4 +1,4 @@
-use Rattle.planner.proofs.SecondPass.{kind-ignores, kind-binds, kind-compares}
+use Rattle.planner.proofs.destructuring.SecondPass.{kind-ignores, kind-binds, kind-compares}
 use borrow.Author.Needs.{needs}
 use Rattle.planner.proofs.plans.name_kind.Statement.{statement}
 use Rattle.planner.proofs.plans.name_kind.Tie as tie

@@ -1,4 +1,4 @@
-use Rattle.planner.proofs.Written.{put-stores}
+use Rattle.planner.proofs.buffer.Written.{put-stores}
 use borrow.Author.Needs.{needs}
 use Rattle.planner.proofs.plans.put.Statement.{statement}
 use Rattle.planner.proofs.plans.put.Tie as tie

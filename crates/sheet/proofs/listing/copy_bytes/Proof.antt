@@ -1,6 +1,6 @@
 use Prim.Native.Nat.{_-_}
 use lib.ListN.{length}
-use Rattle.planner.proofs.Filling.{Filling, filling-begin, filling-next}
+use Rattle.planner.proofs.buffer.Filling.{Filling, filling-begin, filling-next}
 use Rattle.sheet.specs.Post.{wordIn}
 use Rattle.sheet.proofs.ListingLines.{bytes-copied, byte-there}
 use borrow.Author.Needs.{needs}

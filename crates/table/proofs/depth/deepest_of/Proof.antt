@@ -1,5 +1,5 @@
 use Prim.Native.Nat.{_-_}
-use Rattle.table.proofs.Deepest.{Deepening, deepening-start, deepening-on, deepening-ends, child-low, child-high}
+use Rattle.table.proofs.trees.Deepest.{Deepening, deepening-start, deepening-on, deepening-ends, child-low, child-high}
 use borrow.Author.Needs.{needs}
 use Rattle.table.proofs.depth.deepest_of.Statement.{statement}
 use Rattle.table.proofs.depth.deepest_of.Tie as tie

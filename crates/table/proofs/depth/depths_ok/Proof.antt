@@ -1,5 +1,5 @@
 use Prim.Native.Nat.{_-_}
-use Rattle.table.proofs.Deepest.{Deep, deep-start, deep-on, deep-fails, deep-ends, ask-children}
+use Rattle.table.proofs.trees.Deepest.{Deep, deep-start, deep-on, deep-fails, deep-ends, ask-children}
 use borrow.Author.Needs.{needs}
 use Rattle.table.proofs.depth.depths_ok.Statement.{statement}
 use Rattle.table.proofs.depth.depths_ok.Tie as tie

@@ -1,6 +1,6 @@
 use Prim.Native.Nat.{_-_}
 use lib.ListN.{length}
-use Rattle.table.proofs.Fresh.{Distinct, distinct-start, distinct-on, distinct-fails, distinct-ends, entry-low, entry-fits}
+use Rattle.table.proofs.tests.Fresh.{Distinct, distinct-start, distinct-on, distinct-fails, distinct-ends, entry-low, entry-fits}
 use borrow.Author.Needs.{needs}
 use Rattle.table.proofs.marks.distinct_entries.Statement.{statement}
 use Rattle.table.proofs.marks.distinct_entries.Tie as tie

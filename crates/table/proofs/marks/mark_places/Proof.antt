@@ -1,5 +1,5 @@
 use Prim.Native.Nat.{_-_}
-use Rattle.table.proofs.Fresh.{Marking, marking-start, marking-on, marking-fails, marking-ends, place-low, place-fits}
+use Rattle.table.proofs.tests.Fresh.{Marking, marking-start, marking-on, marking-fails, marking-ends, place-low, place-fits}
 use borrow.Author.Needs.{needs}
 use Rattle.table.proofs.marks.mark_places.Statement.{statement}
 use Rattle.table.proofs.marks.mark_places.Tie as tie

@@ -1,5 +1,5 @@
 use Prim.Native.Nat.{_-_}
-use Rattle.table.proofs.Fresh.{Apart, apart-start, apart-on, apart-fails, apart-ends, ask-places}
+use Rattle.table.proofs.tests.Fresh.{Apart, apart-start, apart-on, apart-fails, apart-ends, ask-places}
 use borrow.Author.Needs.{needs}
 use Rattle.table.proofs.marks.places_apart.Statement.{statement}
 use Rattle.table.proofs.marks.places_apart.Tie as tie

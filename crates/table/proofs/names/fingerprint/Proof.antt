@@ -1,4 +1,4 @@
-use Rattle.table.proofs.Prints.{Printing, printing-start, printing-on, printing-ends}
+use Rattle.table.proofs.tests.Prints.{Printing, printing-start, printing-on, printing-ends}
 use lib.ListN.{length}
 use Prim.Native.Nat.{_-_}
 use borrow.Author.Needs.{needs}

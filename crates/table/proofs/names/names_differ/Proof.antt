@@ -1,5 +1,5 @@
-use Rattle.table.proofs.Prints.{Naming, naming-start, naming-on, printed-on}
-use Rattle.table.proofs.Clauses.{names-fail, names-end}
+use Rattle.table.proofs.tests.Prints.{Naming, naming-start, naming-on, printed-on}
+use Rattle.table.proofs.tests.Clauses.{names-fail, names-end}
 use Prim.Native.Nat.{_-_}
 use borrow.Author.Needs.{needs}
 use Rattle.table.proofs.names.names_differ.Statement.{statement}

@@ -1,5 +1,5 @@
-use Rattle.table.proofs.Prints.{new-on, new-fails}
-use Rattle.table.proofs.Scan.{Scan, scan-start, scan-ends}
+use Rattle.table.proofs.tests.Prints.{new-on, new-fails}
+use Rattle.table.proofs.tests.Scan.{Scan, scan-start, scan-ends}
 use Rattle.table.specs.Tables.{tables}
 use Rattle.table.specs.Rules.{differAt}
 use mathlib.Core.List.{[]}

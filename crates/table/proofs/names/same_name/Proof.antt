@@ -1,4 +1,4 @@
-use Rattle.table.proofs.Prints.{other-prints, same-prints}
+use Rattle.table.proofs.tests.Prints.{other-prints, same-prints}
 use borrow.Author.Needs.{needs}
 use Rattle.table.proofs.names.same_name.Statement.{statement}
 use Rattle.table.proofs.names.same_name.Tie as tie

@@ -3,7 +3,7 @@ use mathlib.Core.List.{[]}
 use lib.ListN.{length}
 use Rattle.table.specs.Tables.{tables}
 use Rattle.table.specs.Passes.{childrenBelowAt}
-use Rattle.table.proofs.Scan.{Scan, scan-start, scan-ends, all-on, all-fails}
+use Rattle.table.proofs.tests.Scan.{Scan, scan-start, scan-ends, all-on, all-fails}
 use borrow.Author.Needs.{needs}
 use Rattle.table.proofs.nodes.all_below.Statement.{statement}
 use Rattle.table.proofs.nodes.all_below.Tie as tie

@@ -2,8 +2,8 @@ use Prim.Native.Nat.{_-_}
 use mathlib.Core.List.{[]}
 use Rattle.table.specs.Tables.{tables}
 use Rattle.table.specs.Rules.{belowAt}
-use Rattle.table.proofs.Scan.{Scan, scan-start}
-use Rattle.table.proofs.Clauses.{below-not, children-fail, children-on, children-end}
+use Rattle.table.proofs.tests.Scan.{Scan, scan-start}
+use Rattle.table.proofs.tests.Clauses.{below-not, children-fail, children-on, children-end}
 use borrow.Author.Needs.{needs}
 use Rattle.table.proofs.nodes.children_below.Statement.{statement}
 use Rattle.table.proofs.nodes.children_below.Tie as tie

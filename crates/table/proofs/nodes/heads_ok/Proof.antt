@@ -2,8 +2,8 @@ use Prim.Native.Nat.{_-_, _/_}
 use lib.ListN.{length}
 use Rattle.table.specs.Tables.{tables}
 use Rattle.table.specs.Passes.{headOkAt}
-use Rattle.table.proofs.Scan.{Scan, scan-start, scan-ends}
-use Rattle.table.proofs.Clauses.{head-span, head-words, head-on}
+use Rattle.table.proofs.tests.Scan.{Scan, scan-start, scan-ends}
+use Rattle.table.proofs.tests.Clauses.{head-span, head-words, head-on}
 use borrow.Author.Needs.{needs}
 use Rattle.table.proofs.nodes.heads_ok.Statement.{statement}
 use Rattle.table.proofs.nodes.heads_ok.Tie as tie

@@ -1,4 +1,4 @@
-use Rattle.table.proofs.Clauses.{range-past, range-in}
+use Rattle.table.proofs.tests.Clauses.{range-past, range-in}
 use borrow.Author.Needs.{needs}
 use Rattle.table.proofs.nodes.in_range.Statement.{statement}
 use Rattle.table.proofs.nodes.in_range.Tie as tie

@@ -1,5 +1,5 @@
-use Rattle.table.proofs.Words.{text-part}
-use Rattle.table.proofs.Clauses.{named-low, named-high, named-counted, named-text}
+use Rattle.table.proofs.trees.Words.{text-part}
+use Rattle.table.proofs.tests.Clauses.{named-low, named-high, named-counted, named-text}
 use borrow.Author.Needs.{needs}
 use Rattle.table.proofs.nodes.name_words_ok.Statement.{statement}
 use Rattle.table.proofs.nodes.name_words_ok.Tie as tie

@@ -1,4 +1,4 @@
-use Rattle.table.proofs.Answers.{nodes-heads, entry-bound, nodes-twice, heads-places, nodes-shared, nodes-below}
+use Rattle.table.proofs.tests.Answers.{nodes-heads, entry-bound, nodes-twice, heads-places, nodes-shared, nodes-below}
 use borrow.Author.Needs.{needs}
 use Rattle.table.proofs.nodes.nodes_ok.Statement.{statement}
 use Rattle.table.proofs.nodes.nodes_ok.Tie as tie

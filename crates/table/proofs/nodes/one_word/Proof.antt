@@ -1,4 +1,4 @@
-use Rattle.table.proofs.Clauses.{one-word-in, one-word-out}
+use Rattle.table.proofs.tests.Clauses.{one-word-in, one-word-out}
 use borrow.Author.Needs.{needs}
 use Rattle.table.proofs.nodes.one_word.Statement.{statement}
 use Rattle.table.proofs.nodes.one_word.Tie as tie

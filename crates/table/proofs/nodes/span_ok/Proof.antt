@@ -1,4 +1,4 @@
-use Rattle.table.proofs.Clauses.{span-turned, span-in}
+use Rattle.table.proofs.tests.Clauses.{span-turned, span-in}
 use borrow.Author.Needs.{needs}
 use Rattle.table.proofs.nodes.span_ok.Statement.{statement}
 use Rattle.table.proofs.nodes.span_ok.Tie as tie

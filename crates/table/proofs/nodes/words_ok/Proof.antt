@@ -1,4 +1,4 @@
-use Rattle.table.proofs.Clauses.{words-string, words-raw, words-number, words-bool, words-null, words-name, words-array, words-set, words-object, words-other, words-none}
+use Rattle.table.proofs.tests.Clauses.{words-string, words-raw, words-number, words-bool, words-null, words-name, words-array, words-set, words-object, words-other, words-none}
 use borrow.Author.Needs.{needs}
 use Rattle.table.proofs.nodes.words_ok.Statement.{statement}
 use Rattle.table.proofs.nodes.words_ok.Tie as tie

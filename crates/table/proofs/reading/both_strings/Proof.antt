@@ -1,4 +1,4 @@
-use Rattle.table.proofs.Bytes.{both-second, both-not}
+use Rattle.table.proofs.tests.Bytes.{both-second, both-not}
 use borrow.Author.Needs.{needs}
 use Rattle.table.proofs.reading.both_strings.Statement.{statement}
 use Rattle.table.proofs.reading.both_strings.Tie as tie

@@ -1,4 +1,4 @@
-use Rattle.table.proofs.Words.{part-none, part-rest, part-whole}
+use Rattle.table.proofs.trees.Words.{part-none, part-rest, part-whole}
 use borrow.Author.Needs.{needs}
 use Rattle.table.proofs.reading.bytes_at.Statement.{statement}
 use Rattle.table.proofs.reading.bytes_at.Tie as tie

@@ -1,4 +1,4 @@
-use Rattle.table.proofs.Words.{text-none}
+use Rattle.table.proofs.trees.Words.{text-none}
 use borrow.Author.Needs.{needs}
 use Rattle.table.proofs.reading.bytes_between.Statement.{statement}
 use Rattle.table.proofs.reading.bytes_between.Tie as tie

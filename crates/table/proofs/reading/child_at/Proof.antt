@@ -1,4 +1,4 @@
-use Rattle.table.proofs.Words.{child-past}
+use Rattle.table.proofs.trees.Words.{child-past}
 use borrow.Author.Needs.{needs}
 use Rattle.table.proofs.reading.child_at.Statement.{statement}
 use Rattle.table.proofs.reading.child_at.Tie as tie

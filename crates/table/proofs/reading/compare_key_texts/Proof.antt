@@ -1,4 +1,4 @@
-use Rattle.table.proofs.Bytes.{by-text, strings-texts, literals-none, literals-other, literals-both}
+use Rattle.table.proofs.tests.Bytes.{by-text, strings-texts, literals-none, literals-other, literals-both}
 use borrow.Author.Needs.{needs}
 use Rattle.table.proofs.reading.compare_key_texts.Statement.{statement}
 use Rattle.table.proofs.reading.compare_key_texts.Tie as tie

@@ -1,4 +1,4 @@
-use Rattle.table.proofs.Bytes.{by-order, strings-compared, literals-none, literals-other, literals-both}
+use Rattle.table.proofs.tests.Bytes.{by-order, strings-compared, literals-none, literals-other, literals-both}
 use borrow.Author.Needs.{needs}
 use Rattle.table.proofs.reading.compare_literals.Statement.{statement}
 use Rattle.table.proofs.reading.compare_literals.Tie as tie

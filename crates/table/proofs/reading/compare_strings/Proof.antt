@@ -1,4 +1,4 @@
-use Rattle.table.proofs.Bytes.{ranges-read}
+use Rattle.table.proofs.tests.Bytes.{ranges-read}
 use borrow.Author.Needs.{needs}
 use Rattle.table.proofs.reading.compare_strings.Statement.{statement}
 use Rattle.table.proofs.reading.compare_strings.Tie as tie

@@ -1,4 +1,4 @@
-use Rattle.table.proofs.Words.{ref-string, ref-raw, ref-number, ref-false, ref-true, ref-null, ref-none}
+use Rattle.table.proofs.trees.Words.{ref-string, ref-raw, ref-number, ref-false, ref-true, ref-null, ref-none}
 use borrow.Author.Needs.{needs}
 use Rattle.table.proofs.reading.extract_literal_key.Statement.{statement}
 use Rattle.table.proofs.reading.extract_literal_key.Tie as tie

@@ -1,4 +1,4 @@
-use Rattle.table.proofs.Clauses.{node-low, node-high}
+use Rattle.table.proofs.tests.Clauses.{node-low, node-high}
 use borrow.Author.Needs.{needs}
 use Rattle.table.proofs.reading.is_node.Statement.{statement}
 use Rattle.table.proofs.reading.is_node.Tie as tie

@@ -1,4 +1,4 @@
-use Rattle.table.proofs.Bytes.{test-read}
+use Rattle.table.proofs.tests.Bytes.{test-read}
 use borrow.Author.Needs.{needs}
 use Rattle.table.proofs.reading.is_string.Statement.{statement}
 use Rattle.table.proofs.reading.is_string.Tie as tie

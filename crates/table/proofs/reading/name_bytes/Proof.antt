@@ -1,4 +1,4 @@
-use Rattle.table.proofs.Words.{name-part}
+use Rattle.table.proofs.trees.Words.{name-part}
 use borrow.Author.Needs.{needs}
 use Rattle.table.proofs.reading.name_bytes.Statement.{statement}
 use Rattle.table.proofs.reading.name_bytes.Tie as tie

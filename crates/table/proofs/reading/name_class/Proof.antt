@@ -1,4 +1,4 @@
-use Rattle.table.proofs.Bytes.{class-underscore, class-input, class-data, class-other}
+use Rattle.table.proofs.tests.Bytes.{class-underscore, class-input, class-data, class-other}
 use borrow.Author.Needs.{needs}
 use Rattle.table.proofs.reading.name_class.Statement.{statement}
 use Rattle.table.proofs.reading.name_class.Tie as tie

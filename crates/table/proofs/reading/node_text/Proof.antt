@@ -1,4 +1,4 @@
-use Rattle.table.proofs.Words.{text-part}
+use Rattle.table.proofs.trees.Words.{text-part}
 use borrow.Author.Needs.{needs}
 use Rattle.table.proofs.reading.node_text.Statement.{statement}
 use Rattle.table.proofs.reading.node_text.Tie as tie

@@ -1,4 +1,4 @@
-use Rattle.table.proofs.Words.{word-here}
+use Rattle.table.proofs.trees.Words.{word-here}
 use borrow.Author.Needs.{needs}
 use Rattle.table.proofs.reading.node_word.Statement.{statement}
 use Rattle.table.proofs.reading.node_word.Tie as tie

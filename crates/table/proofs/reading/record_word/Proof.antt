@@ -1,4 +1,4 @@
-use Rattle.table.proofs.Words.{word-place, word-place-on, word-none, word-at, word-past}
+use Rattle.table.proofs.trees.Words.{word-place, word-place-on, word-none, word-at, word-past}
 use borrow.Author.Needs.{needs}
 use Rattle.table.proofs.reading.record_word.Statement.{statement}
 use Rattle.table.proofs.reading.record_word.Tie as tie

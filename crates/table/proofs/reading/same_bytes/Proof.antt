@@ -1,4 +1,4 @@
-use Rattle.table.proofs.Bytes.{other-length, same-equal, same-less, same-greater, same-none}
+use Rattle.table.proofs.tests.Bytes.{other-length, same-equal, same-less, same-greater, same-none}
 use borrow.Author.Needs.{needs}
 use Rattle.table.proofs.reading.same_bytes.Statement.{statement}
 use Rattle.table.proofs.reading.same_bytes.Tie as tie

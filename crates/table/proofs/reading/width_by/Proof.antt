@@ -1,4 +1,4 @@
-use Rattle.table.proofs.Words.{wide-object, wide-array, wide-set, wide-leaf}
+use Rattle.table.proofs.trees.Words.{wide-object, wide-array, wide-set, wide-leaf}
 use borrow.Author.Needs.{needs}
 use Rattle.table.proofs.reading.width_by.Statement.{statement}
 use Rattle.table.proofs.reading.width_by.Tie as tie

@@ -1,4 +1,4 @@
-use Rattle.table.proofs.Words.{width-by}
+use Rattle.table.proofs.trees.Words.{width-by}
 use borrow.Author.Needs.{needs}
 use Rattle.table.proofs.reading.width_of.Statement.{statement}
 use Rattle.table.proofs.reading.width_of.Tie as tie

@@ -3,7 +3,7 @@ use mathlib.Core.List.{[]}
 use lib.ListN.{length}
 use Rattle.table.specs.Tables.{tables}
 use Rattle.table.specs.Rules.{entryOk}
-use Rattle.table.proofs.Scan.{Scan, scan-start, scan-ends, all-on, all-fails}
+use Rattle.table.proofs.tests.Scan.{Scan, scan-start, scan-ends, all-on, all-fails}
 use borrow.Author.Needs.{needs}
 use Rattle.table.proofs.rules.entries_ok.Statement.{statement}
 use Rattle.table.proofs.rules.entries_ok.Tie as tie

@@ -1,4 +1,4 @@
-use Rattle.table.proofs.Answers.{names-few, rules-lists, ask-nodes, rules-nodes, rules-scope}
+use Rattle.table.proofs.tests.Answers.{names-few, rules-lists, ask-nodes, rules-nodes, rules-scope}
 use borrow.Author.Needs.{needs}
 use Rattle.table.proofs.rules.follows_rules.Statement.{statement}
 use Rattle.table.proofs.rules.follows_rules.Tie as tie

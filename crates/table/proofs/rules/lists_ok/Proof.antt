@@ -1,4 +1,4 @@
-use Rattle.table.proofs.Answers.{lists-ragged, lists-names, lists-numbers, lists-entries}
+use Rattle.table.proofs.tests.Answers.{lists-ragged, lists-names, lists-numbers, lists-entries}
 use borrow.Author.Needs.{needs}
 use Rattle.table.proofs.rules.lists_ok.Statement.{statement}
 use Rattle.table.proofs.rules.lists_ok.Tie as tie

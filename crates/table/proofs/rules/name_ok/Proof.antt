@@ -1,4 +1,4 @@
-use Rattle.table.proofs.Clauses.{name-short, name-long, name-spans}
+use Rattle.table.proofs.tests.Clauses.{name-short, name-long, name-spans}
 use borrow.Author.Needs.{needs}
 use Rattle.table.proofs.rules.name_ok.Statement.{statement}
 use Rattle.table.proofs.rules.name_ok.Tie as tie

@@ -1,4 +1,4 @@
-use Rattle.table.proofs.Clauses.{scope-marked, scope-none, scope-high, scope-name}
+use Rattle.table.proofs.tests.Clauses.{scope-marked, scope-none, scope-high, scope-name}
 use borrow.Author.Needs.{needs}
 use Rattle.table.proofs.rules.scope_ok.Statement.{statement}
 use Rattle.table.proofs.rules.scope_ok.Tie as tie

@@ -1,4 +1,4 @@
-use Rattle.table.proofs.Clauses.{ragged-nodes, ragged-numbers, whole-names}
+use Rattle.table.proofs.tests.Clauses.{ragged-nodes, ragged-numbers, whole-names}
 use borrow.Author.Needs.{needs}
 use Rattle.table.proofs.rules.whole_records.Statement.{statement}
 use Rattle.table.proofs.rules.whole_records.Tie as tie

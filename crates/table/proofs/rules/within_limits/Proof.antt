@@ -1,4 +1,4 @@
-use Rattle.table.proofs.Clauses.{over-nodes, over-children, over-numbers, over-names, over-strings, limits-text}
+use Rattle.table.proofs.tests.Clauses.{over-nodes, over-children, over-numbers, over-names, over-strings, limits-text}
 use borrow.Author.Needs.{needs}
 use Rattle.table.proofs.rules.within_limits.Statement.{statement}
 use Rattle.table.proofs.rules.within_limits.Tie as tie

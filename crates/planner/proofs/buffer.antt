@@ -1,0 +1,4 @@
+pub mod Written
+pub mod Filling
+pub mod ReadBack
+pub mod Copies

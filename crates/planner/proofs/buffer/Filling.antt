@@ -1,0 +1,109 @@
+-- Lists that are filled from place 0 on.
+use Prim.Native.Nat.{ℕ, zero, suc, _+_, _-_, _*_, _/_, _≤_, _<_}
+use mathlib.Core.Path.{_≡_, refl, sym, ap, _∙_}
+use mathlib.Core.List.{List, _∷_}
+use mathlib.Core.Bool.{Bool, true, false}
+use native.Mathlib.Omega.{arith}
+use borrow.Author.Tests.{eqb-true, eqb-false, le-leb, lt-leb, lt-ltb, le-ltb, ltb-true}
+use lib.Dec.{eqb, ltb}
+use lib.ListN.{length, getD, set, replicate, length-set, length-replicate, getD-replicate}
+use lib.Seq.{getD-set-same, getD-set-other, ext-getD}
+use Rattle.planner.specs.declared.PlanAnswer.the-variants.{Planned, PlanTooLarge}
+use Rattle.planner.specs.code.Post.{Copied, wordAt, tabulate, Delivered}
+
+-- an array filled from place 0 on
+pub record Filling (f : ℕ → ℕ) (size i : ℕ) (here : List ℕ) : Type 0 where
+  pub long : length here ≡ size
+  pub each : (k : ℕ) → k < i → getD here k 0 ≡ f k
+
+pub filling-begin : (f : ℕ → ℕ) (l : List ℕ) → Filling f (length l) 0 l
+filling-begin f l = record { long = refl; each = λ k lt. absurd (omega arith) }
+
+pub filling-start : (f : ℕ → ℕ) (size : ℕ) → Filling f size 0 (replicate size 0)
+filling-start f size = record { long = length-replicate size 0; each = λ k lt. absurd (omega arith) }
+
+pub filling-on : {f : ℕ → ℕ} {size i : ℕ} {here : List ℕ} {v count : ℕ} → Filling f size i here → i < count → count ≤ size → v ≡ f i → Filling f size (i + 1) (set here i v)
+filling-on {f} {size} {i} {here} {v} go lt le e = record {
+  long = length-set here i v ∙ go .long;
+  each = λ k below. at k below (eqb k i) refl;
+}
+  where
+    at : (k : ℕ) → k < i + 1 → (b : Bool) → eqb k i ≡ b → getD (set here i v) k 0 ≡ f k
+    at k below true p =
+        let k-is = eqb-true k i p in
+        let long = go .long in
+        rw k-is (getD-set-same here i v 0 (omega arith) ∙ e)
+    at k below false p =
+        let differs = eqb-false k i p in
+        getD-set-other here i k v 0 differs ∙ go .each k (omega (arith, differs))
+
+pub filling-next : {f : ℕ → ℕ} {size i : ℕ} {here : List ℕ} {v : ℕ} → Filling f size i here → i < length here → v ≡ f i → Filling f size (i + 1) (set here i v)
+filling-next {f} {size} {i} {here} {v} go lt e = let long = go .long in filling-on {count = size} go (omega arith) (omega arith) e
+
+pub length-tabulate : (f : ℕ → ℕ) (i k : ℕ) → length (tabulate f i k) ≡ k
+unfolding tabulate
+length-tabulate f i zero = refl
+length-tabulate f i (suc k) = ap suc (length-tabulate f (i + 1) k)
+
+pub getD-tabulate : (f : ℕ → ℕ) (i k j : ℕ) → j < k → getD (tabulate f i k) j 0 ≡ f (i + j)
+unfolding tabulate
+getD-tabulate f i zero j lt = absurd (omega arith)
+getD-tabulate f i (suc k) zero lt = let e : i ≡ i + 0 = omega arith in ap f e
+getD-tabulate f i (suc k) (suc j) lt = let e : i + 1 + j ≡ i + suc j = omega arith in getD-tabulate f (i + 1) k j (omega arith) ∙ ap f e
+
+tabulate-same : (f g : ℕ → ℕ) → ((i : ℕ) → f i ≡ g i) → (i k : ℕ) → tabulate f i k ≡ tabulate g i k
+unfolding tabulate
+tabulate-same f g same i zero = refl
+tabulate-same f g same i (suc k) = ap (λ h. h ∷ tabulate f (i + 1) k) (same i) ∙ ap (λ t. g i ∷ t) (tabulate-same f g same (i + 1) k)
+
+module _ {f : ℕ → ℕ} {size i : ℕ} {here : List ℕ} (go : Filling f size i here) (done : length here ≤ i) where
+  pub filling-ends : here ≡ tabulate f 0 size
+  filling-ends =
+      let long = go .long in
+      ext-getD 0 here (tabulate f 0 size) (long ∙ sym (length-tabulate f 0 size)) (λ k lt.
+      let z : 0 + k ≡ k = omega arith in
+      go .each k (omega arith) ∙ sym (getD-tabulate f 0 size k (omega arith) ∙ ap f z))
+
+pub zeros-end : {size i : ℕ} {here : List ℕ} → Filling (λ _. 0) size i here → length here ≤ i → here ≡ replicate size 0
+zeros-end {size} {i} {here} go done =
+    let long = go .long in
+    ext-getD 0 here (replicate size 0) (long ∙ sym (length-replicate size 0)) (λ k lt. go .each k (omega arith) ∙ sym (getD-replicate size k 0 0 (omega arith)))
+
+-- a word of the scratch
+module _ (scratch : List ℕ) (size i : ℕ) where
+  pub word-in : i < size → getD scratch i 0 ≡ wordAt scratch size i
+  word-in lt = simp (lt-ltb i size lt)
+
+  pub word-out : size ≤ i → 0 ≡ wordAt scratch size i
+  word-out le = simp (le-ltb i size le)
+
+-- no word kept
+pub all-cleared : (before : List ℕ) {after : List ℕ} → after ≡ tabulate (wordAt before 0) 0 (length before) → after ≡ replicate (length before) 0
+unfolding tabulate
+all-cleared before e = e ∙ zeros (wordAt before 0) (λ i. sym (word-out before 0 i (omega arith))) 0 (length before)
+  where
+    zeros : (f : ℕ → ℕ) → ((i : ℕ) → f i ≡ 0) → (i k : ℕ) → tabulate f i k ≡ replicate k 0
+    zeros f none i zero = refl
+    zeros f none i (suc k) = ap (λ h. h ∷ tabulate f (i + 1) k) (none i) ∙ ap (λ t. 0 ∷ t) (zeros f none (i + 1) k)
+
+-- words copied, then zeros
+pub copied-ends : {scratch : List ℕ} {words i : ℕ} {before here : List ℕ} → Filling (λ k. getD scratch k 0) (length before) i here → words ≤ i → Copied scratch words before here
+copied-ends go done = record { long = go .long; each = λ k lt. go .each k (omega arith) }
+
+pub copied-cleared : {scratch : List ℕ} {words : ℕ} {before mid after : List ℕ} → Copied scratch words before mid → after ≡ tabulate (wordAt mid words) 0 (length mid) → after ≡ tabulate (wordAt scratch words) 0 (length before)
+copied-cleared {scratch} {words} {before} {mid} copied e = e ∙ (ap (tabulate (wordAt mid words) 0) (copied .long) ∙ tabulate-same (wordAt mid words) (wordAt scratch words) at 0 (length before))
+  where
+    at : (i : ℕ) → wordAt mid words i ≡ wordAt scratch words i
+    at i = by-size (ltb i words) refl
+      where
+        by-size : (b : Bool) → ltb i words ≡ b → wordAt mid words i ≡ wordAt scratch words i
+        by-size true p = simp p (copied .each i (ltb-true i words p))
+        by-size false p = simp p
+
+-- with and without space
+module _ (scratch : List ℕ) (form side count : ℕ) (before after : List ℕ) where
+  pub deliver-small : length before / 4 < count → after ≡ replicate (length before) 0 → Delivered scratch form side count before after (PlanTooLarge count)
+  deliver-small lt e = let b = lt-leb count (length before / 4) lt in record { answer = simp b; buffer = simp b e }
+
+  pub deliver-fits : count ≤ length before / 4 → after ≡ tabulate (wordAt scratch (count * 4)) 0 (length before) → Delivered scratch form side count before after (Planned form side count)
+  deliver-fits le e = let b = le-leb count (length before / 4) le in record { answer = simp b; buffer = simp b e }

@@ -1,0 +1,112 @@
+-- Entries read back from a scratch, and delivered.
+use Prim.Native.Nat.{ℕ, zero, suc, _+_, _-_, _*_, _/_, _≤_, _<_}
+use mathlib.Core.Path.{_≡_, refl, sym, ap, _∙_}
+use mathlib.Core.List.{List, [], _∷_, _++_}
+use mathlib.Core.Bool.{Bool, true, false}
+use native.Mathlib.Omega.{arith}
+use native.Mathlib.Numerals.{add-four}
+use borrow.Author.Tests.{leb-true, ltb-true, ltb-false}
+use lib.Dec.{leb, ltb}
+use lib.ListN.{length, getD, drop, replicate, length-replicate, getD-replicate, length-append, length-drop, List·getD-append}
+use lib.Seq.{sets-eq, length-sets, ext-getD, getD-append-add, getD-drop}
+use Rattle.planner.specs.declared.PlanAnswer.{PlanAnswer}
+use Rattle.planner.specs.Layout.{Entry, words}
+use Rattle.planner.specs.Entries.{readEntries}
+use Rattle.planner.specs.Operations.{planned, answered, written, Answered}
+use Rattle.planner.specs.code.Post.{Laid, Delivered, wordAt, tabulate}
+use Rattle.planner.proofs.buffer.Filling.{length-tabulate, getD-tabulate}
+use Rattle.planner.proofs.buffer.Written.{length-words}
+
+pub length-read : (scratch : List ℕ) (i k : ℕ) → length (readEntries scratch i k) ≡ k
+unfolding readEntries
+length-read scratch i zero = refl
+length-read scratch i (suc k) = ap suc (length-read scratch (i + 1) k)
+
+-- entries whose words stand in a scratch read back as they are
+pub read-words : (es : List Entry) (scratch : List ℕ) (i : ℕ) → ((j : ℕ) → j < length es * 4 → getD scratch (i * 4 + j) 0 ≡ getD (words es) j 0) → readEntries scratch i (length es) ≡ es
+unfolding readEntries words
+read-words [] scratch i same = refl
+read-words (e ∷ es) scratch i same =
+    let z : i * 4 + 0 ≡ i * 4 = omega arith in
+    let kind : getD scratch (i * 4) 0 ≡ e .kind = rw z at (same 0 (omega arith)) in
+    let node : getD scratch (i * 4 + 1) 0 ≡ e .node = same 1 (omega arith) in
+    let children : getD scratch (i * 4 + 2) 0 ≡ e .children = same 2 (omega arith) in
+    let key : getD scratch (i * 4 + 3) 0 ≡ e .key = same 3 (omega arith) in
+    let rest = read-words es scratch (i + 1) (λ j lt.
+    let p : (i + 1) * 4 + j ≡ i * 4 + (j + 4) = omega arith in
+    rw p (same (j + 4) (omega arith) ∙ simp (add-four j))) in
+    rw (kind, node, children, key, rest)
+
+pub read-laid : {es : List Entry} {before scratch : List ℕ} {count : ℕ} → Laid before 0 es scratch count → count ≤ length scratch / 4 → readEntries scratch 0 count ≡ es
+read-laid {es} {before} {scratch} {count} l few =
+    let size : count ≡ length es = let e = l .end in omega arith in
+    let w = length-words es in
+    let same-length : length scratch ≡ length before = ap length (l .stored) ∙ length-sets before (0 * 4) (words es) in
+    let room : 0 + length (words es) ≤ length before = omega arith in
+    rw size (read-words es scratch 0 (λ j lt.
+    let z : 0 * 4 + j ≡ j = omega arith in
+    rw z (ap (λ (ws : List ℕ). getD ws j 0) (l .stored ∙ sets-eq (words es) before 0 room) ∙ List·getD-append (words es) _ 0 j (omega arith))))
+
+-- the words of the entries that were read are those of the scratch
+words-read : (scratch : List ℕ) (i k j : ℕ) → j < k * 4 → getD (words (readEntries scratch i k)) j 0 ≡ getD scratch (i * 4 + j) 0
+unfolding readEntries words
+words-read scratch i zero j lt = absurd (omega arith)
+words-read scratch i (suc k) zero lt = let e : i * 4 ≡ i * 4 + 0 = omega arith in ap (λ (m : ℕ). getD scratch m 0) e
+words-read scratch i (suc k) (suc zero) lt = refl
+words-read scratch i (suc k) (suc (suc zero)) lt = refl
+words-read scratch i (suc k) (suc (suc (suc zero))) lt = refl
+words-read scratch i (suc k) (suc (suc (suc (suc j)))) lt =
+    let e : (i + 1) * 4 + j ≡ i * 4 + suc (suc (suc (suc j))) = omega arith in
+    words-read scratch (i + 1) k j (omega arith) ∙ ap (λ (m : ℕ). getD scratch m 0) e
+
+-- a scratch's first words and then zeros
+first-words : (ws scratch : List ℕ) (size n : ℕ) → size ≡ length ws → size ≤ n → ((i : ℕ) → i < size → getD ws i 0 ≡ getD scratch i 0) → tabulate (wordAt scratch size) 0 n ≡ ws ++ drop size (replicate n 0)
+first-words ws scratch size n long fits same =
+    let longer = length-append ws (drop size (replicate n 0)) in
+    let dropped = length-drop {A = ℕ} size (replicate n 0) in
+    let whole = length-replicate {A = ℕ} n 0 in
+    ext-getD 0 (tabulate (wordAt scratch size) 0 n) (ws ++ drop size (replicate n 0)) (length-tabulate (wordAt scratch size) 0 n ∙ omega arith) (λ i lt. at i (rw (length-tabulate (wordAt scratch size) 0 n) at lt))
+  where
+    at : (i : ℕ) → i < n → getD (tabulate (wordAt scratch size) 0 n) i 0 ≡ getD (ws ++ drop size (replicate n 0)) i 0
+    at i lt =
+        let z : 0 + i ≡ i = omega arith in
+        getD-tabulate (wordAt scratch size) 0 n i lt ∙ (ap (wordAt scratch size) z ∙ by (ltb i size) refl)
+      where
+        by : (b : Bool) → ltb i size ≡ b → wordAt scratch size i ≡ getD (ws ++ drop size (replicate n 0)) i 0
+        by true p =
+            let below = ltb-true i size p in
+            simp p (sym (List·getD-append ws (drop size (replicate n 0)) 0 i (omega arith) ∙ same i below))
+        by false p =
+            let above = ltb-false i size p in
+            let split : i ≡ length ws + (i - length ws) = omega arith in
+            simp p (sym (
+            ap (λ (k : ℕ). getD (ws ++ drop size (replicate n 0)) k 0) split
+            ∙ (getD-append-add ws (drop size (replicate n 0)) (i - length ws) 0
+            ∙ (getD-drop size (replicate n 0) (i - length ws) 0
+            ∙ getD-replicate n (size + (i - length ws)) 0 0 (omega arith)))))
+
+-- what is read and then delivered
+pub delivered-read : (form side : ℕ) {scratch before later : List ℕ} {count : ℕ} {r : PlanAnswer} → Delivered scratch form side count before later r → Answered (planned form side (readEntries scratch 0 count)) before later r
+unfolding answered written
+delivered-read form side {scratch} {before} {later} {count} {r} d = go (leb count (length before / 4)) refl
+  where
+    size : length (readEntries scratch 0 count) ≡ count
+    size = length-read scratch 0 count
+
+    buffer-is : count ≤ length before / 4 → tabulate (wordAt scratch (count * 4)) 0 (length before) ≡ words (readEntries scratch 0 count) ++ drop (4 * count) (replicate (length before) 0)
+    buffer-is fits =
+        let n = size in
+        let w = length-words (readEntries scratch 0 count) in
+        let e : 4 * count ≡ count * 4 = omega arith in
+        let z : (i : ℕ) → 0 * 4 + i ≡ i = λ i. omega arith in
+        rw e (first-words (words (readEntries scratch 0 count)) scratch (count * 4) (length before) (omega arith) (omega arith) (λ i lt. words-read scratch 0 count i lt ∙ ap (λ (m : ℕ). getD scratch m 0) (z i)))
+
+    go : (b : Bool) → leb count (length before / 4) ≡ b → Answered (planned form side (readEntries scratch 0 count)) before later r
+    go true p = record {
+      answer = rw size (d .answer);
+      buffer = rw size (simp p ((simp p at (d .buffer)) ∙ buffer-is (leb-true count (length before / 4) p)));
+    }
+    go false p = record {
+      answer = rw size (d .answer);
+      buffer = rw size (simp p (simp p at (d .buffer)));
+    }

@@ -1,0 +1,5 @@
+pub mod NodeKinds
+pub mod Walking
+pub mod FirstPass
+pub mod SecondPass
+pub mod Tracked

@@ -1,0 +1,3 @@
+pub mod FieldOrder
+pub mod FieldLoops
+pub mod Objects

@@ -1,0 +1,135 @@
+-- What the planner's own functions ask of their caller.
+use Prim.Native.Nat.{ℕ, zero, suc, _+_, _-_, _*_, _/_, _^_, _≤_, _<_}
+use mathlib.Core.Path.{_≡_}
+use mathlib.Core.Bool.{cond, not}
+use mathlib.Core.List.{List, [], _∷_}
+use lib.Dec.{eqb, leb, ltb}
+use lib.ListN.{length, getD, take, replicate}
+use lib.Seq.{sets}
+use Rattle.table.specs.Tables.{Tables, kindOf, childAt, nameBytes}
+use Rattle.table.specs.Names.{classOf}
+use Rattle.scope.specs.declared.Scope.{Scope}
+use Rattle.scope.specs.declared.ScopingMode.{ScopingMode}
+use Rattle.scope.specs.Scope.{isUnbound}
+use Rattle.table.specs.Decode.{isWildcard, expr}
+use Rattle.planner.specs.Layout.{Entry, entries, words, inOrder}
+use Rattle.planner.specs.code.Passes.{layOut, layOutItems, layOutOrdered, keyNode, valueNode, orderOf, stateBy, bindersOf, unboundIn}
+use Rattle.planner.specs.Plan.{plan}
+use Rattle.planner.specs.Plan as Plan
+use Rattle.planner.specs.declared.PlanAnswer.{PlanAnswer}
+use Rattle.planner.specs.declared.PlanAnswer.the-variants.{Planned, PlanTooLarge}
+use Rattle.table.specs.Rules.{elem}
+use Rattle.table.specs.Sound.{Node, Named, WellFormed}
+
+pub record NameNumber (x : ℕ) : Type 0 where
+  pub low : 1 ≤ x
+  pub high : x ≤ 128
+
+-- `states` tells `_` by its bytes
+pub record States (T : Tables) (states : List ℕ) : Type 0 where
+  pub wild : (x : ℕ) → Named T x → isWildcard T x ≡ eqb (getD states (x - 1) 0) 2
+
+-- a walk from a node of a good table
+pub record Walks (T : Tables) (states : List ℕ) (n : ℕ) : Type 0 where
+  pub table : WellFormed T
+  pub states-ok : States T states
+  pub node : Node T n
+
+-- a walk over some children of a node
+pub record WalksChildren (T : Tables) (states : List ℕ) (parent at step left : ℕ) : Type 0 where
+  pub table : WellFormed T
+  pub states-ok : States T states
+  pub each : (i : ℕ) → i < left → Node T (childAt (T .children) (at + i * step)) × (childAt (T .children) (at + i * step) < parent)
+  pub small : at + left * step < 2 ^ 40
+
+-- The scratch holds 512 entries.
+
+-- entries stand in the scratch from place `at` on, and r is the place after them
+pub record Laid (before : List ℕ) (at : ℕ) (es : List Entry) (after : List ℕ) (r : ℕ) : Type 0 where
+  pub end : r ≡ at + length es
+  pub stored : after ≡ sets before (at * 4) (words es)
+
+abbrev pub PutAt : List ℕ → ℕ → Entry → List ℕ → Type 0
+PutAt before at e after = after ≡ sets before (at * 4) (words (e ∷ []))
+
+pub record LayAsks (T : Tables) (states binders : List ℕ) (n key at : ℕ) : Type 0 where
+  pub walks : Walks T states n
+  pub room : at + length (layOut binders (expr T n) key) ≤ 512
+
+pub record LayObjectAsks (T : Tables) (states binders : List ℕ) (n key at : ℕ) : Type 0 where
+  pub asks : LayAsks T states binders n key at
+  pub object : kindOf (T .nodes) n ≡ 9
+
+pub record LayItemsAsks (T : Tables) (states binders : List ℕ) (parent from left at : ℕ) : Type 0 where
+  pub walks : WalksChildren T states parent from 1 left
+  pub room : at + length (layOutItems binders T from left) ≤ 512
+
+-- an object whose fields are to be put in order
+pub record OrderAsks (T : Tables) (first size : ℕ) : Type 0 where
+  pub table : WellFormed T
+  pub listed : first + size * 2 ≤ length (T .children)
+  pub keys : (i : ℕ) → i < size → Node T (keyNode T first i)
+
+-- the first r numbers of the array are the fields in order
+pub record OrderedBy (T : Tables) (first size : ℕ) (order : List ℕ) (r : ℕ) : Type 0 where
+  pub total : r ≡ length (inOrder (orderOf T first size))
+  pub fields : take r order ≡ inOrder (orderOf T first size)
+  pub few : r ≤ 256
+
+pub record LayOrderedAsks (T : Tables) (states binders : List ℕ) (parent first : ℕ) (order : List ℕ) (total at : ℕ) : Type 0 where
+  pub table : WellFormed T
+  pub states-ok : States T states
+  pub few : total ≤ 256
+  pub each : (q : ℕ) → q < total → (first + getD order q 0 * 2 + 1 < 2 ^ 32) × Node T (valueNode T first (getD order q 0)) × (valueNode T first (getD order q 0) < parent)
+  pub room : at + length (layOutOrdered binders T first order 0 total) ≤ 512
+
+-- the states of all names of a table
+pub record StatesOf (names text : List ℕ) (s : Scope) (mode : ScopingMode) (states : List ℕ) : Type 0 where
+  pub long : length states ≡ 128
+  pub each : (x : ℕ) → 1 ≤ x → x ≤ length names / 2 → getD states (x - 1) 0 ≡ stateBy (classOf (nameBytes names text x)) (isUnbound s mode x)
+
+-- a pattern to be planned from no names
+pub record PlanAsks (T : Tables) (states : List ℕ) (root : ℕ) (binders : List ℕ) : Type 0 where
+  pub walks : Walks T states root
+  pub none-bound : binders ≡ replicate 128 0
+
+-- its binders, and its plan's entries first in the scratch
+pub record PlannedBy (T : Tables) (states : List ℕ) (root : ℕ) (before binders after : List ℕ) (r : ℕ) : Type 0 where
+  pub bound : binders ≡ bindersOf (unboundIn states) (expr T root) (replicate 128 0)
+  pub laid : Laid before 0 (entries (plan (unboundIn states) (expr T root) []) 0) after r
+  pub few : r ≤ 512
+
+-- the first words of a scratch, copied into a buffer
+pub record Copied (scratch : List ℕ) (words : ℕ) (before after : List ℕ) : Type 0 where
+  pub long : length after ≡ length before
+  pub each : (i : ℕ) → i < words → getD after i 0 ≡ getD scratch i 0
+
+-- word i of a buffer that holds the first words of a scratch
+abbrev pub wordAt : List ℕ → ℕ → ℕ → ℕ
+wordAt scratch size i = cond (ltb i size) (getD scratch i 0) 0
+
+unfoldable pub tabulate : (ℕ → ℕ) → ℕ → ℕ → List ℕ
+tabulate f i zero = []
+tabulate f i (suc k) = f i ∷ tabulate f (i + 1) k
+
+-- the first entries of a scratch in the buffer, if it has space for them
+pub record Delivered (scratch : List ℕ) (form side count : ℕ) (before after : List ℕ) (r : PlanAnswer) : Type 0 where
+  pub answer : r ≡ cond (leb count (length before / 4)) (Planned form side count) (PlanTooLarge count)
+  pub buffer : after ≡ cond (leb count (length before / 4)) (tabulate (wordAt scratch (count * 4)) 0 (length before)) (replicate (length before) 0)
+
+-- a root in a good table
+pub record GoodRoot (T : Tables) (root : ℕ) : Type 0 where
+  pub table : WellFormed T
+  pub node : Node T root
+
+-- a pattern of a good table, with no name bound yet
+pub record PatternAsks (T : Tables) (root : ℕ) (binders : List ℕ) : Type 0 where
+  pub table : WellFormed T
+  pub node : Node T root
+  pub none-bound : binders ≡ replicate 128 0
+
+-- the names that its plan tracks, and its plan's entries first in the scratch
+pub record PatternPlanned (T : Tables) (s : Scope) (mode : ScopingMode) (root : ℕ) (before binders after : List ℕ) (r : ℕ) : Type 0 where
+  pub tracked : (x : ℕ) → NameNumber x → elem x (Plan.after (isUnbound s mode) (expr T root) []) ≡ not (eqb (getD binders (x - 1) 0) 0)
+  pub laid : Laid before 0 (entries (plan (isUnbound s mode) (expr T root) []) 0) after r
+  pub few : r ≤ 512

@@ -1,0 +1,8 @@
+-- What the tests and loops of the check say.
+pub mod Bools
+pub mod Scan
+pub mod Fresh
+pub mod Bytes
+pub mod Prints
+pub mod Clauses
+pub mod Answers
