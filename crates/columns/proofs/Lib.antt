@@ -1,5 +1,1 @@
-pub mod Reading
-pub mod Six
-pub mod Writing
 pub mod ReadBack
-pub mod Storing

@@ -18,7 +18,7 @@ use Rattle.columns.specs.declared.SignedColumn.{SignedColumn}
 use Rattle.columns.specs.declared.SignedColumn.the-variants as SignedColumn
 use Rattle.columns.specs.Columns.{afterBlanks, isDigit, allDigits, isDecimal, decimalNumber, readColumn, signedNumber, readSigned, justified, writeColumn, writeSigned}
 use Rattle.columns.specs.Laws.{belowWord, ReadBack}
-use Rattle.columns.proofs.Writing.{justified-long}
+use Rattle.columns.proofs.write.Writing.{justified-long}
 
 -- blanks
 blanks-passed : (k : ℕ) (bs : List ℕ) → afterBlanks (replicate k 32 ++ bs) ≡ afterBlanks bs

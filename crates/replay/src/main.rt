@@ -3,7 +3,7 @@
 // the bytes of both.
 ghost use Rattle.io.specs.Counts.{Counts};
 use columns::Column;
-use columns::read_column;
+use columns::read::read_column;
 use libc::STDIN_FILENO;
 use libc::STDOUT_FILENO;
 use sheet::plan_sheet;

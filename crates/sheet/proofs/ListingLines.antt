@@ -11,7 +11,7 @@ use Rattle.table.specs.declared.TableAnswer.{TableAnswer}
 use Rattle.table.specs.Check.{refusal}
 use Rattle.columns.specs.Columns.{justified, writeColumn, stored, columnStored}
 use Rattle.columns.proofs.ReadBack.{read-back}
-use Rattle.columns.proofs.Storing.{stored-is, stored-long, stored-none, stored-on, stored-one}
+use Rattle.columns.proofs.write.Storing.{stored-is, stored-long, stored-none, stored-on, stored-one}
 use Rattle.planner.specs.declared.PlanAnswer.{PlanAnswer}
 use Rattle.planner.specs.declared.PlanAnswer.the-variants.{TableRefused}
 use Rattle.planner.specs.Answer.{Line, line, lineOf}

@@ -6,8 +6,8 @@ ghost use Rattle.sheet.specs.Lines.{isLineFeed, lineLength, lineOk, line
 ghost use Rattle.sheet.specs.Post.{Filled, wordIn, WordRead, LineAsked, LinesAsked, NodesAsked, NumberAsked, NumbersAsked, Read};
 use columns::Column;
 use columns::SignedColumn;
-use columns::read_column;
-use columns::read_signed_column;
+use columns::read::read_column;
+use columns::read::read_signed_column;
 
 // Whether the column has a number, which is then word w.
 fn read_word(sheet: &[u8], at: usize, w: usize, out: &mut [u32]) -> bool

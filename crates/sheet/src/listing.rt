@@ -7,7 +7,7 @@ ghost use Rattle.planner.specs.Entries.{entryAt};
 ghost use Rattle.columns.specs.Columns.{stored};
 ghost use Rattle.sheet.specs.Listing.{entryLine, lineBytes, linesBytes, Printed};
 ghost use Rattle.sheet.specs.Post.{rowLine, writePair, entriesIn, entryLines, answerLines, EntriesAsked, refusalLine};
-use columns::write_column;
+use columns::write::write_column;
 use planner::PlanAnswer;
 use table::refusal_number;
 

@@ -1,6 +1,6 @@
 use Prim.Native.Nat.{_-_}
 use lib.ListN.{length}
-use Rattle.columns.proofs.Reading.{Skipping, skip-start, skip-on, skip-stops, skip-ends}
+use Rattle.columns.proofs.read.Reading.{Skipping, skip-start, skip-on, skip-stops, skip-ends}
 use borrow.Author.Needs.{needs}
 use Rattle.columns.proofs.decimal.after_blanks.Statement.{statement}
 use Rattle.columns.proofs.decimal.after_blanks.Tie as tie

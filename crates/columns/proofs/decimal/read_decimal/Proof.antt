@@ -1,4 +1,4 @@
-use Rattle.columns.proofs.Reading.{decimal-empty, decimal-zero, decimal-one, decimal-more}
+use Rattle.columns.proofs.read.Reading.{decimal-empty, decimal-zero, decimal-one, decimal-more}
 use borrow.Author.Needs.{needs}
 use Rattle.columns.proofs.decimal.read_decimal.Statement.{statement}
 use Rattle.columns.proofs.decimal.read_decimal.Tie as tie

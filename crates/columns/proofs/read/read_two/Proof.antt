@@ -1,7 +1,7 @@
-use Rattle.columns.proofs.Six.{units-low, units-high, one-digit, tens-low, tens-high, two-digits}
+use Rattle.columns.proofs.read.Six.{units-low, units-high, one-digit, tens-low, tens-high, two-digits}
 use borrow.Author.Needs.{needs}
-use Rattle.columns.proofs.read_two.Statement.{statement}
-use Rattle.columns.proofs.read_two.Tie as tie
+use Rattle.columns.proofs.read.read_two.Statement.{statement}
+use Rattle.columns.proofs.read.read_two.Tie as tie
 
 pub read-two-spec : {M : Type 1} → statement M
 read-two-spec =

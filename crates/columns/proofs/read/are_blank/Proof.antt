@@ -1,7 +1,7 @@
-use Rattle.columns.proofs.Six.{are-blank}
+use Rattle.columns.proofs.read.Six.{are-blank}
 use borrow.Author.Needs.{needs}
-use Rattle.columns.proofs.are_blank.Statement.{statement}
-use Rattle.columns.proofs.are_blank.Tie as tie
+use Rattle.columns.proofs.read.are_blank.Statement.{statement}
+use Rattle.columns.proofs.read.are_blank.Tie as tie
 
 pub are-blank-spec : {M : Type 1} → statement M
 are-blank-spec =

@@ -1,7 +1,7 @@
-use Rattle.columns.proofs.Six.{six-number, six-small, six-none}
+use Rattle.columns.proofs.read.Six.{six-number, six-small, six-none}
 use borrow.Author.Needs.{needs}
-use Rattle.columns.proofs.read_six.Statement.{statement}
-use Rattle.columns.proofs.read_six.Tie as tie
+use Rattle.columns.proofs.read.read_six.Statement.{statement}
+use Rattle.columns.proofs.read.read_six.Tie as tie
 
 pub read-six-spec : {M : Type 1} → statement M
 read-six-spec =

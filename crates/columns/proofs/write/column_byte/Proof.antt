@@ -1,7 +1,7 @@
-use Rattle.columns.proofs.Writing.{byte-blank, byte-digit}
+use Rattle.columns.proofs.write.Writing.{byte-blank, byte-digit}
 use borrow.Author.Needs.{needs}
-use Rattle.columns.proofs.column_byte.Statement.{statement}
-use Rattle.columns.proofs.column_byte.Tie as tie
+use Rattle.columns.proofs.write.column_byte.Statement.{statement}
+use Rattle.columns.proofs.write.column_byte.Tie as tie
 
 pub column-byte-spec : {M : Type 1} → statement M
 column-byte-spec = tie.close (tie.spec

@@ -1,7 +1,7 @@
-use Rattle.columns.proofs.Writing.{column-short, column-past, rest-room, column-written, set-kept}
+use Rattle.columns.proofs.write.Writing.{column-short, column-past, rest-room, column-written, set-kept}
 use borrow.Author.Needs.{needs}
-use Rattle.columns.proofs.write_column.Statement.{statement}
-use Rattle.columns.proofs.write_column.Tie as tie
+use Rattle.columns.proofs.write.write_column.Statement.{statement}
+use Rattle.columns.proofs.write.write_column.Tie as tie
 
 pub write-column-spec : {M : Type 1} → statement M
 write-column-spec =

@@ -1,7 +1,7 @@
-use Rattle.columns.proofs.Six.{column-short-unread, column-past-unread, column-two, column-six}
+use Rattle.columns.proofs.read.Six.{column-short-unread, column-past-unread, column-two, column-six}
 use borrow.Author.Needs.{needs}
-use Rattle.columns.proofs.column_word.Statement.{statement}
-use Rattle.columns.proofs.column_word.Tie as tie
+use Rattle.columns.proofs.read.column_word.Statement.{statement}
+use Rattle.columns.proofs.read.column_word.Tie as tie
 
 pub column-word-spec : {M : Type 1} → statement M
 column-word-spec =

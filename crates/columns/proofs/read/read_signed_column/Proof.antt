@@ -1,7 +1,7 @@
-use Rattle.columns.proofs.Reading.{twenty-empty, twenty-minus, twenty-plain}
+use Rattle.columns.proofs.read.Reading.{twenty-empty, twenty-minus, twenty-plain}
 use borrow.Author.Needs.{needs}
-use Rattle.columns.proofs.read_signed_column.Statement.{statement}
-use Rattle.columns.proofs.read_signed_column.Tie as tie
+use Rattle.columns.proofs.read.read_signed_column.Statement.{statement}
+use Rattle.columns.proofs.read.read_signed_column.Tie as tie
 
 pub read-signed-column-spec : {M : Type 1} → statement M
 read-signed-column-spec =

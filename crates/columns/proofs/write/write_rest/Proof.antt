@@ -1,7 +1,7 @@
-use Rattle.columns.proofs.Writing.{Writing, writing-start, writing-on, writing-ends}
+use Rattle.columns.proofs.write.Writing.{Writing, writing-start, writing-on, writing-ends}
 use borrow.Author.Needs.{needs}
-use Rattle.columns.proofs.write_rest.Statement.{statement}
-use Rattle.columns.proofs.write_rest.Tie as tie
+use Rattle.columns.proofs.write.write_rest.Statement.{statement}
+use Rattle.columns.proofs.write.write_rest.Tie as tie
 
 abbrev Inv-loop : tie.InvT-loop
 Inv-loop out₀ at above left₀ rest₀ out left rest = Writing out₀ at above out left rest

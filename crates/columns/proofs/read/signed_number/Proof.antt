@@ -1,7 +1,7 @@
-use Rattle.columns.proofs.Reading.{signed-number, signed-large, signed-none}
+use Rattle.columns.proofs.read.Reading.{signed-number, signed-large, signed-none}
 use borrow.Author.Needs.{needs}
-use Rattle.columns.proofs.signed_number.Statement.{statement}
-use Rattle.columns.proofs.signed_number.Tie as tie
+use Rattle.columns.proofs.read.signed_number.Statement.{statement}
+use Rattle.columns.proofs.read.signed_number.Tie as tie
 
 pub signed-number-spec : {M : Type 1} → statement M
 signed-number-spec =

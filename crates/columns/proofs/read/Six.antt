@@ -17,7 +17,7 @@ use Rattle.columns.specs.declared.Column.{Column}
 use Rattle.columns.specs.declared.Column.the-variants as Column
 use Rattle.columns.specs.Columns.{afterBlanks, isDigit, allDigits, isDecimal, decimalNumber, readColumn, columnBytes, columnAt}
 use Rattle.columns.specs.Decimals.{readDecimal, areBlank, columnWord}
-use Rattle.columns.proofs.Reading.{drop-here, read-as, read-not, column-short, column-past, column-there, column-few, blanks-few, decimal-below}
+use Rattle.columns.proofs.read.Reading.{drop-here, read-as, read-not, column-short, column-past, column-there, column-few, blanks-few, decimal-below}
 
 -- four blanks as one number
 module _ (a b c d : ℕ) where

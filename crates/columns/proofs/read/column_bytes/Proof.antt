@@ -1,7 +1,7 @@
-use Rattle.columns.proofs.Reading.{column-short, column-past, column-there}
+use Rattle.columns.proofs.read.Reading.{column-short, column-past, column-there}
 use borrow.Author.Needs.{needs}
-use Rattle.columns.proofs.column_bytes.Statement.{statement}
-use Rattle.columns.proofs.column_bytes.Tie as tie
+use Rattle.columns.proofs.read.column_bytes.Statement.{statement}
+use Rattle.columns.proofs.read.column_bytes.Tie as tie
 
 pub column-bytes-spec : {M : Type 1} → statement M
 column-bytes-spec =

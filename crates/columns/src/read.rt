@@ -1,0 +1,120 @@
+// The reading of columns.
+use crate::Column;
+use crate::SignedColumn;
+use crate::decimal::Decimal;
+use crate::decimal::after_blanks;
+use crate::decimal::read_decimal;
+use literal::is_number;
+ghost use mathlib.Core.Path.{_≡_};
+ghost use mathlib.Core.List.{[], _∷_};
+ghost use Prim.Native.Nat.{_≤_};
+ghost use lib.ListN.{length};
+ghost use Rattle.columns.specs.Columns.{readColumn, columnBytes, columnAt, signedColumnAt, signedNumber};
+ghost use Rattle.columns.specs.Decimals.{areBlank, columnWord};
+
+// Empty for a column that is not all there.
+fn column_bytes(bytes: &[u8], at: usize, width: usize) -> &[u8]
+    ensures { λ r. ⌜ now r ≡ columnBytes (now (bytes .entry)) at width ⌝ }
+{
+    if bytes.len() < width {
+        return &bytes[0..0];
+    }
+    if bytes.len() - width < at {
+        return &bytes[0..0];
+    }
+    &bytes[at..at + width]
+}
+
+fn are_blank(a: u8, b: u8, c: u8, d: u8) -> bool
+    ensures { λ r. ⌜ r ≡ areBlank a b c d ⌝ }
+{
+    a as u32 + b as u32 * 256 + c as u32 * 65536 + d as u32 * 16777216 == 0x20202020
+}
+
+// A number of one or two digits, or 1,000,000 for none.
+fn read_two(tens: u8, units: u8) -> u32
+    ensures { λ r. ⌜ r ≡ columnWord (readColumn (tens ∷ units ∷ [])) ⌝ }
+{
+    let high = tens as u32;
+    let low = units as u32;
+    if low < 48 {
+        return 1000000;
+    }
+    if 57 < low {
+        return 1000000;
+    }
+    if high == 32 {
+        return low - 48;
+    }
+    if high < 49 {
+        return 1000000;
+    }
+    if 57 < high {
+        return 1000000;
+    }
+    (high - 48) * 10 + (low - 48)
+}
+
+fn read_six(bytes: &[u8]) -> u32
+    requires { ⌜ length (now bytes) ≤ 6 ⌝ }
+    ensures { λ r. ⌜ r ≡ columnWord (readColumn (now (bytes .entry))) ⌝ }
+{
+    match read_decimal(after_blanks(bytes)) {
+        Decimal::Number(n) => n as u32,
+        Decimal::NoNumber => 1000000,
+    }
+}
+
+fn column_word(bytes: &[u8], at: usize) -> u32
+    ensures { λ r. ⌜ r ≡ columnWord (columnAt (now (bytes .entry)) at) ⌝ }
+{
+    if bytes.len() < 6 {
+        return 1000000;
+    }
+    if bytes.len() - 6 < at {
+        return 1000000;
+    }
+    if are_blank(bytes[at], bytes[at + 1], bytes[at + 2], bytes[at + 3]) {
+        return read_two(bytes[at + 4], bytes[at + 5]);
+    }
+    read_six(&bytes[at..at + 6])
+}
+
+// The column of six bytes at a place.
+pub fn read_column(bytes: &[u8], at: usize) -> Column
+    ensures { λ r. ⌜ r ≡ columnAt (now (bytes .entry)) at ⌝ }
+{
+    let word = column_word(bytes, at);
+    if word < 1000000 {
+        return Column::Number(word);
+    }
+    Column::Unreadable
+}
+
+fn signed_number(below: u64, digits: &[u8]) -> SignedColumn
+    ensures { λ r. ⌜ r ≡ signedNumber below (now (digits .entry)) ⌝ }
+{
+    match read_decimal(digits) {
+        Decimal::Number(size) => {
+            if is_number(below, size) {
+                return SignedColumn::Number { below, size };
+            }
+            SignedColumn::Unreadable
+        }
+        Decimal::NoNumber => SignedColumn::Unreadable,
+    }
+}
+
+// The column of twenty bytes at a place, of a number of 64 signed bits.
+pub fn read_signed_column(bytes: &[u8], at: usize) -> SignedColumn
+    ensures { λ r. ⌜ r ≡ signedColumnAt (now (bytes .entry)) at ⌝ }
+{
+    let number = after_blanks(column_bytes(bytes, at, 20));
+    if number.len() == 0 {
+        return SignedColumn::Unreadable;
+    }
+    if number[0] == 45 {
+        return signed_number(1, &number[1..]);
+    }
+    signed_number(0, number)
+}

@@ -1,0 +1,44 @@
+// The writing of a column.
+ghost use mathlib.Core.Path.{_≡_};
+ghost use Prim.Native.Nat.{_+_, _≤_};
+ghost use lib.ListN.{length};
+ghost use Rattle.columns.specs.Columns.{columnStored};
+ghost use Rattle.columns.specs.Written.{columnByte, writeRest};
+
+// A digit of what is left of a number, or a blank once nothing is left.
+fn column_byte(rest: u64) -> u8
+    ensures { λ r. ⌜ r ≡ columnByte rest ⌝ }
+{
+    if rest == 0 {
+        return 32;
+    }
+    48 + (rest % 10) as u8
+}
+
+// What is left of a number above its last digit.
+fn write_rest(out: &mut [u8], at: usize, above: u64)
+    requires { ⌜ at + 5 ≤ length (now out) ⌝ }
+    ensures { λ _. ⌜ now (out .exit) ≡ writeRest (now (out .entry)) at 5 above ⌝ }
+{
+    let mut left: usize = 5;
+    let mut rest = above;
+    while 0 < left {
+        left -= 1;
+        out[at + left] = column_byte(rest);
+        rest = rest / 10;
+    }
+}
+
+// The number as a column of six at a place, if there is space for it.
+pub fn write_column(out: &mut [u8], at: usize, n: u64)
+    ensures { λ _. ⌜ now (out .exit) ≡ columnStored (now (out .entry)) at n ⌝ }
+{
+    if out.len() < 6 {
+        return;
+    }
+    if out.len() - 6 < at {
+        return;
+    }
+    out[at + 5] = 48 + (n % 10) as u8;
+    write_rest(out, at, n / 10);
+}
