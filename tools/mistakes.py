@@ -15,8 +15,10 @@ import re
 import sys
 
 MISTAKE = re.compile(r"^mistake: (\w+) in ([\w:, ]+?): ", re.MULTILINE)
-# No proof is found, or the fact that the proof gives is not the one that is asked for.
-NO_FACT = re.compile(r"`search`: no proof of|the two types differ only where")
+# No proof is found, the goal does not follow, or the fact that is given is not the one asked for.
+NO_FACT = re.compile(
+    r"`search`: no proof of|`omega`: the goal does not follow|the two types (first differ|differ only) where"
+)
 UNCLOSED = re.compile(r"no proof: expected `[^`]*` in [^;]*; `search` does not close ")
 
 

@@ -10,6 +10,7 @@ EDIT = "mistake: swapped in keys::order, same: the other way round\nfile: src/ke
 FACT = "/x/proofs/keys/order/Proof.antt:8:11: error: `order-spec`: `search`: no proof of `Post` was found\n"
 CYCLE = "/x/proofs/keys/+first+order+second/Proof.antt:8:11: error: `order-returns`: `search`: no proof of `Post`\n"
 OTHER = "/x/proofs/keys/order/Proof.antt:8:11: error: `asks`: the two types differ only where one has `i` and the other `k`\n"
+OMEGA = "/x/proofs/keys/order/Proof.antt:8:11: error: `asks`: `omega`: the goal does not follow from what it read\n"
 SHAPE = "/x/proofs/keys/order/Proof.antt:9:1: error: `order-spec`: `mul` is not a name\n"
 AUTOMATIC = "fn c::same: no proof: expected `same-spec` in /x/proofs/same/Proof.antt; `search` does not close `returns`\n"
 
@@ -19,7 +20,7 @@ class Mistakes(unittest.TestCase):
         self.assertEqual(mistakes.mistakes(EDIT), [("swapped", ["keys::order", "same"])])
 
     def test_refused_for_a_fact(self):
-        for error in (FACT, CYCLE, OTHER):
+        for error in (FACT, CYCLE, OTHER, OMEGA):
             log = error + "fn c::keys::order: not proved\n"
             self.assertIsNone(mistakes.fault(log, "c", "keys::order"))
         self.assertIsNone(mistakes.fault(AUTOMATIC, "c", "same"))
