@@ -1,4 +1,4 @@
-use Rattle.sheet.proofs.Output.{written-inside, written-prefix}
+use Rattle.sheet.proofs.laws.Output.{written-inside, written-prefix}
 use borrow.Author.Needs.{needs}
 use Rattle.plansheet.proofs.main.Statement.{statement}
 use Rattle.plansheet.proofs.main.Tie as tie

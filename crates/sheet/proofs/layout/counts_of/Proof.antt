@@ -1,4 +1,4 @@
-use Rattle.sheet.proofs.LayoutTests.{counts-in}
+use Rattle.sheet.proofs.lines.LayoutTests.{counts-in}
 use borrow.Author.Needs.{needs}
 use Rattle.sheet.proofs.layout.counts_of.Statement.{statement}
 use Rattle.sheet.proofs.layout.counts_of.Tie as tie

@@ -1,4 +1,4 @@
-use Rattle.sheet.proofs.LayoutTests.{not-small, small}
+use Rattle.sheet.proofs.lines.LayoutTests.{not-small, small}
 use borrow.Author.Needs.{needs}
 use Rattle.sheet.proofs.layout.is_small.Statement.{statement}
 use Rattle.sheet.proofs.layout.is_small.Tie as tie

@@ -1,4 +1,4 @@
-use Rattle.sheet.proofs.LayoutTests.{limit-nodes, limit-children, limit-numbers, limit-names, limit-strings, limit-text}
+use Rattle.sheet.proofs.lines.LayoutTests.{limit-nodes, limit-children, limit-numbers, limit-names, limit-strings, limit-text}
 use borrow.Author.Needs.{needs}
 use Rattle.sheet.proofs.layout.within_limits.Statement.{statement}
 use Rattle.sheet.proofs.layout.within_limits.Tie as tie

@@ -1,5 +1,5 @@
 use Prim.Native.Nat.{_+_, _-_, _*_}
-use Rattle.sheet.proofs.LineTests.{Going, line-fits, line-end-fits, line-part-fits, line-place-fits, first-word-fits, line-end-place, line-start, column-fits, column-place-fits, word-room, line-on, line-fails, line-ends}
+use Rattle.sheet.proofs.lines.LineTests.{Going, line-fits, line-end-fits, line-part-fits, line-place-fits, first-word-fits, line-end-place, line-start, column-fits, column-place-fits, word-room, line-on, line-fails, line-ends}
 use Rattle.sheet.specs.Lines.{columnOk, lineLength, wordAt}
 use borrow.Author.Needs.{needs}
 use Rattle.sheet.proofs.lines.read_line.Statement.{statement}

@@ -1,4 +1,4 @@
-use Rattle.sheet.proofs.LineTests.{rest-read}
+use Rattle.sheet.proofs.lines.LineTests.{rest-read}
 use borrow.Author.Needs.{needs}
 use Rattle.sheet.proofs.lines.read_nodes_on.Statement.{statement}
 use Rattle.sheet.proofs.lines.read_nodes_on.Tie as tie

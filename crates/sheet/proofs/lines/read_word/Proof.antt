@@ -1,4 +1,4 @@
-use Rattle.sheet.proofs.LineTests.{word-read, word-none}
+use Rattle.sheet.proofs.lines.LineTests.{word-read, word-none}
 use borrow.Author.Needs.{needs}
 use Rattle.sheet.proofs.lines.read_word.Statement.{statement}
 use Rattle.sheet.proofs.lines.read_word.Tie as tie

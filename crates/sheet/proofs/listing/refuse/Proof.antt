@@ -1,4 +1,4 @@
-use Rattle.sheet.proofs.ListingLines.{refusal-past, refusal-printed}
+use Rattle.sheet.proofs.laws.ListingLines.{refusal-past, refusal-printed}
 use borrow.Author.Needs.{needs}
 use Rattle.sheet.proofs.listing.refuse.Statement.{statement}
 use Rattle.sheet.proofs.listing.refuse.Tie as tie

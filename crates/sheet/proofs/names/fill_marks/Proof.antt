@@ -1,5 +1,5 @@
 use Prim.Native.Nat.{_-_}
-use Rattle.sheet.proofs.NameWords.{Marking, marking-start, mark-part-fits, mark-place-fits, mark-there, mark-large, mark-fits, mark-room, mark-on, marking-ends}
+use Rattle.sheet.proofs.lines.NameWords.{Marking, marking-start, mark-part-fits, mark-place-fits, mark-there, mark-large, mark-fits, mark-room, mark-on, marking-ends}
 use borrow.Author.Needs.{needs}
 use Rattle.sheet.proofs.names.fill_marks.Statement.{statement}
 use Rattle.sheet.proofs.names.fill_marks.Tie as tie

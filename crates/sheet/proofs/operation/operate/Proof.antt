@@ -1,4 +1,4 @@
-use Rattle.sheet.proofs.PlanListing.{operated-pattern, operated-colon, operated-equals, operated-some-in, operated-index, operated-parameter}
+use Rattle.sheet.proofs.plan.PlanListing.{operated-pattern, operated-colon, operated-equals, operated-some-in, operated-index, operated-parameter}
 use borrow.Author.Needs.{needs}
 use Rattle.sheet.proofs.operation.operate.Statement.{statement}
 use Rattle.sheet.proofs.operation.operate.Tie as tie

@@ -1,4 +1,4 @@
-use Rattle.sheet.proofs.LayoutTests.{operation-low, operation-high, scheduler-high, scoping-low, scoping-high}
+use Rattle.sheet.proofs.lines.LayoutTests.{operation-low, operation-high, scheduler-high, scoping-low, scoping-high}
 use borrow.Author.Needs.{needs}
 use Rattle.sheet.proofs.operation.operation_ok.Statement.{statement}
 use Rattle.sheet.proofs.operation.operation_ok.Tie as tie

@@ -1,4 +1,4 @@
-use Rattle.sheet.proofs.PlanListing.{scoping-shadows, scoping-respects}
+use Rattle.sheet.proofs.plan.PlanListing.{scoping-shadows, scoping-respects}
 use borrow.Author.Needs.{needs}
 use Rattle.sheet.proofs.operation.scoping_of.Statement.{statement}
 use Rattle.sheet.proofs.operation.scoping_of.Tie as tie

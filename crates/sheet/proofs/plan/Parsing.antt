@@ -21,8 +21,8 @@ use Rattle.sheet.specs.Lines.{numberAt, isLine, linesOk, numberLinesOk, 
 use Rattle.sheet.specs.Sheet.{countsOf, withinLimits, namesPlace, stringsPlace, textPlace, endPlace, placesOf, operationOf, operationOk, markOk, marksOk, layoutOk, marksOf, sheetOf, unparsed, parsed, parse, parsedBy}
 use Rattle.sheet.specs.Listing.{operated, linesOf, linesBytes, listingOf, Printed}
 use Rattle.sheet.specs.Post.{Limited, Small, Filled, Read, LinesAsked, NodesAsked, NumbersAsked, nameWord, rowMark, rowMarkOk, NamesAsked, MarksAsked, Overlaid, MarksRead, countsIn, operationIn, refusalLine, laidListing, tablesLeft, Headed, NodesRead, TablesAsked, TablesRead, Tabled}
-use Rattle.sheet.proofs.LineTests.{filled-first, word-in-line, nodes-split}
-use Rattle.sheet.proofs.LayoutTests.{counts-read, operation-read}
+use Rattle.sheet.proofs.lines.LineTests.{filled-first, word-in-line, nodes-split}
+use Rattle.sheet.proofs.lines.LayoutTests.{counts-read, operation-read}
 
 -- one line of six columns
 module _ (sheet : List ℕ) (at : ℕ) {line : List ℕ} {r : Bool} (read : Read (wordAt sheet at 37 6) (1 * 6) (linesOk sheet at 6 1) line r) where

@@ -1,7 +1,7 @@
-use Rattle.sheet.proofs.PlanListing.{entries-held, operation-listed}
+use Rattle.sheet.proofs.plan.PlanListing.{entries-held, operation-listed}
 use borrow.Author.Needs.{needs}
-use Rattle.sheet.proofs.plan_large.Statement.{statement}
-use Rattle.sheet.proofs.plan_large.Tie as tie
+use Rattle.sheet.proofs.plan.plan_large.Statement.{statement}
+use Rattle.sheet.proofs.plan.plan_large.Tie as tie
 
 pub plan-large-spec : {M : Type 1} → statement M
 plan-large-spec =

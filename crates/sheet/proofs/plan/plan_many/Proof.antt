@@ -1,7 +1,7 @@
-use Rattle.sheet.proofs.Parsing.{laid-broken, first-fail, more-asked, nodes-fail, nodes-read, nodes-inside, prefix-long}
+use Rattle.sheet.proofs.plan.Parsing.{laid-broken, first-fail, more-asked, nodes-fail, nodes-read, nodes-inside, prefix-long}
 use borrow.Author.Needs.{needs}
-use Rattle.sheet.proofs.plan_many.Statement.{statement}
-use Rattle.sheet.proofs.plan_many.Tie as tie
+use Rattle.sheet.proofs.plan.plan_many.Statement.{statement}
+use Rattle.sheet.proofs.plan.plan_many.Tie as tie
 
 pub plan-many-spec : {M : Type 1} → statement M
 plan-many-spec =

@@ -1,7 +1,7 @@
-use Rattle.sheet.proofs.Parsing.{laid-broken, tables-fail, prefix-long, children-inside, numbers-inside, names-inside, tabled}
+use Rattle.sheet.proofs.plan.Parsing.{laid-broken, tables-fail, prefix-long, children-inside, numbers-inside, names-inside, tabled}
 use borrow.Author.Needs.{needs}
-use Rattle.sheet.proofs.plan_read.Statement.{statement}
-use Rattle.sheet.proofs.plan_read.Tie as tie
+use Rattle.sheet.proofs.plan.plan_read.Statement.{statement}
+use Rattle.sheet.proofs.plan.plan_read.Tie as tie
 
 pub plan-read-spec : {M : Type 1} → statement M
 plan-read-spec =

@@ -1,7 +1,7 @@
-use Rattle.sheet.proofs.Parsing.{small-asked, large-asked}
+use Rattle.sheet.proofs.plan.Parsing.{small-asked, large-asked}
 use borrow.Author.Needs.{needs}
-use Rattle.sheet.proofs.plan_sized.Statement.{statement}
-use Rattle.sheet.proofs.plan_sized.Tie as tie
+use Rattle.sheet.proofs.plan.plan_sized.Statement.{statement}
+use Rattle.sheet.proofs.plan.plan_sized.Tie as tie
 
 pub plan-sized-spec : {M : Type 1} → statement M
 plan-sized-spec =

@@ -11,7 +11,7 @@ use mir.Syntax.{w8, w64}
 use mir.Val.{Fits}
 use Rattle.table.proofs.tests.Scan.{Scan, scan-start, scan-on, scan-fails, scan-ends}
 use Rattle.sheet.specs.Post.{Filled, nameWord, rowMark, rowMarkOk, NamesAsked, MarksAsked, Overlaid, MarksRead}
-use Rattle.sheet.proofs.LineTests.{filled-none, filled-on}
+use Rattle.sheet.proofs.lines.LineTests.{filled-none, filled-on}
 
 -- an array whose first words are written anew
 pub overlaid-none : (f : ℕ → ℕ) (before : List ℕ) → Overlaid f 0 before before

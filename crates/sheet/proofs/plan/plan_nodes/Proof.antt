@@ -1,7 +1,7 @@
-use Rattle.sheet.proofs.Parsing.{laid-broken, nodes-asked, nodes-fail, nodes-read, few-inside, prefix-long}
+use Rattle.sheet.proofs.plan.Parsing.{laid-broken, nodes-asked, nodes-fail, nodes-read, few-inside, prefix-long}
 use borrow.Author.Needs.{needs}
-use Rattle.sheet.proofs.plan_nodes.Statement.{statement}
-use Rattle.sheet.proofs.plan_nodes.Tie as tie
+use Rattle.sheet.proofs.plan.plan_nodes.Statement.{statement}
+use Rattle.sheet.proofs.plan.plan_nodes.Tie as tie
 
 pub plan-nodes-spec : {M : Type 1} → statement M
 plan-nodes-spec =

@@ -15,10 +15,10 @@ use Rattle.sheet.specs.declared.operation.Operation.{Operation}
 use Rattle.sheet.specs.Lines.{numberAt, isLine}
 use Rattle.sheet.specs.Sheet.{countsOf, withinLimits, childrenPlace, numbersPlace, namesPlace, stringsPlace, textPlace, endPlace, operationOf, operationOk, layoutOk, Sheet, sheetOf, parsed, parsedBy, parse}
 use Rattle.sheet.specs.Render.{writeLine, writeLines, countsRow, operationRow, nodeRow, childRow, nameRow, numberLine, render, Renderable, RoundTrip}
-use Rattle.sheet.proofs.LayoutTests.{counts-read, operation-read}
-use Rattle.sheet.proofs.RoundTripParts.{Stands, stands-at, stands-first, stands-next, stands-part, line-long, number-at, line-there}
-use Rattle.sheet.proofs.RoundTripTables.{nodes-long, nodes-there, nodes-back, children-long, children-there, children-back, names-long, names-there, names-back, marks-there, marks-back, numbers-long, numbers-there, numbers-back}
-use Rattle.sheet.proofs.RoundTripSound.{Whole, whole-of, sound-renders}
+use Rattle.sheet.proofs.lines.LayoutTests.{counts-read, operation-read}
+use Rattle.sheet.proofs.laws.RoundTripParts.{Stands, stands-at, stands-first, stands-next, stands-part, line-long, number-at, line-there}
+use Rattle.sheet.proofs.laws.RoundTripTables.{nodes-long, nodes-there, nodes-back, children-long, children-there, children-back, names-long, names-there, names-back, marks-there, marks-back, numbers-long, numbers-there, numbers-back}
+use Rattle.sheet.proofs.laws.RoundTripSound.{Whole, whole-of, sound-renders}
 
 -- the counts that line 1 has
 abbrev countsIn : Tables → Counts

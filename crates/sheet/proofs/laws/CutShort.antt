@@ -15,8 +15,8 @@ use Rattle.sheet.specs.Lines.{numberOf, numberAt, isLine}
 use Rattle.sheet.specs.Sheet.{countsOf, withinLimits, layoutOk, sheetOf, Parsed, unparsed, parsed, parsedBy, parse}
 use Rattle.sheet.specs.Listing.{linesBytes, linesOfSheet, listingOf}
 use Rattle.sheet.specs.Laws.{CutShort}
-use Rattle.sheet.proofs.LayoutTests.{limited, counts-read}
-use Rattle.sheet.proofs.Parsing.{length-differs}
+use Rattle.sheet.proofs.lines.LayoutTests.{limited, counts-read}
+use Rattle.sheet.proofs.plan.Parsing.{length-differs}
 
 -- line 1, of bytes that have it and of more bytes
 module _ (xs ys : List ℕ) (long : 37 ≤ length xs) where

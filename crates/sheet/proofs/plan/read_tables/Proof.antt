@@ -1,7 +1,7 @@
-use Rattle.sheet.proofs.Parsing.{children-asked, numbers-asked, rows-asked, marks-asked, names-asked, tables-unread, children-fail, numbers-fail, rows-fail, marks-fail, tables-read}
+use Rattle.sheet.proofs.plan.Parsing.{children-asked, numbers-asked, rows-asked, marks-asked, names-asked, tables-unread, children-fail, numbers-fail, rows-fail, marks-fail, tables-read}
 use borrow.Author.Needs.{needs}
-use Rattle.sheet.proofs.read_tables.Statement.{statement}
-use Rattle.sheet.proofs.read_tables.Tie as tie
+use Rattle.sheet.proofs.plan.read_tables.Statement.{statement}
+use Rattle.sheet.proofs.plan.read_tables.Tie as tie
 
 pub read-tables-spec : {M : Type 1} → statement M
 read-tables-spec =

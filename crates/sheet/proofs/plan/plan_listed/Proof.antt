@@ -1,7 +1,7 @@
-use Rattle.sheet.proofs.PlanListing.{small-held, operation-small}
+use Rattle.sheet.proofs.plan.PlanListing.{small-held, operation-small}
 use borrow.Author.Needs.{needs}
-use Rattle.sheet.proofs.plan_listed.Statement.{statement}
-use Rattle.sheet.proofs.plan_listed.Tie as tie
+use Rattle.sheet.proofs.plan.plan_listed.Statement.{statement}
+use Rattle.sheet.proofs.plan.plan_listed.Tie as tie
 
 pub plan-listed-spec : {M : Type 1} → statement M
 plan-listed-spec =

@@ -25,8 +25,8 @@ use Rattle.some_in.specs.SomeIn.{someInOutcome}
 use Rattle.sheet.specs.declared.operation.Operation.{Operation}
 use Rattle.sheet.specs.Sheet.{scopingOf}
 use Rattle.sheet.specs.Listing.{operated, linesOf, linesBytes, Printed}
-use Rattle.sheet.specs.Post.{entriesIn, answerLines, refusalLine}
-use Rattle.sheet.proofs.OneLine.{oneLine, one-line}
+use Rattle.sheet.specs.Post.{entriesIn, answerLines}
+use Rattle.sheet.proofs.plan.OneLine.{oneLine, one-line}
 
 -- the scoping
 module _ (o : Operation) where

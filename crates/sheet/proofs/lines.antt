@@ -1,0 +1,3 @@
+pub mod LineTests
+pub mod NameWords
+pub mod LayoutTests
