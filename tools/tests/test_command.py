@@ -9,9 +9,9 @@ from pathlib import Path
 from unittest import mock
 
 from command import BUILT, main
-from test_sheet import EXAMPLE
+from tests.test_sheet import EXAMPLE
 
-COMMAND = Path(__file__).with_name("plan_rule")
+COMMAND = Path(__file__).parent.parent / "plan_rule"
 PLANSHEET = Path(os.environ.get("PLANSHEET") or BUILT)
 NO_PLANNER = f"there is no {PLANSHEET} (`rt check plansheet` builds it)"
 
