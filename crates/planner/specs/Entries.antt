@@ -30,6 +30,8 @@ pub record Wrote (before : List ℕ) (at : ℕ) (es : List Entry) (after : List 
   pub end : r ≡ at + length es
   pub put : after ≡ putEntries before at es
 
-pub record CopyAsks (at count : ℕ) : Type 0 where
+-- as many entries stand in a scratch
+pub record CopyAsks (scratch : List ℕ) (at count : ℕ) : Type 0 where
+  pub held : count * 4 ≤ length scratch
   pub few : count ≤ 512
   pub low : at ≤ 2 ^ 40

@@ -1,24 +1,12 @@
 // The lent plan buffer: the plan and then zeros, or all zeros.
 ghost use mathlib.Core.Path.{_≡_};
-ghost use Prim.Native.Nat.{_≤_, _+_};
+ghost use Prim.Native.Nat.{_+_};
 ghost use mathlib.Core.List.{[], _∷_};
 ghost use lib.ListN.{length, replicate};
 ghost use Rattle.planner.specs.Layout.{entry};
 ghost use Rattle.planner.specs.Entries.{readEntries, Wrote, CopyAsks};
-ghost use Rattle.planner.specs.code.Post.{Copied, Delivered, wordAt, tabulate};
+ghost use Rattle.planner.specs.code.Post.{Closed, wordAt, tabulate};
 use crate::PlanAnswer;
-
-// The first `words` words of the scratch.
-fn copy_words(plan: &mut [u32], scratch: &[u32; 2048], words: usize)
-    requires { ⌜ (words ≤ 2048) × (words ≤ length (now plan)) ⌝ }
-    ensures { λ _. ⌜ Copied (now (scratch .entry)) words (now (plan .entry)) (now (plan .exit)) ⌝ }
-{
-    let mut i: usize = 0;
-    while i < words {
-        plan[i] = scratch[i];
-        i += 1;
-    }
-}
 
 // Zeros from word `from` on.
 fn clear_after(plan: &mut [u32], from: usize)
@@ -31,42 +19,10 @@ fn clear_after(plan: &mut [u32], from: usize)
     }
 }
 
-// The first `words` words of the scratch, then zeros.
-fn fill(plan: &mut [u32], scratch: &[u32; 2048], words: usize)
-    requires { ⌜ (words ≤ 2048) × (words ≤ length (now plan)) ⌝ }
-    ensures { λ _. ⌜ now (plan .exit) ≡ tabulate (wordAt (now (scratch .entry)) words) 0 (length (now (plan .entry))) ⌝ }
-{
-    copy_words(plan, scratch, words);
-    clear_after(plan, words);
-}
-
 pub fn clear(plan: &mut [u32])
     ensures { λ _. ⌜ now (plan .exit) ≡ replicate (length (now (plan .entry))) 0 ⌝ }
 {
     clear_after(plan, 0);
-}
-
-// `count` entries of the scratch, if the buffer has space for them.
-pub fn deliver(
-    plan: &mut [u32],
-    scratch: &[u32; 2048],
-    form: u32,
-    side: u32,
-    count: usize,
-) -> PlanAnswer
-    requires { ⌜ count ≤ 512 ⌝ }
-    ensures { λ r. ⌜ Delivered (now (scratch .entry)) form side count (now (plan .entry)) (now (plan .exit)) r ⌝ }
-{
-    if plan.len() / 4 < count {
-        clear(plan);
-        return PlanAnswer::PlanTooLarge { needed: count };
-    }
-    fill(plan, scratch, count * 4);
-    PlanAnswer::Planned {
-        form,
-        side,
-        entries: count,
-    }
 }
 
 // One entry, if the buffer has space for it.
@@ -83,8 +39,8 @@ pub fn put_entry(plan: &mut [u32], at: usize, kind: u32, node: u32, count: u32, 
 }
 
 // The first entries of a scratch; the next entry's place.
-pub fn copy_entries(plan: &mut [u32], at: usize, scratch: &[u32; 2048], count: usize) -> usize
-    requires { ⌜ CopyAsks at count ⌝ }
+pub fn copy_entries(plan: &mut [u32], at: usize, scratch: &[u32], count: usize) -> usize
+    requires { ⌜ CopyAsks (now scratch) at count ⌝ }
     ensures { λ r. ⌜ Wrote (now (plan .entry)) at (readEntries (now (scratch .entry)) 0 count) (now (plan .exit)) r ⌝ }
 {
     let mut i: usize = 0;
@@ -105,7 +61,7 @@ pub fn copy_entries(plan: &mut [u32], at: usize, scratch: &[u32; 2048], count: u
 
 // `at` entries are in the buffer, if it has space for them.
 pub fn close(plan: &mut [u32], form: u32, at: usize) -> PlanAnswer
-    ensures { λ r. ⌜ Delivered (now (plan .entry)) form 0 at (now (plan .entry)) (now (plan .exit)) r ⌝ }
+    ensures { λ r. ⌜ Closed form at (now (plan .entry)) (now (plan .exit)) r ⌝ }
 {
     if plan.len() / 4 < at {
         clear(plan);

@@ -7,7 +7,7 @@ ghost use Rattle.planner.specs.Operations.{patternPlanned, patternOutcom
 ghost use Rattle.planner.specs.code.Passes.{unboundIn, bindName, bindersOf, bindersFrom};
 use crate::PlanAnswer;
 use crate::buffer::clear;
-use crate::buffer::deliver;
+use crate::buffer::close;
 use crate::context::is_sound;
 use crate::context::name_states;
 use crate::plans::lay_out;
@@ -127,7 +127,7 @@ fn decide_children(
     }
 }
 
-// A pattern's plan from no names: its entries stand first in the scratch. How many there are.
+// A pattern's plan from no names: its entries from entry `at` on, as far as they fit. The next entry's place.
 pub fn create_destructuring_plan_with_tracking(
     nodes: &[u32],
     children: &[u32],
@@ -138,10 +138,11 @@ pub fn create_destructuring_plan_with_tracking(
     states: &[u8; 128],
     root: u32,
     binders: &mut [u32; 128],
-    scratch: &mut [u32; 2048],
+    plan: &mut [u32],
+    at: usize,
 ) -> usize
-    requires { ⌜ PlanAsks (tables (now nodes) (now children) (now numbers) (now names) (now strings) (now text)) (now states) root (now binders) ⌝ }
-    ensures { λ r. ⌜ PlannedBy (tables (now (nodes .entry)) (now (children .entry)) (now (numbers .entry)) (now (names .entry)) (now (strings .entry)) (now (text .entry))) (now (states .entry)) root (now (scratch .entry)) (now (binders .exit)) (now (scratch .exit)) r ⌝ }
+    requires { ⌜ PlanAsks (tables (now nodes) (now children) (now numbers) (now names) (now strings) (now text)) (now states) root (now binders) at ⌝ }
+    ensures { λ r. ⌜ PlannedBy (tables (now (nodes .entry)) (now (children .entry)) (now (numbers .entry)) (now (names .entry)) (now (strings .entry)) (now (text .entry))) (now (states .entry)) root at (now (plan .entry)) (now (binders .exit)) (now (plan .exit)) r ⌝ }
 {
     decide(
         nodes,
@@ -165,8 +166,8 @@ pub fn create_destructuring_plan_with_tracking(
         binders,
         root,
         0,
-        scratch,
-        0,
+        plan,
+        at,
     )
 }
 
@@ -182,10 +183,11 @@ pub fn plan_pattern(
     scoping: ScopingMode,
     root: u32,
     binders: &mut [u32; 128],
-    scratch: &mut [u32; 2048],
+    plan: &mut [u32],
+    at: usize,
 ) -> usize
-    requires { ⌜ PatternAsks (tables (now nodes) (now children) (now numbers) (now names) (now strings) (now text)) root (now binders) ⌝ }
-    ensures { λ r. ⌜ PatternPlanned (tables (now (nodes .entry)) (now (children .entry)) (now (numbers .entry)) (now (names .entry)) (now (strings .entry)) (now (text .entry))) scope scoping root (now (scratch .entry)) (now (binders .exit)) (now (scratch .exit)) r ⌝ }
+    requires { ⌜ PatternAsks (tables (now nodes) (now children) (now numbers) (now names) (now strings) (now text)) root (now binders) at ⌝ }
+    ensures { λ r. ⌜ PatternPlanned (tables (now (nodes .entry)) (now (children .entry)) (now (numbers .entry)) (now (names .entry)) (now (strings .entry)) (now (text .entry))) scope scoping root at (now (plan .entry)) (now (binders .exit)) (now (plan .exit)) r ⌝ }
 {
     let states = name_states(names, text, scope, scoping);
     create_destructuring_plan_with_tracking(
@@ -198,7 +200,8 @@ pub fn plan_pattern(
         &states,
         root,
         binders,
-        scratch,
+        plan,
+        at,
     )
 }
 
@@ -219,7 +222,6 @@ fn deliver_pattern(
     ensures { λ r. ⌜ Answered (patternPlanned (tables (now (nodes .entry)) (now (children .entry)) (now (numbers .entry)) (now (names .entry)) (now (strings .entry)) (now (text .entry))) scope scoping root) (now (plan .entry)) (now (plan .exit)) r ⌝ }
 {
     let mut binders = [0u32; 128];
-    let mut scratch = [0u32; 2048];
     let count = plan_pattern(
         nodes,
         children,
@@ -231,9 +233,10 @@ fn deliver_pattern(
         scoping,
         root,
         &mut binders,
-        &mut scratch,
+        plan,
+        0,
     );
-    deliver(plan, &scratch, 0, 0, count)
+    close(plan, 0, count)
 }
 
 // The pattern call: the plan of a pattern in the lent buffer.

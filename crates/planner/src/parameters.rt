@@ -15,7 +15,7 @@ ghost use Rattle.planner.specs.code.Post.{NameNumber, Walks, WalksChildr
 ghost use Rattle.planner.specs.code.Validation.{definedMark, definedState, DefinedBy, markedIn, occurrencesFrom, firstDefined, parameterDefined};
 use crate::PlanAnswer;
 use crate::buffer::clear;
-use crate::buffer::deliver;
+use crate::buffer::close;
 use crate::context::is_sound;
 use crate::context::unbound_mark;
 use crate::destructuring::create_destructuring_plan;
@@ -270,7 +270,6 @@ fn deliver_parameter(
     ensures { λ r. ⌜ Answered (parameterPlanned (tables (now (nodes .entry)) (now (children .entry)) (now (numbers .entry)) (now (names .entry)) (now (strings .entry)) (now (text .entry))) scope scoping root) (now (plan .entry)) (now (plan .exit)) r ⌝ }
 {
     let mut binders = [0u32; 128];
-    let mut scratch = [0u32; 2048];
     let count = plan_pattern(
         nodes,
         children,
@@ -282,7 +281,8 @@ fn deliver_parameter(
         scoping,
         root,
         &mut binders,
-        &mut scratch,
+        plan,
+        0,
     );
     let name = validate_parameter(
         nodes,
@@ -300,7 +300,7 @@ fn deliver_parameter(
         clear(plan);
         return PlanAnswer::VariableAlreadyDefined { name };
     }
-    deliver(plan, &scratch, 0, 0, count)
+    close(plan, 0, count)
 }
 
 // The loop index call: its plan respects the parent scope.

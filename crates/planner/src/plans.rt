@@ -1,29 +1,17 @@
 // The second pass: a plan's entries in plan order (plans.rs, destructuring.rs).
 ghost use mathlib.Core.Path.{_≡_};
-ghost use Prim.Native.Nat.{_<_};
 ghost use Rattle.table.specs.Tables.{tables};
 ghost use Rattle.table.specs.Decode.{expr};
-ghost use Rattle.planner.specs.Layout.{entry};
+ghost use Rattle.planner.specs.Entries.{Wrote};
 ghost use Rattle.planner.specs.code.Passes.{nameEntryKind, leafEntryKind, layOut, layOutItems, layOutOrdered};
-ghost use Rattle.planner.specs.code.Post.{NameNumber, Laid, LayAsks, LayObjectAsks, LayItemsAsks, LayOrderedAsks, PutAt};
+ghost use Rattle.planner.specs.code.Post.{NameNumber, LayAsks, LayObjectAsks, LayItemsAsks, LayOrderedAsks};
+use crate::buffer::put_entry;
 use crate::fields::field_at;
 use crate::fields::order_fields;
 use table::reading::child_at;
 use table::reading::count_of;
 use table::reading::first_of;
 use table::reading::kind_of;
-
-// One entry into a scratch of 512.
-fn put(plan: &mut [u32; 2048], at: usize, kind: u32, node: u32, count: u32, key: u32)
-    requires { ⌜ at < 512 ⌝ }
-    ensures { λ _. ⌜ PutAt (now (plan .entry)) at (entry kind node count key) (now (plan .exit)) ⌝ }
-{
-    let base = at * 4;
-    plan[base] = kind;
-    plan[base + 1] = node;
-    plan[base + 2] = count;
-    plan[base + 3] = key;
-}
 
 // `_` is ignored, a binder binds, any other name is compared.
 fn name_kind(states: &[u8; 128], binders: &[u32; 128], node: u32, name: u32) -> u32
@@ -62,22 +50,22 @@ pub(crate) fn lay_out(
     binders: &[u32; 128],
     node: u32,
     key: u32,
-    plan: &mut [u32; 2048],
+    plan: &mut [u32],
     at: usize,
 ) -> usize
     requires { ⌜ LayAsks (tables (now nodes) (now children) (now numbers) (now names) (now strings) (now text)) (now states) (now binders) node key at ⌝ }
-    ensures { λ r. ⌜ Laid (now (plan .entry)) at (layOut (now (binders .entry)) (expr (tables (now (nodes .entry)) (now (children .entry)) (now (numbers .entry)) (now (names .entry)) (now (strings .entry)) (now (text .entry))) node) key) (now (plan .exit)) r ⌝ }
+    ensures { λ r. ⌜ Wrote (now (plan .entry)) at (layOut (now (binders .entry)) (expr (tables (now (nodes .entry)) (now (children .entry)) (now (numbers .entry)) (now (names .entry)) (now (strings .entry)) (now (text .entry))) node) key) (now (plan .exit)) r ⌝ }
 {
     let kind = kind_of(nodes, node);
     let first = first_of(nodes, node);
     if kind == 6 {
         let bound = name_kind(states, binders, node, first);
-        put(plan, at, bound, node, 0, key);
+        put_entry(plan, at, bound, node, 0, key);
         return at + 1;
     }
     if kind == 7 {
         let count = count_of(nodes, node);
-        put(plan, at, 5, node, count, key);
+        put_entry(plan, at, 5, node, count, key);
         return lay_items(
             nodes,
             children,
@@ -110,7 +98,7 @@ pub(crate) fn lay_out(
             at,
         );
     }
-    put(plan, at, leaf_kind(kind), node, 0, key);
+    put_entry(plan, at, leaf_kind(kind), node, 0, key);
     at + 1
 }
 
@@ -127,11 +115,11 @@ fn lay_items(
     parent: u32,
     from: usize,
     left: usize,
-    plan: &mut [u32; 2048],
+    plan: &mut [u32],
     at: usize,
 ) -> usize
     requires { ⌜ LayItemsAsks (tables (now nodes) (now children) (now numbers) (now names) (now strings) (now text)) (now states) (now binders) parent from left at ⌝ }
-    ensures { λ r. ⌜ Laid (now (plan .entry)) at (layOutItems (now (binders .entry)) (tables (now (nodes .entry)) (now (children .entry)) (now (numbers .entry)) (now (names .entry)) (now (strings .entry)) (now (text .entry))) from left) (now (plan .exit)) r ⌝ }
+    ensures { λ r. ⌜ Wrote (now (plan .entry)) at (layOutItems (now (binders .entry)) (tables (now (nodes .entry)) (now (children .entry)) (now (numbers .entry)) (now (names .entry)) (now (strings .entry)) (now (text .entry))) from left) (now (plan .exit)) r ⌝ }
 {
     let mut place = from;
     let mut more = left;
@@ -169,11 +157,11 @@ fn lay_object(
     binders: &[u32; 128],
     node: u32,
     key: u32,
-    plan: &mut [u32; 2048],
+    plan: &mut [u32],
     at: usize,
 ) -> usize
     requires { ⌜ LayObjectAsks (tables (now nodes) (now children) (now numbers) (now names) (now strings) (now text)) (now states) (now binders) node key at ⌝ }
-    ensures { λ r. ⌜ Laid (now (plan .entry)) at (layOut (now (binders .entry)) (expr (tables (now (nodes .entry)) (now (children .entry)) (now (numbers .entry)) (now (names .entry)) (now (strings .entry)) (now (text .entry))) node) key) (now (plan .exit)) r ⌝ }
+    ensures { λ r. ⌜ Wrote (now (plan .entry)) at (layOut (now (binders .entry)) (expr (tables (now (nodes .entry)) (now (children .entry)) (now (numbers .entry)) (now (names .entry)) (now (strings .entry)) (now (text .entry))) node) key) (now (plan .exit)) r ⌝ }
 {
     let first = first_of(nodes, node) as usize;
     let count = count_of(nodes, node) as usize;
@@ -189,7 +177,7 @@ fn lay_object(
         count,
         &mut order,
     );
-    put(plan, at, 6, node, total, key);
+    put_entry(plan, at, 6, node, total, key);
     lay_fields(
         nodes,
         children,
@@ -222,11 +210,11 @@ fn lay_fields(
     first: usize,
     order: &[u32; 256],
     total: usize,
-    plan: &mut [u32; 2048],
+    plan: &mut [u32],
     at: usize,
 ) -> usize
     requires { ⌜ LayOrderedAsks (tables (now nodes) (now children) (now numbers) (now names) (now strings) (now text)) (now states) (now binders) parent first (now order) total at ⌝ }
-    ensures { λ r. ⌜ Laid (now (plan .entry)) at (layOutOrdered (now (binders .entry)) (tables (now (nodes .entry)) (now (children .entry)) (now (numbers .entry)) (now (names .entry)) (now (strings .entry)) (now (text .entry))) first (now (order .entry)) 0 total) (now (plan .exit)) r ⌝ }
+    ensures { λ r. ⌜ Wrote (now (plan .entry)) at (layOutOrdered (now (binders .entry)) (tables (now (nodes .entry)) (now (children .entry)) (now (numbers .entry)) (now (names .entry)) (now (strings .entry)) (now (text .entry))) first (now (order .entry)) 0 total) (now (plan .exit)) r ⌝ }
 {
     let mut q: usize = 0;
     let mut here = at;

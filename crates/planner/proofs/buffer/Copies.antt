@@ -14,10 +14,10 @@ use Rattle.planner.specs.declared.PlanAnswer.{PlanAnswer}
 use Rattle.planner.specs.Layout.{Entry, entry, words}
 use Rattle.planner.specs.Entries.{entryAt, readEntries, putEntry, putEntries, Wrote, CopyAsks}
 use Rattle.planner.specs.Operations.{planned, answered, written, Answered}
-use Rattle.planner.specs.code.Post.{Laid, Delivered, wordAt}
+use Rattle.planner.specs.code.Post.{Laid, Closed, wordAt}
 use Rattle.planner.proofs.buffer.Filling.{Filling, word-in}
 use Rattle.planner.proofs.buffer.Written.{put-stores, laid-put, laid-none, laid-append}
-use Rattle.planner.proofs.buffer.ReadBack.{read-laid, delivered-read}
+use Rattle.planner.proofs.buffer.ReadBack.{read-laid, closed-read}
 
 -- one entry
 module _ (before : List ℕ) (at kind node count key : ℕ) where
@@ -85,14 +85,14 @@ wrote-append {before} {mid} {after} {at} {r} {s} {es} {fs} a b = record {
 
 -- the entries of a scratch, one after the other
 pub record Copying (scratch before : List ℕ) (at count i : ℕ) (mid : List ℕ) : Type 0 where
-  pub asks : CopyAsks at count
+  pub asks : CopyAsks scratch at count
   pub inside : i ≤ count
   pub long : length mid ≡ length before
   pub wrote : Wrote before at (readEntries scratch 0 i) mid (at + i)
 
-pub copying-start : {at count : ℕ} → CopyAsks at count → (scratch before : List ℕ) → Copying scratch before at count 0 before
+pub copying-start : {scratch : List ℕ} {at count : ℕ} → CopyAsks scratch at count → (before : List ℕ) → Copying scratch before at count 0 before
 unfolding readEntries
-copying-start {at} {count} a scratch before =
+copying-start {scratch} {at} {count} a before =
     let z : at + 0 ≡ at = omega arith in
     record { asks = a; inside = omega arith; long = refl; wrote = rw z (wrote-none before at) }
 
@@ -121,28 +121,36 @@ module _ {scratch before : List ℕ} {at count i : ℕ} {mid : List ℕ} (go : C
   pub copying-ends : count ≤ i → Wrote before at (readEntries scratch 0 count) mid (at + count)
   copying-ends le = let n = go .inside in let e : i ≡ count = omega arith in rw e at (go .wrote)
 
+-- entries that all fit stand where they were put
+pub wrote-laid : {before after : List ℕ} {at r : ℕ} {es : List Entry} → Wrote before at es after r → r ≤ length before / 4 → Laid before at es after r
+wrote-laid {before} {at = at} {es = es} w fits =
+    let e = w .end in
+    record { end = w .end; stored = w .put ∙ puts-laid es before at (omega arith) .stored }
+
+pub wrote-read : {before after : List ℕ} {r : ℕ} {es : List Entry} → Wrote before 0 es after r → r ≤ length before / 4 → readEntries after 0 r ≡ es
+wrote-read w fits = let long = wrote-long w in read-laid (wrote-laid w fits) (omega arith)
+
 -- zeros behind a plan
 pub clearing-start : (plan : List ℕ) (from : ℕ) → Filling (wordAt plan from) (length plan) from plan
 clearing-start plan from = record { long = refl; each = λ k lt. word-in plan from k lt }
 
 -- the plan in the buffer, and zeros behind it
-pub wrote-delivered : (form : ℕ) (es : List Entry) {before mid later : List ℕ} {at : ℕ} {r : PlanAnswer} → Wrote before 0 es mid at → Delivered mid form 0 at mid later r → Answered (planned form 0 es) before later r
+pub wrote-closed : (form : ℕ) (es : List Entry) {before mid later : List ℕ} {at : ℕ} {r : PlanAnswer} → Wrote before 0 es mid at → Closed form at mid later r → Answered (planned form 0 es) before later r
 unfolding answered written
-wrote-delivered form es {before} {mid} {later} {at} {r} w d = go (leb (length es) (length before / 4)) refl
+wrote-closed form es {before} {mid} {later} {at} {r} w d = go (leb (length es) (length before / 4)) refl
   where
     size : at ≡ length es
     size = let e = w .end in omega arith
 
     read : Answered (planned form 0 (readEntries mid 0 at)) mid later r
-    read = delivered-read form 0 d
+    read = closed-read form d
 
     go : (b : Bool) → leb (length es) (length before / 4) ≡ b → Answered (planned form 0 es) before later r
     go true p =
         let s = size in
         let fits = leb-true (length es) (length before / 4) p in
         let long = wrote-long w in
-        let laid : Laid before 0 es mid at = record { end = w .end; stored = w .put ∙ puts-laid es before 0 (omega arith) .stored } in
-        let same = read-laid laid (omega arith) in
+        let same = wrote-read w (omega arith) in
         record { answer = (rw (same, long) at (read .answer)); buffer = (rw (same, long) at (read .buffer)) }
     go false p =
         let s = size in

@@ -9,7 +9,7 @@ use lib.Dec.{eqb, ltb}
 use lib.ListN.{length, getD, set, replicate, length-set, length-replicate, getD-replicate}
 use lib.Seq.{getD-set-same, getD-set-other, ext-getD}
 use Rattle.planner.specs.declared.PlanAnswer.the-variants.{Planned, PlanTooLarge}
-use Rattle.planner.specs.code.Post.{Copied, wordAt, tabulate, Delivered}
+use Rattle.planner.specs.code.Post.{wordAt, tabulate, Closed}
 
 -- an array filled from place 0 on
 pub record Filling (f : ℕ → ℕ) (size i : ℕ) (here : List ℕ) : Type 0 where
@@ -69,12 +69,12 @@ zeros-end {size} {i} {here} go done =
     let long = go .long in
     ext-getD 0 here (replicate size 0) (long ∙ sym (length-replicate size 0)) (λ k lt. go .each k (omega arith) ∙ sym (getD-replicate size k 0 0 (omega arith)))
 
--- a word of the scratch
-module _ (scratch : List ℕ) (size i : ℕ) where
-  pub word-in : i < size → getD scratch i 0 ≡ wordAt scratch size i
+-- a word that is kept, or cleared
+module _ (before : List ℕ) (size i : ℕ) where
+  pub word-in : i < size → getD before i 0 ≡ wordAt before size i
   word-in lt = simp (lt-ltb i size lt)
 
-  pub word-out : size ≤ i → 0 ≡ wordAt scratch size i
+  pub word-out : size ≤ i → 0 ≡ wordAt before size i
   word-out le = simp (le-ltb i size le)
 
 -- no word kept
@@ -86,24 +86,10 @@ all-cleared before e = e ∙ zeros (wordAt before 0) (λ i. sym (word-out before
     zeros f none i zero = refl
     zeros f none i (suc k) = ap (λ h. h ∷ tabulate f (i + 1) k) (none i) ∙ ap (λ t. 0 ∷ t) (zeros f none (i + 1) k)
 
--- words copied, then zeros
-pub copied-ends : {scratch : List ℕ} {words i : ℕ} {before here : List ℕ} → Filling (λ k. getD scratch k 0) (length before) i here → words ≤ i → Copied scratch words before here
-copied-ends go done = record { long = go .long; each = λ k lt. go .each k (omega arith) }
-
-pub copied-cleared : {scratch : List ℕ} {words : ℕ} {before mid after : List ℕ} → Copied scratch words before mid → after ≡ tabulate (wordAt mid words) 0 (length mid) → after ≡ tabulate (wordAt scratch words) 0 (length before)
-copied-cleared {scratch} {words} {before} {mid} copied e = e ∙ (ap (tabulate (wordAt mid words) 0) (copied .long) ∙ tabulate-same (wordAt mid words) (wordAt scratch words) at 0 (length before))
-  where
-    at : (i : ℕ) → wordAt mid words i ≡ wordAt scratch words i
-    at i = by-size (ltb i words) refl
-      where
-        by-size : (b : Bool) → ltb i words ≡ b → wordAt mid words i ≡ wordAt scratch words i
-        by-size true p = simp p (copied .each i (ltb-true i words p))
-        by-size false p = simp p
-
 -- with and without space
-module _ (scratch : List ℕ) (form side count : ℕ) (before after : List ℕ) where
-  pub deliver-small : length before / 4 < count → after ≡ replicate (length before) 0 → Delivered scratch form side count before after (PlanTooLarge count)
-  deliver-small lt e = let b = lt-leb count (length before / 4) lt in record { answer = simp b; buffer = simp b e }
+module _ (form count : ℕ) (before after : List ℕ) where
+  pub closed-small : length before / 4 < count → after ≡ replicate (length before) 0 → Closed form count before after (PlanTooLarge count)
+  closed-small lt e = let b = lt-leb count (length before / 4) lt in record { answer = simp b; buffer = simp b e }
 
-  pub deliver-fits : count ≤ length before / 4 → after ≡ tabulate (wordAt scratch (count * 4)) 0 (length before) → Delivered scratch form side count before after (Planned form side count)
-  deliver-fits le e = let b = le-leb count (length before / 4) le in record { answer = simp b; buffer = simp b e }
+  pub closed-fits : count ≤ length before / 4 → after ≡ tabulate (wordAt before (count * 4)) 0 (length before) → Closed form count before after (Planned form 0 count)
+  closed-fits le e = let b = le-leb count (length before / 4) le in record { answer = simp b; buffer = simp b e }

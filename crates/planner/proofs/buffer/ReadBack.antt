@@ -1,4 +1,4 @@
--- Entries read back from a scratch, and delivered.
+-- Entries read back from a scratch or a buffer.
 use Prim.Native.Nat.{ℕ, zero, suc, _+_, _-_, _*_, _/_, _≤_, _<_}
 use mathlib.Core.Path.{_≡_, refl, sym, ap, _∙_}
 use mathlib.Core.List.{List, [], _∷_, _++_}
@@ -13,7 +13,7 @@ use Rattle.planner.specs.declared.PlanAnswer.{PlanAnswer}
 use Rattle.planner.specs.Layout.{Entry, words}
 use Rattle.planner.specs.Entries.{readEntries}
 use Rattle.planner.specs.Operations.{planned, answered, written, Answered}
-use Rattle.planner.specs.code.Post.{Laid, Delivered, wordAt, tabulate}
+use Rattle.planner.specs.code.Post.{Laid, Closed, wordAt, tabulate}
 use Rattle.planner.proofs.buffer.Filling.{length-tabulate, getD-tabulate}
 use Rattle.planner.proofs.buffer.Written.{length-words}
 
@@ -85,23 +85,23 @@ first-words ws scratch size n long fits same =
             ∙ (getD-drop size (replicate n 0) (i - length ws) 0
             ∙ getD-replicate n (size + (i - length ws)) 0 0 (omega arith)))))
 
--- what is read and then delivered
-pub delivered-read : (form side : ℕ) {scratch before later : List ℕ} {count : ℕ} {r : PlanAnswer} → Delivered scratch form side count before later r → Answered (planned form side (readEntries scratch 0 count)) before later r
+-- what is read and then closed
+pub closed-read : (form : ℕ) {before later : List ℕ} {count : ℕ} {r : PlanAnswer} → Closed form count before later r → Answered (planned form 0 (readEntries before 0 count)) before later r
 unfolding answered written
-delivered-read form side {scratch} {before} {later} {count} {r} d = go (leb count (length before / 4)) refl
+closed-read form {before} {later} {count} {r} d = go (leb count (length before / 4)) refl
   where
-    size : length (readEntries scratch 0 count) ≡ count
-    size = length-read scratch 0 count
+    size : length (readEntries before 0 count) ≡ count
+    size = length-read before 0 count
 
-    buffer-is : count ≤ length before / 4 → tabulate (wordAt scratch (count * 4)) 0 (length before) ≡ words (readEntries scratch 0 count) ++ drop (4 * count) (replicate (length before) 0)
+    buffer-is : count ≤ length before / 4 → tabulate (wordAt before (count * 4)) 0 (length before) ≡ words (readEntries before 0 count) ++ drop (4 * count) (replicate (length before) 0)
     buffer-is fits =
         let n = size in
-        let w = length-words (readEntries scratch 0 count) in
+        let w = length-words (readEntries before 0 count) in
         let e : 4 * count ≡ count * 4 = omega arith in
         let z : (i : ℕ) → 0 * 4 + i ≡ i = λ i. omega arith in
-        rw e (first-words (words (readEntries scratch 0 count)) scratch (count * 4) (length before) (omega arith) (omega arith) (λ i lt. words-read scratch 0 count i lt ∙ ap (λ (m : ℕ). getD scratch m 0) (z i)))
+        rw e (first-words (words (readEntries before 0 count)) before (count * 4) (length before) (omega arith) (omega arith) (λ i lt. words-read before 0 count i lt ∙ ap (λ (m : ℕ). getD before m 0) (z i)))
 
-    go : (b : Bool) → leb count (length before / 4) ≡ b → Answered (planned form side (readEntries scratch 0 count)) before later r
+    go : (b : Bool) → leb count (length before / 4) ≡ b → Answered (planned form 0 (readEntries before 0 count)) before later r
     go true p = record {
       answer = rw size (d .answer);
       buffer = rw size (simp p ((simp p at (d .buffer)) ∙ buffer-is (leb-true count (length before / 4) p)));

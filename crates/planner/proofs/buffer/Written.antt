@@ -7,7 +7,7 @@ use native.Mathlib.Numerals.{add-one, add-two, add-three}
 use lib.ListN.{length, set, length-append}
 use lib.Seq.{sets}
 use Rattle.planner.specs.Layout.{Entry, entry, words}
-use Rattle.planner.specs.code.Post.{Laid, PutAt}
+use Rattle.planner.specs.code.Post.{Laid}
 
 pub words-append : (es fs : List Entry) → words (es ++ fs) ≡ words es ++ words fs
 unfolding words
@@ -27,7 +27,7 @@ sets-append l i (x ∷ xs) ys =
 
 -- the four stores of an entry
 pub put-stores : (before : List ℕ) (at kind node count key : ℕ)
-    → PutAt before at (entry kind node count key) (set (set (set (set before (at * 4) kind) (at * 4 + 1) node) (at * 4 + 2) count) (at * 4 + 3) key)
+    → set (set (set (set before (at * 4) kind) (at * 4 + 1) node) (at * 4 + 2) count) (at * 4 + 3) key ≡ sets before (at * 4) (words (entry kind node count key ∷ []))
 unfolding words
 put-stores before at kind node count key = simp (add-one, add-two, add-three)
 
@@ -35,7 +35,7 @@ pub laid-none : (before : List ℕ) (at : ℕ) → Laid before at [] before at
 unfolding words
 laid-none before at = record { end = omega arith; stored = refl }
 
-pub laid-put : {before after : List ℕ} {at : ℕ} {e : Entry} → PutAt before at e after → Laid before at (e ∷ []) after (at + 1)
+pub laid-put : {before after : List ℕ} {at : ℕ} {e : Entry} → after ≡ sets before (at * 4) (words (e ∷ [])) → Laid before at (e ∷ []) after (at + 1)
 laid-put p = record { end = refl; stored = p }
 
 pub laid-append : {before mid after : List ℕ} {at r s : ℕ} {es fs : List Entry} → Laid before at es mid r → Laid mid r fs after s → Laid before at (es ++ fs) after s

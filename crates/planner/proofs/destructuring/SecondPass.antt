@@ -15,11 +15,12 @@ use Rattle.table.specs.Decode.{expr, items, isWildcard}
 use Rattle.table.specs.Sound.{Node}
 use Rattle.table.proofs.trees.Trees.{expr-name, expr-array, items-step, items-end, count-items}
 use Rattle.planner.specs.Layout.{Entry, entry}
+use Rattle.planner.specs.Entries.{Wrote}
 use Rattle.planner.specs.code.Passes.{nameKind, nameEntryKind, leafEntryKind, layOut, layOutAll, layOutItems, layOutOrdered, concatAt}
-use Rattle.planner.specs.code.Post.{NameNumber, Laid, PutAt, LayAsks, LayObjectAsks, LayItemsAsks, LayOrderedAsks}
+use Rattle.planner.specs.code.Post.{NameNumber, LayAsks, LayObjectAsks, LayItemsAsks, LayOrderedAsks}
 use Rattle.planner.proofs.destructuring.NodeKinds.{Plain, plain-literal, plain-set, plain-other, plain-kind}
 use Rattle.planner.proofs.destructuring.Walking as Walking
-use Rattle.planner.proofs.buffer.Written.{laid-none, laid-put, laid-append}
+use Rattle.planner.proofs.buffer.Copies.{wrote-none, wrote-append, wrote-long}
 
 -- entry kinds
 module _ (states binders : List ℕ) (n x : ℕ) where
@@ -50,8 +51,8 @@ lay-some b (other n) key = omega arith
 
 -- a node by its kind, as the readers gave its words
 module _ (T : Tables) (states binders : List ℕ) (n key at : ℕ) (a : LayAsks T states binders n key at) where
-  pub put-room : at < 512
-  put-room = let r = a .room in omega (arith, lay-some binders (expr T n) key)
+  pub next-fits : Fits w64 (at + 1)
+  next-fits = let r = a .room in let s = lay-some binders (expr T n) key in record { fits = omega arith }
 
   module _ {kind : ℕ} (is-kind : kind ≡ kindOf (T .nodes) n) where
     node-kind : {k : ℕ} → kind ≡ k → kindOf (T .nodes) n ≡ k
@@ -64,17 +65,17 @@ module _ (T : Tables) (states binders : List ℕ) (n key at : ℕ) (a : LayAsks 
       pub ask-name : kind ≡ 6 → NameNumber first
       ask-name k = Walking.ask-name T states n (a .walks) is-kind is-first k
 
-      pub laid-name : {before after : List ℕ} {bound : ℕ} → kind ≡ 6 → bound ≡ nameEntryKind states binders n first → PutAt before at (entry bound n 0 key) after → Laid before at (layOut binders (expr T n) key) after (at + 1)
+      pub laid-name : {before after : List ℕ} {bound : ℕ} → kind ≡ 6 → bound ≡ nameEntryKind states binders n first → Wrote before at (entry bound n 0 key ∷ []) after (at + 1) → Wrote before at (layOut binders (expr T n) key) after (at + 1)
       unfolding layOut
       laid-name {before} {after} {bound} k is-bound p = go (isWildcard T (firstOf (T .nodes) n)) refl
         where
           wild : isWildcard T (firstOf (T .nodes) n) ≡ eqb (getD states (firstOf (T .nodes) n - 1) 0) 2
           wild = a .walks .states-ok .wild (firstOf (T .nodes) n) (a .walks .table .named n (a .walks .node) (node-kind k))
 
-          put : (m : ℕ) → nameEntryKind states binders n (firstOf (T .nodes) n) ≡ m → Laid before at (entry m n 0 key ∷ []) after (at + 1)
-          put m e = laid-put (subst (λ (j : ℕ). PutAt before at (entry j n 0 key) after) ((rw is-first at is-bound) ∙ e) p)
+          put : (m : ℕ) → nameEntryKind states binders n (firstOf (T .nodes) n) ≡ m → Wrote before at (entry m n 0 key ∷ []) after (at + 1)
+          put m e = (subst (λ (j : ℕ). Wrote before at (entry j n 0 key ∷ []) after (at + 1)) ((rw is-first at is-bound) ∙ e) p)
 
-          go : (b : Bool) → isWildcard T (firstOf (T .nodes) n) ≡ b → Laid before at (layOut binders (expr T n) key) after (at + 1)
+          go : (b : Bool) → isWildcard T (firstOf (T .nodes) n) ≡ b → Wrote before at (layOut binders (expr T n) key) after (at + 1)
           go true q =
               let tree : expr T n ≡ wildcard n = expr-name T (a .walks .table) n (a .walks .node) (node-kind k) ∙ simp q in
               rw tree (put 2 (simp (sym wild ∙ q)))
@@ -93,35 +94,38 @@ module _ (T : Tables) (states binders : List ℕ) (n key at : ℕ) (a : LayAsks 
           room = let r = rw tree at (a .room) in omega arith;
         }
 
-        pub laid-array : {before mid after : List ℕ} {r : ℕ} → PutAt before at (entry 5 n size key) mid → Laid mid (at + 1) (layOutItems binders T first size) after r → Laid before at (layOut binders (expr T n) key) after r
+        pub laid-array : {before mid after : List ℕ} {r : ℕ} → Wrote before at (entry 5 n size key ∷ []) mid (at + 1) → Wrote mid (at + 1) (layOutItems binders T first size) after r → Wrote before at (layOut binders (expr T n) key) after r
         unfolding layOut
         laid-array {before} {mid} {after} {r} p l =
             let e = count-items (expr T) (T .children) first size in
-            rw (tree, e) (laid-append (laid-put p) l)
+            rw (tree, e) (wrote-append p l)
 
-    pub laid-plain : {before after : List ℕ} {leaf : ℕ} → (kind ≡ 6 → ⊥) → (kind ≡ 7 → ⊥) → (kind ≡ 9 → ⊥) → leaf ≡ leafEntryKind kind → PutAt before at (entry leaf n 0 key) after → Laid before at (layOut binders (expr T n) key) after (at + 1)
+    pub laid-plain : {before after : List ℕ} {leaf : ℕ} → (kind ≡ 6 → ⊥) → (kind ≡ 7 → ⊥) → (kind ≡ 9 → ⊥) → leaf ≡ leafEntryKind kind → Wrote before at (entry leaf n 0 key ∷ []) after (at + 1) → Wrote before at (layOut binders (expr T n) key) after (at + 1)
     unfolding layOut
     laid-plain {before} {after} {leaf} not-6 not-7 not-9 is-leaf p =
         let q = plain-kind T (a .walks .table) n (a .walks .node) (λ e. not-6 (is-kind ∙ e)) (λ e. not-7 (is-kind ∙ e)) (λ e. not-9 (is-kind ∙ e)) in
         go (q .0) (q .1) (q .2)
       where
-        put : (m : ℕ) → leafEntryKind kind ≡ m → Laid before at (entry m n 0 key ∷ []) after (at + 1)
-        put m e = laid-put (subst (λ (j : ℕ). PutAt before at (entry j n 0 key) after) (is-leaf ∙ e) p)
+        put : (m : ℕ) → leafEntryKind kind ≡ m → Wrote before at (entry m n 0 key ∷ []) after (at + 1)
+        put m e = (subst (λ (j : ℕ). Wrote before at (entry j n 0 key ∷ []) after (at + 1)) (is-leaf ∙ e) p)
 
-        go : (e : Expr) → expr T n ≡ e → Plain (kindOf (T .nodes) n) n e → Laid before at (layOut binders (expr T n) key) after (at + 1)
+        go : (e : Expr) → expr T n ≡ e → Plain (kindOf (T .nodes) n) n e → Wrote before at (layOut binders (expr T n) key) after (at + 1)
         go e t (plain-literal l h) = rw t (put 4 (sym (leaf-low kind (omega arith))))
         go e t (plain-set es h) = rw t (put 3 (sym (leaf-high kind (omega arith))))
         go e t (plain-other h) = rw t (put 3 (sym (leaf-high kind (omega arith))))
+
+pub object-next-fits : (T : Tables) (states binders : List ℕ) (n key at : ℕ) → LayObjectAsks T states binders n key at → Fits w64 (at + 1)
+object-next-fits T states binders n key at a = next-fits T states binders n key at (a .asks)
 
 -- the items in turn
 pub record LayingItems (T : Tables) (states binders : List ℕ) (parent from left : ℕ) (before : List ℕ) (at place more : ℕ) (mid : List ℕ) (here : ℕ) : Type 0 where
   pub asks : LayItemsAsks T states binders parent place more here
   pub entries : List Entry
-  pub laid : Laid before at entries mid here
+  pub wrote : Wrote before at entries mid here
   pub same : entries ++ layOutItems binders T place more ≡ layOutItems binders T from left
 
 pub laying-start : (T : Tables) (states binders : List ℕ) (parent from left : ℕ) (before : List ℕ) (at : ℕ) → LayItemsAsks T states binders parent from left at → LayingItems T states binders parent from left before at from left before at
-laying-start T states binders parent from left before at a = record { asks = a; entries = []; laid = laid-none before at; same = refl }
+laying-start T states binders parent from left before at a = record { asks = a; entries = []; wrote = wrote-none before at; same = refl }
 
 module _ {T : Tables} {states binders : List ℕ} {parent from left : ℕ} {before : List ℕ} {at place more : ℕ} {mid : List ℕ} {here : ℕ} (go : LayingItems T states binders parent from left before at place more mid here) where
   module _ (more-left : 0 < more) {child : ℕ} (is-child : child ≡ childAt (T .children) place) where
@@ -138,7 +142,7 @@ module _ {T : Tables} {states binders : List ℕ} {parent from left : ℕ} {befo
     pub laying-below : child < parent
     laying-below = Walking.walk-below (go .asks .walks) more-left is-child
 
-    pub laying-on : {next : List ℕ} {there : ℕ} → Laid mid here (layOut binders (expr T child) 0) next there
+    pub laying-on : {next : List ℕ} {there : ℕ} → Wrote mid here (layOut binders (expr T child) 0) next there
         → LayingItems T states binders parent from left before at (place + 1) (more - 1) next there
     laying-on {next} {there} l = record {
       asks = record {
@@ -146,34 +150,40 @@ module _ {T : Tables} {states binders : List ℕ} {parent from left : ℕ} {befo
         room = let r = go .asks .room in let e = l .end in omega (arith, ap length step, length-append (layOut binders (expr T child) 0) (layOutItems binders T (place + 1) (more - 1)));
       };
       entries = go .entries ++ layOut binders (expr T child) 0;
-      laid = laid-append (go .laid) l;
+      wrote = wrote-append (go .wrote) l;
       same = append-assoc (go .entries) (layOut binders (expr T child) 0) (layOutItems binders T (place + 1) (more - 1)) ∙ (ap (λ (es : List Entry). go .entries ++ es) (sym step) ∙ go .same);
     }
+
+  pub laying-long : length mid ≡ length before
+  laying-long = wrote-long (go .wrote)
 
   pub laying-fits : 0 < more → Fits w64 (place + 1)
   laying-fits more-left = Walking.walk-fits (go .asks .walks) more-left
 
-  pub laying-ends : more ≤ 0 → Laid before at (layOutItems binders T from left) mid here
+  pub laying-ends : more ≤ 0 → Wrote before at (layOutItems binders T from left) mid here
   unfolding layOut
   laying-ends no-more =
       let e : layOutItems binders T place more ≡ [] = ap (λ (es : Exprs). layOutAll binders es) (items-end (expr T) (T .children) place more no-more) in
       let all : go .entries ≡ layOutItems binders T from left = sym (append-nil (go .entries)) ∙ (ap (λ (es : List Entry). go .entries ++ es) (sym e) ∙ go .same) in
-      subst (λ (es : List Entry). Laid before at es mid here) all (go .laid)
+      subst (λ (es : List Entry). Wrote before at es mid here) all (go .wrote)
 
 -- the fields by an order, in turn
 pub record LayingFields (T : Tables) (states binders : List ℕ) (parent first : ℕ) (order : List ℕ) (total : ℕ) (before : List ℕ) (at q : ℕ) (mid : List ℕ) (here : ℕ) : Type 0 where
   pub asks : LayOrderedAsks T states binders parent first order total at
   pub inside : q ≤ total
   pub entries : List Entry
-  pub laid : Laid before at entries mid here
+  pub wrote : Wrote before at entries mid here
   pub same : entries ++ layOutOrdered binders T first order q (total - q) ≡ layOutOrdered binders T first order 0 total
 
 pub ordering-start : (T : Tables) (states binders : List ℕ) (parent first : ℕ) (order : List ℕ) (total : ℕ) (before : List ℕ) (at : ℕ) → LayOrderedAsks T states binders parent first order total at → LayingFields T states binders parent first order total before at 0 before at
 ordering-start T states binders parent first order total before at a =
     let z : total - 0 ≡ total = omega arith in
-    record { asks = a; inside = omega arith; entries = []; laid = laid-none before at; same = rw z }
+    record { asks = a; inside = omega arith; entries = []; wrote = wrote-none before at; same = rw z }
 
 module _ {T : Tables} {states binders : List ℕ} {parent first : ℕ} {order : List ℕ} {total : ℕ} {before : List ℕ} {at q : ℕ} {mid : List ℕ} {here : ℕ} (go : LayingFields T states binders parent first order total before at q mid here) where
+  pub ordering-long : length mid ≡ length before
+  ordering-long = wrote-long (go .wrote)
+
   pub ordering-inside : q < total → q < 256
   ordering-inside lt = let f = go .asks .few in omega arith
 
@@ -198,10 +208,10 @@ module _ {T : Tables} {states binders : List ℕ} {parent first : ℕ} {order : 
       here-value : Node T value × (value < parent)
       here-value = rw (is-value, is-field) (go .asks .each q lt .1, go .asks .each q lt .2)
 
-      fits : here + length (layOut binders (expr T value) key) ≤ 512
+      fits : here + length (layOut binders (expr T value) key) ≤ 2 ^ 41
       fits =
           let r = go .asks .room in
-          let e = go .laid .end in
+          let e = go .wrote .end in
           omega (arith, ap length (go .same), ap length field-step, length-append (go .entries) (layOutOrdered binders T first order q (total - q)), length-append (layOut binders (expr T value) key) (layOutOrdered binders T first order (q + 1) (total - (q + 1))))
 
       pub ordering-child : LayAsks T states binders value key here
@@ -213,23 +223,23 @@ module _ {T : Tables} {states binders : List ℕ} {parent first : ℕ} {order : 
       pub ordering-below : value < parent
       ordering-below = here-value .1
 
-      pub ordering-on : {next : List ℕ} {there : ℕ} → Laid mid here (layOut binders (expr T value) key) next there
+      pub ordering-on : {next : List ℕ} {there : ℕ} → Wrote mid here (layOut binders (expr T value) key) next there
           → LayingFields T states binders parent first order total before at (q + 1) next there
       ordering-on {next} {there} l = record {
         asks = go .asks;
         inside = omega arith;
         entries = go .entries ++ layOut binders (expr T value) key;
-        laid = laid-append (go .laid) l;
+        wrote = wrote-append (go .wrote) l;
         same = append-assoc (go .entries) (layOut binders (expr T value) key) (layOutOrdered binders T first order (q + 1) (total - (q + 1))) ∙ (ap (λ (es : List Entry). go .entries ++ es) (sym field-step) ∙ go .same);
       }
 
-  pub ordering-ends : total ≤ q → Laid before at (layOutOrdered binders T first order 0 total) mid here
+  pub ordering-ends : total ≤ q → Wrote before at (layOutOrdered binders T first order 0 total) mid here
   unfolding concatAt
   ordering-ends done-all =
       let z : total - q ≡ 0 = omega arith in
       let e : layOutOrdered binders T first order q (total - q) ≡ [] = rw z in
       let all : go .entries ≡ layOutOrdered binders T first order 0 total = sym (append-nil (go .entries)) ∙ (ap (λ (es : List Entry). go .entries ++ es) (sym e) ∙ go .same) in
-      subst (λ (es : List Entry). Laid before at es mid here) all (go .laid)
+      subst (λ (es : List Entry). Wrote before at es mid here) all (go .wrote)
 
 -- the measure: of a node, of an object, and of a node's items or fields
 pub object-falls : {n t : ℕ} → 1 ≤ n → 4 * n ≡ t → 4 * n - 1 < t

@@ -17,11 +17,12 @@ use Rattle.table.specs.Decode.{expr, fields, isWildcard, headed, literalAt, lit
 use Rattle.table.specs.Sound.{Node, WellFormed}
 use Rattle.table.proofs.trees.Trees.{expr-unfolds, expr-literal, expr-object, width-object, child-node}
 use Rattle.planner.specs.Layout.{Entry, entry, literalKey, Slot, heldIn, FieldOrder, noFields, inOrder, addField, concat}
+use Rattle.planner.specs.Entries.{Wrote}
 use Rattle.planner.specs.code.Passes.{layOut, layOutFields, orderFrom, concatAt, layOutOrdered, keyNode, valueNode, fieldKey, fieldEntries, orderOf}
-use Rattle.planner.specs.code.Post.{Laid, PutAt, LayObjectAsks, OrderAsks, OrderedBy, LayOrderedAsks}
+use Rattle.planner.specs.code.Post.{LayObjectAsks, OrderAsks, OrderedBy, LayOrderedAsks}
 use Rattle.planner.proofs.fields.FieldOrder as Fields
 use Rattle.planner.proofs.fields.FieldOrder.{AllSlots, insert-all, order-entries}
-use Rattle.planner.proofs.buffer.Written.{laid-put, laid-append}
+use Rattle.planner.proofs.buffer.Copies.{wrote-append}
 
 module _ (T : Tables) (w : WellFormed T) (n : ℕ) (v : Node T n) where
   -- a node that is above kind 5 refers to no literal
@@ -224,7 +225,7 @@ module _ (T : Tables) (states binders : List ℕ) (n key at : ℕ) (a : LayObjec
       room = let r = rw entries-of at (a .asks .room) in rw ordered-is (omega arith);
     }
 
-    pub laid-object : {before mid after : List ℕ} {r : ℕ} → PutAt before at (entry 6 n total key) mid → Laid mid (at + 1) (layOutOrdered binders T first order 0 total) after r → Laid before at (layOut binders (expr T n) key) after r
+    pub laid-object : {before mid after : List ℕ} {r : ℕ} → Wrote before at (entry 6 n total key ∷ []) mid (at + 1) → Wrote mid (at + 1) (layOutOrdered binders T first order 0 total) after r → Wrote before at (layOut binders (expr T n) key) after r
     laid-object {before} {mid} {after} {r} p l =
-        subst (λ (es : List Entry). Laid before at es after r) (sym entries-of)
-        (laid-append (laid-put (rw (by .total) at p)) (rw ordered-is at l))
+        subst (λ (es : List Entry). Wrote before at es after r) (sym entries-of)
+        (wrote-append (rw (by .total) at p) (rw ordered-is at l))

@@ -6,8 +6,7 @@ use mathlib.Core.Bool.{Bool, true, false, not, false≢true}
 use native.Mathlib.Omega.{arith}
 use borrow.Author.Tests.{leb-true, not-true, not-false}
 use lib.Dec.{eqb, leb}
-use lib.ListN.{length, getD, replicate, length-replicate}
-use lib.Seq.{length-sets}
+use lib.ListN.{length, getD, replicate}
 use Rattle.scope.specs.declared.Scope.{Scope}
 use Rattle.scope.specs.declared.ScopingMode.{ScopingMode}
 use Rattle.table.specs.declared.TableAnswer.{TableAnswer}
@@ -21,29 +20,30 @@ use Rattle.table.proofs.trees.Facts.{sound-table}
 use Rattle.planner.specs.declared.PlanAnswer.{PlanAnswer}
 use Rattle.planner.specs.declared.PlanAnswer.the-variants.{TableRefused, RootOutside}
 use Rattle.planner.specs.Plan.{DestructuringPlan}
-use Rattle.planner.specs.Layout.{Entry, entries, words}
+use Rattle.planner.specs.Layout.{entries}
 use Rattle.planner.specs.code.Passes.{unboundIn}
-use Rattle.planner.specs.Entries.{readEntries}
+use Rattle.planner.specs.Entries.{Wrote}
 use Rattle.planner.specs.Operations.{Outcome, refused, planned, answered, written, Answered, tableFirst, isSound, rootInside, planOf, patternPlanned}
-use Rattle.planner.specs.code.Post.{StatesOf, Laid, PlanAsks, PlannedBy, PatternAsks, PatternPlanned, GoodRoot, Delivered}
+use Rattle.planner.specs.code.Post.{StatesOf, PlanAsks, PlannedBy, PatternAsks, PatternPlanned, GoodRoot, Closed}
 use Rattle.planner.proofs.laws.Binders.{bound-agree-of}
 use Rattle.planner.proofs.laws.SamePlan.{states-wild, same-plan, same-after}
-use Rattle.planner.proofs.buffer.ReadBack.{read-laid, delivered-read}
+use Rattle.planner.proofs.buffer.Copies.{wrote-closed}
 
 -- a pattern under a scope
-module _ (T : Tables) (s : Scope) (mode : ScopingMode) (root : ℕ) {start : List ℕ} (a : PatternAsks T root start) where
+module _ (T : Tables) (s : Scope) (mode : ScopingMode) (root : ℕ) {start : List ℕ} (at : ℕ) (a : PatternAsks T root start at) where
   module _ {states : List ℕ} (of : StatesOf (T .names) (T .text) s mode states) where
-    pub ask-plan : PlanAsks T states root start
-    ask-plan = record { walks = record { table = a .table; states-ok = states-wild T s mode states of; node = a .node }; none-bound = a .none-bound }
+    pub ask-plan : PlanAsks T states root start at
+    ask-plan = record { walks = record { table = a .table; states-ok = states-wild T s mode states of; node = a .node }; none-bound = a .none-bound; low = a .low }
 
-    pub pattern-planned : {before binders later : List ℕ} {r : ℕ} → PlannedBy T states root before binders later r → PatternPlanned T s mode root before binders later r
+    pub pattern-planned : {before binders later : List ℕ} {r : ℕ} → PlannedBy T states root at before binders later r → PatternPlanned T s mode root at before binders later r
     pattern-planned {before} {binders} {later} {r} p = record {
       tracked = λ x v.
           ap (elem x) (sym (same-after T s mode states of (a .table) root (a .node) []))
           ∙ (bound-agree-of T (a .table) (unboundIn states) root (a .node) x (v .low) (v .high)
           ∙ ap (λ (bs : List ℕ). not (eqb (getD bs (x - 1) 0) 0)) (sym (p .bound)));
-      laid = subst (λ (q : DestructuringPlan). Laid before 0 (entries q 0) later r) (same-plan T s mode states of (a .table) root (a .node) []) (p .laid);
+      wrote = subst (λ (q : DestructuringPlan). Wrote before at (entries q 0) later r) (same-plan T s mode states of (a .table) root (a .node) []) (p .wrote);
       few = p .few;
+      space = p .space;
     }
 
 pub refuses : (a : PlanAnswer) {before later : List ℕ} → later ≡ replicate (length before) 0 → Answered (refused a) before later a
@@ -102,23 +102,10 @@ module _ (T : Tables) (s : Scope) {c : TableAnswer} (is : c ≡ checked T s) {ok
             let e : tableFirst (checked T s) (rootInside T root o) ≡ o = simp (q, n) in
             rw e p
 
--- entries in the scratch, read back and delivered
-scratch-read : (es : List Entry) {scratch : List ℕ} {count : ℕ} → count ≤ 512 → Laid (replicate 2048 0) 0 es scratch count → readEntries scratch 0 count ≡ es
-scratch-read es few l =
-    let long = ap length (l .stored) ∙ (length-sets (replicate 2048 0) 0 (words es) ∙ length-replicate {A = ℕ} 2048 0) in
-    read-laid l (omega arith)
+-- a pattern's plan in the lent buffer
+pub ask-pattern : (T : Tables) (root : ℕ) → GoodRoot T root → PatternAsks T root (replicate 128 0) 0
+ask-pattern T root g = record { table = g .table; node = g .node; none-bound = refl; low = omega arith }
 
-pub delivered : (form side : ℕ) (es : List Entry) {scratch before later : List ℕ} {count : ℕ} {r : PlanAnswer} → count ≤ 512 → Laid (replicate 2048 0) 0 es scratch count → Delivered scratch form side count before later r → Answered (planned form side es) before later r
-delivered form side es {scratch} {before} {later} {count} {r} few l d =
-    subst (λ (fs : List Entry). Answered (planned form side fs) before later r) (scratch-read es few l) (delivered-read form side d)
-
-pub read-plan : (T : Tables) (s : Scope) (mode : ScopingMode) (root : ℕ) {binders scratch : List ℕ} {count : ℕ} → PatternPlanned T s mode root (replicate 2048 0) binders scratch count → readEntries scratch 0 count ≡ entries (planOf T s mode root) 0
-read-plan T s mode root p = scratch-read (entries (planOf T s mode root) 0) (p .few) (p .laid)
-
--- a pattern's plan, delivered
-pub ask-pattern : (T : Tables) (root : ℕ) → GoodRoot T root → PatternAsks T root (replicate 128 0)
-ask-pattern T root g = record { table = g .table; node = g .node; none-bound = refl }
-
-pub pattern-delivered : (T : Tables) (s : Scope) (mode : ScopingMode) (root : ℕ) {binders scratch before later : List ℕ} {count : ℕ} {r : PlanAnswer}
-    → PatternPlanned T s mode root (replicate 2048 0) binders scratch count → Delivered scratch 0 0 count before later r → Answered (patternPlanned T s mode root) before later r
-pattern-delivered T s mode root p d = delivered 0 0 (entries (planOf T s mode root) 0) (p .few) (p .laid) d
+pub pattern-closed : (T : Tables) (s : Scope) (mode : ScopingMode) (root : ℕ) {binders before mid later : List ℕ} {count : ℕ} {r : PlanAnswer}
+    → PatternPlanned T s mode root 0 before binders mid count → Closed 0 count mid later r → Answered (patternPlanned T s mode root) before later r
+pattern-closed T s mode root p d = wrote-closed 0 (entries (planOf T s mode root) 0) (p .wrote) d

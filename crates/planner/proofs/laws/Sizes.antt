@@ -13,7 +13,7 @@ use Rattle.table.specs.Expr.{Expr, literal, name, wildcard, array, object, othe
 use Rattle.table.specs.Tables.{Tables}
 use Rattle.table.specs.Decode.{expr}
 use Rattle.table.specs.Sound.{Node, WellFormed}
-use Rattle.table.proofs.trees.Forest.{tree-few}
+use Rattle.table.proofs.trees.Forest.{forest, tree-few}
 use Rattle.planner.specs.Layout.{Entry, literalKey, Slot, placed, insert, FieldOrder, noFields, addField, heldIn, inOrder, concat}
 use Rattle.planner.specs.code.Passes.{layOut, layOutAll, layOutFields, orderFrom}
 
@@ -135,8 +135,16 @@ module _ (b : List ℕ) where
         let y = length-append (parts v) (partsFields fs) in
         omega arith
 
-pub lay-few-of : (T : Tables) → WellFormed T → (b : List ℕ) (n : ℕ) → Node T n → (key : ℕ) → length (layOut b (expr T n) key) ≤ 512
-lay-few-of T w b n v key =
-    let h = lay-few b (expr T n) key in
-    let f = tree-few T w n v in
-    omega arith
+module _ (T : Tables) (w : WellFormed T) (b : List ℕ) (n : ℕ) (v : Node T n) (key : ℕ) where
+  -- no more than the node's number
+  pub lay-space-of : length (layOut b (expr T n) key) ≤ n
+  lay-space-of =
+      let h = lay-few b (expr T n) key in
+      let f = forest T w n v .few in
+      omega arith
+
+  pub lay-few-of : length (layOut b (expr T n) key) ≤ 512
+  lay-few-of =
+      let h = lay-few b (expr T n) key in
+      let f = tree-few T w n v in
+      omega arith

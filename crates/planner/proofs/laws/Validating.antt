@@ -31,12 +31,13 @@ use Rattle.planner.specs.Plan.{after}
 use Rattle.planner.specs.Parameters.{Occurrence, occurrences, occurrencesAll, occurrencesFields, firstNode, alreadyDefined}
 use Rattle.planner.specs.Operations.{isReserved, reserved, validated, parameterCheck, parameterPlanned, patternPlanned, answered, written, Answered}
 use Rattle.planner.specs.code.Passes.{binderOf, unboundMark}
-use Rattle.planner.specs.code.Post.{Walks, WalksChildren, GoodRoot, PatternPlanned, Delivered}
+use Rattle.planner.specs.code.Post.{Walks, WalksChildren, GoodRoot, PatternPlanned, Closed}
 use Rattle.planner.specs.code.Validation.{definedMark, definedState, DefinedBy, markedIn, occurrencesFrom, definedIn, firstDefined, parameterDefined}
 use Rattle.planner.proofs.laws.Binders.{AllNames, AllNamesAll, AllNamesFields, names-all}
 use Rattle.planner.proofs.destructuring.Walking.{walk-fits, walk-on, walk-child, walk-below}
 use Rattle.planner.proofs.buffer.Filling.{Filling}
-use Rattle.planner.proofs.laws.Operations.{pattern-delivered}
+use Rattle.planner.proofs.laws.Operations.{pattern-closed}
+use Rattle.planner.proofs.buffer.Copies.{wrote-long}
 
 -- one name's state
 module _ (binder : ℕ) (u : Bool) where
@@ -329,8 +330,8 @@ module _ (T : Tables) (s : Scope) {mode : ScopingMode} (binders : List ℕ) (roo
   pub parameter-shadows : {r : ℕ} → mode ≡ AllowShadowing → r ≡ firstDefined T s binders root → r ≡ parameterDefined T s mode binders root
   parameter-shadows m e = simp m e
 
--- a pattern that is validated; a parameter, refused or planned
-module _ (T : Tables) (s : Scope) (mode : ScopingMode) (root : ℕ) (g : GoodRoot T root) {binders scratch : List ℕ} {count : ℕ} (p : PatternPlanned T s mode root (replicate 2048 0) binders scratch count) where
+-- a pattern that is validated
+module _ (T : Tables) (s : Scope) (mode : ScopingMode) (root : ℕ) (g : GoodRoot T root) {at : ℕ} {before binders mid : List ℕ} {count : ℕ} (p : PatternPlanned T s mode root at before binders mid count) where
   defined-same : (x : ℕ) → Named T x → isWildcard T x ≡ false → definedIn T s binders x ≡ alreadyDefined (reserved T) (isUnbound s RespectParent) (after (isUnbound s mode) (expr T root) []) x
   defined-same x v named =
       let l = v .low in
@@ -356,16 +357,18 @@ module _ (T : Tables) (s : Scope) (mode : ScopingMode) (root : ℕ) (g : GoodRoo
       go RespectParent e = simp e
       go AllowShadowing e = simp e (subst (λ (m : ScopingMode). firstDefined T s binders root ≡ validated T s m root) e validated-by)
 
-  module _ {x : ℕ} (is : x ≡ parameterDefined T s mode binders root) {before later : List ℕ} where
-    pub parameter-refused : (x ≡ 0 → ⊥) → later ≡ replicate (length before) 0 → Answered (parameterPlanned T s mode root) before later (VariableAlreadyDefined x)
-    unfolding answered written
-    parameter-refused some e =
-        let c : parameterCheck T s mode root ≡ x = sym (is ∙ parameter-checked) in
-        let z = ne-eqb x 0 some in
-        record { answer = simp (c, z); buffer = simp (c, z) e }
+-- a parameter, refused or planned
+module _ (T : Tables) (s : Scope) (mode : ScopingMode) (root : ℕ) (g : GoodRoot T root) {before binders mid later : List ℕ} {count : ℕ} (p : PatternPlanned T s mode root 0 before binders mid count) {x : ℕ} (is : x ≡ parameterDefined T s mode binders root) where
+  pub parameter-refused : (x ≡ 0 → ⊥) → later ≡ replicate (length mid) 0 → Answered (parameterPlanned T s mode root) before later (VariableAlreadyDefined x)
+  unfolding answered written
+  parameter-refused some e =
+      let c : parameterCheck T s mode root ≡ x = sym (is ∙ parameter-checked T s mode root g p) in
+      let z = ne-eqb x 0 some in
+      let long = wrote-long (p .wrote) in
+      record { answer = simp (c, z); buffer = simp (c, z) (rw long at e) }
 
-    pub parameter-delivered : {r : PlanAnswer} → x ≡ 0 → Delivered scratch 0 0 count before later r → Answered (parameterPlanned T s mode root) before later r
-    parameter-delivered {r} none-defined d =
-        let c : parameterCheck T s mode root ≡ 0 = sym (is ∙ parameter-checked) ∙ none-defined in
-        let e : parameterPlanned T s mode root ≡ patternPlanned T s mode root = simp c in
-        rw e (pattern-delivered T s mode root p d)
+  pub parameter-closed : {r : PlanAnswer} → x ≡ 0 → Closed 0 count mid later r → Answered (parameterPlanned T s mode root) before later r
+  parameter-closed {r} none-defined d =
+      let c : parameterCheck T s mode root ≡ 0 = sym (is ∙ parameter-checked T s mode root g p) ∙ none-defined in
+      let e : parameterPlanned T s mode root ≡ patternPlanned T s mode root = simp c in
+      rw e (pattern-closed T s mode root p d)

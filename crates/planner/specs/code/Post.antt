@@ -13,6 +13,7 @@ use Rattle.scope.specs.declared.ScopingMode.{ScopingMode}
 use Rattle.scope.specs.Scope.{isUnbound}
 use Rattle.table.specs.Decode.{isWildcard, expr}
 use Rattle.planner.specs.Layout.{Entry, entries, words, inOrder}
+use Rattle.planner.specs.Entries.{Wrote}
 use Rattle.planner.specs.code.Passes.{layOut, layOutItems, layOutOrdered, keyNode, valueNode, orderOf, stateBy, bindersOf, unboundIn}
 use Rattle.planner.specs.Plan.{plan}
 use Rattle.planner.specs.Plan as Plan
@@ -42,19 +43,14 @@ pub record WalksChildren (T : Tables) (states : List ℕ) (parent at step left :
   pub each : (i : ℕ) → i < left → Node T (childAt (T .children) (at + i * step)) × (childAt (T .children) (at + i * step) < parent)
   pub small : at + left * step < 2 ^ 40
 
--- The scratch holds 512 entries.
-
--- entries stand in the scratch from place `at` on, and r is the place after them
+-- entries stand in a scratch from place `at` on, and r is the place after them
 pub record Laid (before : List ℕ) (at : ℕ) (es : List Entry) (after : List ℕ) (r : ℕ) : Type 0 where
   pub end : r ≡ at + length es
   pub stored : after ≡ sets before (at * 4) (words es)
 
-abbrev pub PutAt : List ℕ → ℕ → Entry → List ℕ → Type 0
-PutAt before at e after = after ≡ sets before (at * 4) (words (e ∷ []))
-
 pub record LayAsks (T : Tables) (states binders : List ℕ) (n key at : ℕ) : Type 0 where
   pub walks : Walks T states n
-  pub room : at + length (layOut binders (expr T n) key) ≤ 512
+  pub room : at + length (layOut binders (expr T n) key) ≤ 2 ^ 41
 
 pub record LayObjectAsks (T : Tables) (states binders : List ℕ) (n key at : ℕ) : Type 0 where
   pub asks : LayAsks T states binders n key at
@@ -62,7 +58,7 @@ pub record LayObjectAsks (T : Tables) (states binders : List ℕ) (n key at : �
 
 pub record LayItemsAsks (T : Tables) (states binders : List ℕ) (parent from left at : ℕ) : Type 0 where
   pub walks : WalksChildren T states parent from 1 left
-  pub room : at + length (layOutItems binders T from left) ≤ 512
+  pub room : at + length (layOutItems binders T from left) ≤ 2 ^ 41
 
 -- an object whose fields are to be put in order
 pub record OrderAsks (T : Tables) (first size : ℕ) : Type 0 where
@@ -81,41 +77,38 @@ pub record LayOrderedAsks (T : Tables) (states binders : List ℕ) (parent first
   pub states-ok : States T states
   pub few : total ≤ 256
   pub each : (q : ℕ) → q < total → (first + getD order q 0 * 2 + 1 < 2 ^ 32) × Node T (valueNode T first (getD order q 0)) × (valueNode T first (getD order q 0) < parent)
-  pub room : at + length (layOutOrdered binders T first order 0 total) ≤ 512
+  pub room : at + length (layOutOrdered binders T first order 0 total) ≤ 2 ^ 41
 
 -- the states of all names of a table
 pub record StatesOf (names text : List ℕ) (s : Scope) (mode : ScopingMode) (states : List ℕ) : Type 0 where
   pub long : length states ≡ 128
   pub each : (x : ℕ) → 1 ≤ x → x ≤ length names / 2 → getD states (x - 1) 0 ≡ stateBy (classOf (nameBytes names text x)) (isUnbound s mode x)
 
--- a pattern to be planned from no names
-pub record PlanAsks (T : Tables) (states : List ℕ) (root : ℕ) (binders : List ℕ) : Type 0 where
+-- a pattern to be planned from no names, its entries from place `at` on
+pub record PlanAsks (T : Tables) (states : List ℕ) (root : ℕ) (binders : List ℕ) (at : ℕ) : Type 0 where
   pub walks : Walks T states root
   pub none-bound : binders ≡ replicate 128 0
+  pub low : at ≤ 2 ^ 40
 
--- its binders, and its plan's entries first in the scratch
-pub record PlannedBy (T : Tables) (states : List ℕ) (root : ℕ) (before binders after : List ℕ) (r : ℕ) : Type 0 where
+-- its binders, and its plan's entries
+pub record PlannedBy (T : Tables) (states : List ℕ) (root at : ℕ) (before binders after : List ℕ) (r : ℕ) : Type 0 where
   pub bound : binders ≡ bindersOf (unboundIn states) (expr T root) (replicate 128 0)
-  pub laid : Laid before 0 (entries (plan (unboundIn states) (expr T root) []) 0) after r
-  pub few : r ≤ 512
+  pub wrote : Wrote before at (entries (plan (unboundIn states) (expr T root) []) 0) after r
+  pub few : r ≤ at + 512
+  pub space : r ≤ at + root
 
--- the first words of a scratch, copied into a buffer
-pub record Copied (scratch : List ℕ) (words : ℕ) (before after : List ℕ) : Type 0 where
-  pub long : length after ≡ length before
-  pub each : (i : ℕ) → i < words → getD after i 0 ≡ getD scratch i 0
-
--- word i of a buffer that holds the first words of a scratch
+-- word i of a buffer of which the first words are kept
 abbrev pub wordAt : List ℕ → ℕ → ℕ → ℕ
-wordAt scratch size i = cond (ltb i size) (getD scratch i 0) 0
+wordAt before size i = cond (ltb i size) (getD before i 0) 0
 
 unfoldable pub tabulate : (ℕ → ℕ) → ℕ → ℕ → List ℕ
 tabulate f i zero = []
 tabulate f i (suc k) = f i ∷ tabulate f (i + 1) k
 
--- the first entries of a scratch in the buffer, if it has space for them
-pub record Delivered (scratch : List ℕ) (form side count : ℕ) (before after : List ℕ) (r : PlanAnswer) : Type 0 where
-  pub answer : r ≡ cond (leb count (length before / 4)) (Planned form side count) (PlanTooLarge count)
-  pub buffer : after ≡ cond (leb count (length before / 4)) (tabulate (wordAt scratch (count * 4)) 0 (length before)) (replicate (length before) 0)
+-- as many entries of a buffer, if it has space for them, and zeros behind them
+pub record Closed (form count : ℕ) (before after : List ℕ) (r : PlanAnswer) : Type 0 where
+  pub answer : r ≡ cond (leb count (length before / 4)) (Planned form 0 count) (PlanTooLarge count)
+  pub buffer : after ≡ cond (leb count (length before / 4)) (tabulate (wordAt before (count * 4)) 0 (length before)) (replicate (length before) 0)
 
 -- a root in a good table
 pub record GoodRoot (T : Tables) (root : ℕ) : Type 0 where
@@ -123,13 +116,15 @@ pub record GoodRoot (T : Tables) (root : ℕ) : Type 0 where
   pub node : Node T root
 
 -- a pattern of a good table, with no name bound yet
-pub record PatternAsks (T : Tables) (root : ℕ) (binders : List ℕ) : Type 0 where
+pub record PatternAsks (T : Tables) (root : ℕ) (binders : List ℕ) (at : ℕ) : Type 0 where
   pub table : WellFormed T
   pub node : Node T root
   pub none-bound : binders ≡ replicate 128 0
+  pub low : at ≤ 2 ^ 40
 
--- the names that its plan tracks, and its plan's entries first in the scratch
-pub record PatternPlanned (T : Tables) (s : Scope) (mode : ScopingMode) (root : ℕ) (before binders after : List ℕ) (r : ℕ) : Type 0 where
+-- the names that its plan tracks, and its plan's entries, no more than its root's number
+pub record PatternPlanned (T : Tables) (s : Scope) (mode : ScopingMode) (root at : ℕ) (before binders after : List ℕ) (r : ℕ) : Type 0 where
   pub tracked : (x : ℕ) → NameNumber x → elem x (Plan.after (isUnbound s mode) (expr T root) []) ≡ not (eqb (getD binders (x - 1) 0) 0)
-  pub laid : Laid before 0 (entries (plan (isUnbound s mode) (expr T root) []) 0) after r
-  pub few : r ≤ 512
+  pub wrote : Wrote before at (entries (plan (isUnbound s mode) (expr T root) []) 0) after r
+  pub few : r ≤ at + 512
+  pub space : r ≤ at + root

@@ -1,4 +1,4 @@
-use Rattle.planner.proofs.buffer.Filling.{deliver-small, deliver-fits}
+use Rattle.planner.proofs.buffer.Filling.{closed-small, closed-fits}
 use borrow.Author.Needs.{needs}
 use Rattle.planner.proofs.buffer.close.Statement.{statement}
 use Rattle.planner.proofs.buffer.close.Tie as tie
@@ -17,7 +17,7 @@ same-length c = search needs
 
 -- src/pairs.rt:106:9
 returns : tie.Need-returns
-returns c = search (deliver-small, needs)
+returns c = search (closed-small, needs)
 
 -- src/pairs.rt:108:23
 mul-clear-after : tie.Need-mul-clear-after
@@ -33,7 +33,7 @@ same-length-2 c = search needs
 
 -- src/pairs.rt:101:1
 returns-2 : tie.Need-returns-2
-returns-2 c = search (deliver-fits, needs)
+returns-2 c = search (closed-fits, needs)
 
 pub close-spec : {M : Type 1} → statement M
 close-spec =

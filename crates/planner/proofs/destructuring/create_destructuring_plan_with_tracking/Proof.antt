@@ -17,10 +17,14 @@ decide-requires c κs = search needs
 lay-out-requires : tie.Need-lay-out-requires
 lay-out-requires c κs = search (tracked-room, needs)
 
+-- src
+same-length : tie.Need-same-length
+same-length c = search needs
+
 -- src/destructuring.rt:85:1
 returns : tie.Need-returns
 returns c = search (tracked, needs)
 
 pub create-destructuring-plan-with-tracking-spec : {M : Type 1} → statement M
 create-destructuring-plan-with-tracking-spec =
-    tie.close (tie.spec decide-requires lay-out-requires returns)
+    tie.close (tie.spec decide-requires lay-out-requires same-length returns)

@@ -16,6 +16,10 @@ create-destructuring-plan-with-tracking-requires :
     tie.Need-create-destructuring-plan-with-tracking-requires
 create-destructuring-plan-with-tracking-requires c κs = search (ask-plan, needs)
 
+-- src
+same-length : tie.Need-same-length
+same-length c = search needs
+
 -- src/destructuring.rt:115:1
 returns : tie.Need-returns
 returns c = search (pattern-planned, needs)
@@ -23,4 +27,4 @@ returns c = search (pattern-planned, needs)
 pub plan-pattern-spec : {M : Type 1} → statement M
 plan-pattern-spec =
     tie.close
-    (tie.spec name-states-requires create-destructuring-plan-with-tracking-requires returns)
+    (tie.spec name-states-requires create-destructuring-plan-with-tracking-requires same-length returns)

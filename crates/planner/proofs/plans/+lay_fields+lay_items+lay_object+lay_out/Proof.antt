@@ -1,6 +1,6 @@
 use Prim.Native.Nat.{_-_, _*_}
 use Rattle.table.specs.Tables.{tables}
-use Rattle.planner.proofs.destructuring.SecondPass.{put-room, ask-object, ask-name, laid-name, ask-items, laid-array, laid-plain, LayingItems, laying-start, laying-child, laying-below, laying-on, laying-fits, laying-ends, LayingFields, ordering-start, ordering-inside, ordering-place, ordering-key, ordering-value, ordering-child, ordering-below, ordering-on, ordering-ends, object-falls, items-fall, fields-fall, child-falls}
+use Rattle.planner.proofs.destructuring.SecondPass.{next-fits, object-next-fits, ask-object, ask-name, laid-name, ask-items, laid-array, laid-plain, LayingItems, laying-start, laying-child, laying-below, laying-on, laying-long, laying-fits, laying-ends, LayingFields, ordering-start, ordering-long, ordering-inside, ordering-place, ordering-key, ordering-value, ordering-child, ordering-below, ordering-on, ordering-ends, object-falls, items-fall, fields-fall, child-falls}
 use Rattle.planner.proofs.fields.Objects.{ask-order, ask-ordered, laid-object}
 use borrow.Author.Needs.{needs}
 use Prim.Native.Nat.{ℕ, _<_}
@@ -18,11 +18,11 @@ use Rattle.planner.proofs.plans.+lay_fields+lay_items+lay_object+lay_ou
 use Rattle.planner.proofs.plans.lay_out.Reads as lay-out
 use Rattle.planner.proofs.plans.lay_out.Kinds as lay-out-kinds
 use Rattle.planner.proofs.plans.+lay_fields+lay_items+lay_object+lay_out.Lts-lay_out as lay-out-lts
+use Rattle.planner.proofs.buffer.put_entry.Reads as put-entry-reads
 use Rattle.planner.proofs.fields.field_at.Reads as field-at-reads
 use Rattle.planner.proofs.fields.order_fields.Reads as order-fields-reads
 use Rattle.planner.proofs.plans.leaf_kind.Reads as leaf-kind-reads
 use Rattle.planner.proofs.plans.name_kind.Reads as name-kind-reads
-use Rattle.planner.proofs.plans.put.Reads as put-reads
 use Rattle.table.proofs.reading.child_at.Reads as child-at-reads
 use Rattle.table.proofs.reading.count_of.Reads as count-of-reads
 use Rattle.table.proofs.reading.first_of.Reads as first-of-reads
@@ -78,10 +78,10 @@ abbrev lay-items-calls : ℕ → lay-items-lts.Claims
 lay-items-calls t = (child-at-reads.Asked, child-at-reads.Learnt, lay-out-below t, lay-out.Post)
 
 abbrev lay-object-calls : ℕ → lay-object-lts.Claims
-lay-object-calls t = (first-of-reads.Asked, first-of-reads.Learnt, count-of-reads.Asked, count-of-reads.Learnt, order-fields-reads.Asked, order-fields-reads.Learnt, put-reads.Asked, put-reads.Learnt, lay-fields-below t, lay-fields.Post)
+lay-object-calls t = (first-of-reads.Asked, first-of-reads.Learnt, count-of-reads.Asked, count-of-reads.Learnt, order-fields-reads.Asked, order-fields-reads.Learnt, put-entry-reads.Asked, put-entry-reads.Learnt, lay-fields-below t, lay-fields.Post)
 
 abbrev lay-out-calls : ℕ → lay-out-lts.Claims
-lay-out-calls t = (kind-of-reads.Asked, kind-of-reads.Learnt, first-of-reads.Asked, first-of-reads.Learnt, name-kind-reads.Asked, name-kind-reads.Learnt, put-reads.Asked, put-reads.Learnt, count-of-reads.Asked, count-of-reads.Learnt, lay-items-below t, lay-items.Post, lay-object-below t, lay-object.Post, leaf-kind-reads.Asked, leaf-kind-reads.Learnt)
+lay-out-calls t = (kind-of-reads.Asked, kind-of-reads.Learnt, first-of-reads.Asked, first-of-reads.Learnt, name-kind-reads.Asked, name-kind-reads.Learnt, put-entry-reads.Asked, put-entry-reads.Learnt, count-of-reads.Asked, count-of-reads.Learnt, lay-items-below t, lay-items.Post, lay-object-below t, lay-object.Post, leaf-kind-reads.Asked, leaf-kind-reads.Learnt)
 
 abbrev lay-fields-Inv-loop : lay-fields-lts.InvT-loop
 lay-fields-Inv-loop nodes children numbers names strings text states binders parent first order total plan₀ at q₀ here₀ plan q here = LayingFields (tables nodes children numbers names strings text) states binders parent first order total plan₀ at q plan here
@@ -89,51 +89,63 @@ lay-fields-Inv-loop nodes children numbers names strings text states binders par
 abbrev lay-fields-μ-loop : lay-fields-lts.MeasureT-loop
 lay-fields-μ-loop nodes children numbers names strings text states binders parent first order total plan₀ at q₀ here₀ plan q here = total - q
 
--- src/plans.rt:168:5
+-- src/plans.rt:221:5
 lay-fields-loop-holds : (t : ℕ) → lay-fields-lts.Need-loop-holds (lay-fields-calls t) (lay-fields-at t) lay-fields.Post lay-fields-Inv-loop lay-fields-μ-loop
 lay-fields-loop-holds t c = search (ordering-start, needs)
 
--- src/plans.rt:169:29
+-- src/plans.rt:222:29
 lay-fields-field-at-requires : (t : ℕ) → lay-fields-lts.Need-field-at-requires (lay-fields-calls t) (lay-fields-at t) lay-fields.Post lay-fields-Inv-loop lay-fields-μ-loop
 lay-fields-field-at-requires t c κs = search (ordering-inside, needs)
 
--- src/plans.rt:169:29
+-- src/plans.rt:222:29
 lay-fields-mul-place : (t : ℕ) → lay-fields-lts.Need-mul-place (lay-fields-calls t) (lay-fields-at t) lay-fields.Post lay-fields-Inv-loop lay-fields-μ-loop
 lay-fields-mul-place t c = search (ordering-place, needs)
 
--- src/plans.rt:169:21
+-- src/plans.rt:222:21
 lay-fields-add-place : (t : ℕ) → lay-fields-lts.Need-add-place (lay-fields-calls t) (lay-fields-at t) lay-fields.Post lay-fields-Inv-loop lay-fields-μ-loop
 lay-fields-add-place t c = search (ordering-key, needs)
 
--- src/plans.rt:170:13
+-- src/plans.rt:223:13
 lay-fields-child-at-requires : (t : ℕ) → lay-fields-lts.Need-child-at-requires (lay-fields-calls t) (lay-fields-at t) lay-fields.Post lay-fields-Inv-loop lay-fields-μ-loop
 lay-fields-child-at-requires t c κs = search needs
 
--- src/plans.rt:171:40
+-- src/plans.rt:224:40
 lay-fields-add-child-at : (t : ℕ) → lay-fields-lts.Need-add-child-at (lay-fields-calls t) (lay-fields-at t) lay-fields.Post lay-fields-Inv-loop lay-fields-μ-loop
 lay-fields-add-child-at t c = search (ordering-value, needs)
 
--- src/plans.rt:171:13
+-- src/plans.rt:224:13
 lay-fields-child-at-requires-2 : (t : ℕ) → lay-fields-lts.Need-child-at-requires-2 (lay-fields-calls t) (lay-fields-at t) lay-fields.Post lay-fields-Inv-loop lay-fields-μ-loop
 lay-fields-child-at-requires-2 t c κs = search needs
 
--- src/plans.rt:172:9
+-- src/plans.rt:225:9
 lay-fields-lay-out-requires : (t : ℕ) → lay-fields-lts.Need-lay-out-requires (lay-fields-calls t) (lay-fields-at t) lay-fields.Post lay-fields-Inv-loop lay-fields-μ-loop
-lay-fields-lay-out-requires t c κs = (search (child-falls, ordering-below, needs), search (ordering-child, needs))
+lay-fields-lay-out-requires t c κs =
+    let s = c .before .before .before .before .before in
+    let lt = c .before .before .before .before .loop-test .taken in
+    let i = c .before .before .before .field-at .ensures in
+    let k = c .before .before .child-at .ensures in
+    let v = c .before .child-at2 .ensures in
+    (child-falls (ordering-below (s .loop .inv) lt i k v) (s .before .before .before .before .before .before .before .before .pre .0), ordering-child (s .loop .inv) lt i k v)
 
--- src/plans.rt:173:9
+-- src/plans.rt:239:9
 lay-fields-add-q : (t : ℕ) → lay-fields-lts.Need-add-q (lay-fields-calls t) (lay-fields-at t) lay-fields.Post lay-fields-Inv-loop lay-fields-μ-loop
 lay-fields-add-q t c = search needs
 
--- src/plans.rt:168:5
+-- src/plans.rt:221:5
 lay-fields-loop-less : (t : ℕ) → lay-fields-lts.Need-loop-less (lay-fields-calls t) (lay-fields-at t) lay-fields.Post lay-fields-Inv-loop lay-fields-μ-loop
 lay-fields-loop-less t c = search needs
 
--- src/plans.rt:168:5
+-- src/plans.rt:221:5
 lay-fields-loop-again : (t : ℕ) → lay-fields-lts.Need-loop-again (lay-fields-calls t) (lay-fields-at t) lay-fields.Post lay-fields-Inv-loop lay-fields-μ-loop
-lay-fields-loop-again t c = search (ordering-on, needs)
+lay-fields-loop-again t c =
+    let s = c .before .before .before .before .before .before .before .before in
+    ordering-on (s .loop .inv) (c .before .before .before .before .before .before .before .loop-test .taken) (c .before .before .before .before .before .before .field-at .ensures) (c .before .before .before .before .before .child-at .ensures) (c .before .before .before .before .child-at2 .ensures) (c .before .before .lay-out .ensures)
 
--- src/plans.rt:147:1
+-- src/plans.rt:200:1
+lay-fields-same-length : (t : ℕ) → lay-fields-lts.Need-same-length (lay-fields-calls t) (lay-fields-at t) lay-fields.Post lay-fields-Inv-loop lay-fields-μ-loop
+lay-fields-same-length t c = search (ordering-long, needs)
+
+-- src/plans.rt:200:1
 lay-fields-returns : (t : ℕ) → lay-fields-lts.Need-returns (lay-fields-calls t) (lay-fields-at t) lay-fields.Post lay-fields-Inv-loop lay-fields-μ-loop
 lay-fields-returns t c = search (ordering-ends, needs)
 
@@ -143,151 +155,175 @@ lay-items-Inv-loop nodes children numbers names strings text states binders pare
 abbrev lay-items-μ-loop : lay-items-lts.MeasureT-loop
 lay-items-μ-loop nodes children numbers names strings text states binders parent from left plan₀ at place₀ more₀ here₀ plan place more here = more
 
--- src/plans.rt:112:5
+-- src/plans.rt:127:5
 lay-items-loop-holds : (t : ℕ) → lay-items-lts.Need-loop-holds (lay-items-calls t) (lay-items-at t) lay-items.Post lay-items-Inv-loop lay-items-μ-loop
 lay-items-loop-holds t c = search (laying-start, needs)
 
--- src/plans.rt:113:13
+-- src/plans.rt:128:13
 lay-items-child-at-requires : (t : ℕ) → lay-items-lts.Need-child-at-requires (lay-items-calls t) (lay-items-at t) lay-items.Post lay-items-Inv-loop lay-items-μ-loop
 lay-items-child-at-requires t c κs = search needs
 
--- src/plans.rt:114:9
+-- src/plans.rt:129:9
 lay-items-lay-out-requires : (t : ℕ) → lay-items-lts.Need-lay-out-requires (lay-items-calls t) (lay-items-at t) lay-items.Post lay-items-Inv-loop lay-items-μ-loop
 lay-items-lay-out-requires t c κs = (search (child-falls, laying-below, needs), search (laying-child, needs))
 
--- src/plans.rt:115:9
+-- src/plans.rt:143:9
 lay-items-add-place : (t : ℕ) → lay-items-lts.Need-add-place (lay-items-calls t) (lay-items-at t) lay-items.Post lay-items-Inv-loop lay-items-μ-loop
 lay-items-add-place t c = search (laying-fits, needs)
 
--- src/plans.rt:116:9
+-- src/plans.rt:144:9
 lay-items-sub-more : (t : ℕ) → lay-items-lts.Need-sub-more (lay-items-calls t) (lay-items-at t) lay-items.Post lay-items-Inv-loop lay-items-μ-loop
 lay-items-sub-more t c = search needs
 
--- src/plans.rt:112:5
+-- src/plans.rt:127:5
 lay-items-loop-less : (t : ℕ) → lay-items-lts.Need-loop-less (lay-items-calls t) (lay-items-at t) lay-items.Post lay-items-Inv-loop lay-items-μ-loop
 lay-items-loop-less t c = search needs
 
--- src/plans.rt:112:5
+-- src/plans.rt:127:5
 lay-items-loop-again : (t : ℕ) → lay-items-lts.Need-loop-again (lay-items-calls t) (lay-items-at t) lay-items.Post lay-items-Inv-loop lay-items-μ-loop
 lay-items-loop-again t c = search (laying-on, needs)
 
--- src/plans.rt:91:1
+-- src/plans.rt:106:1
+lay-items-same-length : (t : ℕ) → lay-items-lts.Need-same-length (lay-items-calls t) (lay-items-at t) lay-items.Post lay-items-Inv-loop lay-items-μ-loop
+lay-items-same-length t c = search (laying-long, needs)
+
+-- src/plans.rt:106:1
 lay-items-returns : (t : ℕ) → lay-items-lts.Need-returns (lay-items-calls t) (lay-items-at t) lay-items.Post lay-items-Inv-loop lay-items-μ-loop
 lay-items-returns t c = search (laying-ends, needs)
 
--- src/plans.rt:138:17
+-- src/plans.rt:166:17
 lay-object-first-of-requires : (t : ℕ) → lay-object-lts.Need-first-of-requires (lay-object-calls t) (lay-object-at t) lay-object.Post
 lay-object-first-of-requires t c κs = search needs
 
--- src/plans.rt:138:17
+-- src/plans.rt:166:17
 lay-object-cast-first : (t : ℕ) → lay-object-lts.Need-cast-first (lay-object-calls t) (lay-object-at t) lay-object.Post
 lay-object-cast-first t c = search needs
 
--- src/plans.rt:139:17
+-- src/plans.rt:167:17
 lay-object-count-of-requires : (t : ℕ) → lay-object-lts.Need-count-of-requires (lay-object-calls t) (lay-object-at t) lay-object.Post
 lay-object-count-of-requires t c κs = search needs
 
--- src/plans.rt:139:17
+-- src/plans.rt:167:17
 lay-object-cast-count : (t : ℕ) → lay-object-lts.Need-cast-count (lay-object-calls t) (lay-object-at t) lay-object.Post
 lay-object-cast-count t c = search needs
 
--- src/plans.rt:141:9
+-- src/plans.rt:169:9
 lay-object-order-fields-requires : (t : ℕ) → lay-object-lts.Need-order-fields-requires (lay-object-calls t) (lay-object-at t) lay-object.Post
 lay-object-order-fields-requires t c κs = search (ask-order, needs)
 
--- src/plans.rt:142:5
-lay-object-put-requires : (t : ℕ) → lay-object-lts.Need-put-requires (lay-object-calls t) (lay-object-at t) lay-object.Post
-lay-object-put-requires t c κs = search (put-room, needs)
+-- src/plans.rt:180:5
+lay-object-put-entry-requires : (t : ℕ) → lay-object-lts.Need-put-entry-requires (lay-object-calls t) (lay-object-at t) lay-object.Post
+lay-object-put-entry-requires t c κs = search needs
 
--- src/plans.rt:143:102
+-- src/plans.rt:193:9
 lay-object-cast-lay-fields : (t : ℕ) → lay-object-lts.Need-cast-lay-fields (lay-object-calls t) (lay-object-at t) lay-object.Post
 lay-object-cast-lay-fields t c = search needs
 
--- src/plans.rt:143:124
+-- src/plans.rt:195:9
 lay-object-add-lay-fields : (t : ℕ) → lay-object-lts.Need-add-lay-fields (lay-object-calls t) (lay-object-at t) lay-object.Post
-lay-object-add-lay-fields t c = search needs
+lay-object-add-lay-fields t c = search (object-next-fits, needs)
 
--- src/plans.rt:143:5
+-- src/plans.rt:181:5
 lay-object-lay-fields-requires : (t : ℕ) → lay-object-lts.Need-lay-fields-requires (lay-object-calls t) (lay-object-at t) lay-object.Post
 lay-object-lay-fields-requires t c κs = (search (fields-fall, needs), search (ask-ordered, needs))
 
--- src/plans.rt:121:1
-lay-object-returns : (t : ℕ) → lay-object-lts.Need-returns (lay-object-calls t) (lay-object-at t) lay-object.Post
-lay-object-returns t c = search (laid-object, needs)
+-- src/plans.rt:149:1
+lay-object-same-length : (t : ℕ) → lay-object-lts.Need-same-length (lay-object-calls t) (lay-object-at t) lay-object.Post
+lay-object-same-length t c = search needs
 
--- src/plans.rt:71:9
+-- src/plans.rt:149:1
+lay-object-returns : (t : ℕ) → lay-object-lts.Need-returns (lay-object-calls t) (lay-object-at t) lay-object.Post
+lay-object-returns t c = search (laid-object, c .before .before .before .before .before .before .before .before .before .before .before .before .before .before .before .before .before .before .before .before .pre .1, needs)
+
+-- src/plans.rt:59:9
 lay-out-kind-of-requires : (t : ℕ) → lay-out-lts.Need-kind-of-requires (lay-out-calls t) (lay-out-at t) lay-out.Post
 lay-out-kind-of-requires t c κs = search needs
 
--- src/plans.rt:72:9
+-- src/plans.rt:60:9
 lay-out-first-of-requires : (t : ℕ) → lay-out-lts.Need-first-of-requires (lay-out-calls t) (lay-out-at t) lay-out.Post
 lay-out-first-of-requires t c κs = search needs
 
--- src/plans.rt:74:13
+-- src/plans.rt:62:13
 lay-out-name-kind-requires : (t : ℕ) → lay-out-lts.Need-name-kind-requires (lay-out-calls t) (lay-out-at t) lay-out.Post
 lay-out-name-kind-requires t c κs = search (ask-name, needs)
 
--- src/plans.rt:75:9
-lay-out-put-requires : (t : ℕ) → lay-out-lts.Need-put-requires (lay-out-calls t) (lay-out-at t) lay-out.Post
-lay-out-put-requires t c κs = search (put-room, needs)
+-- src/plans.rt:63:9
+lay-out-put-entry-requires : (t : ℕ) → lay-out-lts.Need-put-entry-requires (lay-out-calls t) (lay-out-at t) lay-out.Post
+lay-out-put-entry-requires t c κs = search needs
 
--- src/plans.rt:76:16
+-- src/plans.rt:64:16
 lay-out-add-result : (t : ℕ) → lay-out-lts.Need-add-result (lay-out-calls t) (lay-out-at t) lay-out.Post
-lay-out-add-result t c = search needs
+lay-out-add-result t c = search (next-fits, needs)
 
--- src/plans.rt:76:9
+-- src/plans.rt:64:9
+lay-out-same-length : (t : ℕ) → lay-out-lts.Need-same-length (lay-out-calls t) (lay-out-at t) lay-out.Post
+lay-out-same-length t c = search needs
+
+-- src/plans.rt:64:9
 lay-out-returns : (t : ℕ) → lay-out-lts.Need-returns (lay-out-calls t) (lay-out-at t) lay-out.Post
 lay-out-returns t c = search (laid-name, needs)
 
--- src/plans.rt:79:13
+-- src/plans.rt:67:13
 lay-out-count-of-requires : (t : ℕ) → lay-out-lts.Need-count-of-requires (lay-out-calls t) (lay-out-at t) lay-out.Post
 lay-out-count-of-requires t c κs = search needs
 
--- src/plans.rt:80:9
-lay-out-put-requires-2 : (t : ℕ) → lay-out-lts.Need-put-requires-2 (lay-out-calls t) (lay-out-at t) lay-out.Post
-lay-out-put-requires-2 t c κs = search (put-room, needs)
+-- src/plans.rt:68:9
+lay-out-put-entry-requires-2 : (t : ℕ) → lay-out-lts.Need-put-entry-requires-2 (lay-out-calls t) (lay-out-at t) lay-out.Post
+lay-out-put-entry-requires-2 t c κs = search needs
 
--- src/plans.rt:81:97
+-- src/plans.rt:79:13
 lay-out-cast-lay-items : (t : ℕ) → lay-out-lts.Need-cast-lay-items (lay-out-calls t) (lay-out-at t) lay-out.Post
 lay-out-cast-lay-items t c = search needs
 
--- src/plans.rt:81:113
+-- src/plans.rt:80:13
 lay-out-cast-lay-items-2 : (t : ℕ) → lay-out-lts.Need-cast-lay-items-2 (lay-out-calls t) (lay-out-at t) lay-out.Post
 lay-out-cast-lay-items-2 t c = search needs
 
--- src/plans.rt:81:135
+-- src/plans.rt:82:13
 lay-out-add-lay-items : (t : ℕ) → lay-out-lts.Need-add-lay-items (lay-out-calls t) (lay-out-at t) lay-out.Post
-lay-out-add-lay-items t c = search needs
+lay-out-add-lay-items t c = search (next-fits, needs)
 
--- src/plans.rt:81:9
+-- src/plans.rt:69:9
 lay-out-lay-items-requires : (t : ℕ) → lay-out-lts.Need-lay-items-requires (lay-out-calls t) (lay-out-at t) lay-out.Post
 lay-out-lay-items-requires t c κs = (search (items-fall, needs), search (ask-items, needs))
 
--- src/plans.rt:81:9
+-- src/plans.rt:69:9
+lay-out-same-length-2 : (t : ℕ) → lay-out-lts.Need-same-length-2 (lay-out-calls t) (lay-out-at t) lay-out.Post
+lay-out-same-length-2 t c = search needs
+
+-- src/plans.rt:69:9
 lay-out-returns-2 : (t : ℕ) → lay-out-lts.Need-returns-2 (lay-out-calls t) (lay-out-at t) lay-out.Post
 lay-out-returns-2 t c = search (laid-array, needs)
 
--- src/plans.rt:84:9
+-- src/plans.rt:86:9
 lay-out-lay-object-requires : (t : ℕ) → lay-out-lts.Need-lay-object-requires (lay-out-calls t) (lay-out-at t) lay-out.Post
 lay-out-lay-object-requires t c κs = (search (object-falls, needs), search (ask-object, needs))
 
--- src/plans.rt:84:9
+-- src/plans.rt:86:9
+lay-out-same-length-3 : (t : ℕ) → lay-out-lts.Need-same-length-3 (lay-out-calls t) (lay-out-at t) lay-out.Post
+lay-out-same-length-3 t c = search needs
+
+-- src/plans.rt:86:9
 lay-out-returns-3 : (t : ℕ) → lay-out-lts.Need-returns-3 (lay-out-calls t) (lay-out-at t) lay-out.Post
 lay-out-returns-3 t c = search needs
 
--- src/plans.rt:86:19
+-- src/plans.rt:101:25
 lay-out-leaf-kind-requires : (t : ℕ) → lay-out-lts.Need-leaf-kind-requires (lay-out-calls t) (lay-out-at t) lay-out.Post
 lay-out-leaf-kind-requires t c κs = search needs
 
--- src/plans.rt:86:5
-lay-out-put-requires-3 : (t : ℕ) → lay-out-lts.Need-put-requires-3 (lay-out-calls t) (lay-out-at t) lay-out.Post
-lay-out-put-requires-3 t c κs = search (put-room, needs)
+-- src/plans.rt:101:5
+lay-out-put-entry-requires-3 : (t : ℕ) → lay-out-lts.Need-put-entry-requires-3 (lay-out-calls t) (lay-out-at t) lay-out.Post
+lay-out-put-entry-requires-3 t c κs = search needs
 
--- src/plans.rt:87:5
+-- src/plans.rt:102:5
 lay-out-add-result-2 : (t : ℕ) → lay-out-lts.Need-add-result-2 (lay-out-calls t) (lay-out-at t) lay-out.Post
-lay-out-add-result-2 t c = search needs
+lay-out-add-result-2 t c = search (next-fits, needs)
 
--- src/plans.rt:54:1
+-- src/plans.rt:42:1
+lay-out-same-length-4 : (t : ℕ) → lay-out-lts.Need-same-length-4 (lay-out-calls t) (lay-out-at t) lay-out.Post
+lay-out-same-length-4 t c = search needs
+
+-- src/plans.rt:42:1
 lay-out-returns-4 : (t : ℕ) → lay-out-lts.Need-returns-4 (lay-out-calls t) (lay-out-at t) lay-out.Post
 lay-out-returns-4 t c = search (laid-plain, needs)
 
@@ -316,6 +352,7 @@ pub +lay-fields+lay-items+lay-object+lay-out-spec : {M : Type 1} → statement M
     (lay-fields-add-q t)
     (lay-fields-loop-less t)
     (lay-fields-loop-again t)
+    (lay-fields-same-length t)
     (lay-fields-returns t))
     (λ t. lay-items-lts.spec (
       child-at-reads.Asked,
@@ -334,6 +371,7 @@ pub +lay-fields+lay-items+lay-object+lay-out-spec : {M : Type 1} → statement M
     (lay-items-sub-more t)
     (lay-items-loop-less t)
     (lay-items-loop-again t)
+    (lay-items-same-length t)
     (lay-items-returns t))
     (λ t. lay-object-lts.spec (
       first-of-reads.Asked,
@@ -342,8 +380,8 @@ pub +lay-fields+lay-items+lay-object+lay-out-spec : {M : Type 1} → statement M
       count-of-reads.Learnt,
       order-fields-reads.Asked,
       order-fields-reads.Learnt,
-      put-reads.Asked,
-      put-reads.Learnt,
+      put-entry-reads.Asked,
+      put-entry-reads.Learnt,
       lay-fields-below t,
       lay-fields.Post,
     )
@@ -354,10 +392,11 @@ pub +lay-fields+lay-items+lay-object+lay-out-spec : {M : Type 1} → statement M
     (lay-object-count-of-requires t)
     (lay-object-cast-count t)
     (lay-object-order-fields-requires t)
-    (lay-object-put-requires t)
+    (lay-object-put-entry-requires t)
     (lay-object-cast-lay-fields t)
     (lay-object-add-lay-fields t)
     (lay-object-lay-fields-requires t)
+    (lay-object-same-length t)
     (lay-object-returns t))
     λ t. lay-out-lts.spec (
       kind-of-reads.Asked,
@@ -366,8 +405,8 @@ pub +lay-fields+lay-items+lay-object+lay-out-spec : {M : Type 1} → statement M
       first-of-reads.Learnt,
       name-kind-reads.Asked,
       name-kind-reads.Learnt,
-      put-reads.Asked,
-      put-reads.Learnt,
+      put-entry-reads.Asked,
+      put-entry-reads.Learnt,
       count-of-reads.Asked,
       count-of-reads.Learnt,
       lay-items-below t,
@@ -382,19 +421,23 @@ pub +lay-fields+lay-items+lay-object+lay-out-spec : {M : Type 1} → statement M
     (lay-out-kind-of-requires t)
     (lay-out-first-of-requires t)
     (lay-out-name-kind-requires t)
-    (lay-out-put-requires t)
+    (lay-out-put-entry-requires t)
     (lay-out-add-result t)
+    (lay-out-same-length t)
     (lay-out-returns t)
     (lay-out-count-of-requires t)
-    (lay-out-put-requires-2 t)
+    (lay-out-put-entry-requires-2 t)
     (lay-out-cast-lay-items t)
     (lay-out-cast-lay-items-2 t)
     (lay-out-add-lay-items t)
     (lay-out-lay-items-requires t)
+    (lay-out-same-length-2 t)
     (lay-out-returns-2 t)
     (lay-out-lay-object-requires t)
+    (lay-out-same-length-3 t)
     (lay-out-returns-3 t)
     (lay-out-leaf-kind-requires t)
-    (lay-out-put-requires-3 t)
+    (lay-out-put-entry-requires-3 t)
     (lay-out-add-result-2 t)
+    (lay-out-same-length-4 t)
     (lay-out-returns-4 t)
