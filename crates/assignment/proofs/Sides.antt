@@ -1,5 +1,5 @@
 -- `:=` and `=`, answer by answer.
-use Prim.Native.Nat.{ℕ, _/_}
+use Prim.Native.Nat.{ℕ, _/_, _≤_}
 use mathlib.Core.Path.{_≡_, refl, sym, ap, subst, _∙_}
 use mathlib.Core.List.{List, []}
 use mathlib.Core.Bool.{Bool, true, false, cond, not}
@@ -8,7 +8,6 @@ use borrow.Author.Tests.{ne-eqb, eqb-true, eqb-false, not-true, not-false, le-le
 use lib.Dec.{eqb, leb}
 use lib.ListN.{length, replicate}
 use Rattle.scope.specs.declared.Scope.{Scope}
-use Rattle.scope.specs.declared.ScopingMode.{ScopingMode}
 use Rattle.scope.specs.declared.ScopingMode.the-variants.{RespectParent, AllowShadowing}
 use Rattle.scope.specs.Scope.{isUnbound}
 use Rattle.table.specs.declared.TableAnswer.{TableAnswer}
@@ -20,22 +19,26 @@ use Rattle.table.specs.Names.{classOf}
 use Rattle.table.specs.Expr.{Expr, name, wildcard}
 use Rattle.table.specs.Decode.{expr, isWildcard}
 use Rattle.table.specs.Check.{checked}
+use Rattle.table.specs.Sound.{Node}
 use Rattle.table.proofs.trees.Trees.{expr-name, expr-array, expr-object}
 use Rattle.planner.specs.declared.PlanAnswer.{PlanAnswer}
 use Rattle.planner.specs.declared.PlanAnswer.the-variants.{Planned, RootOutside, ColonEqualsRequiresBindableLeft, VariableAlreadyDefined}
-use Rattle.planner.specs.Layout.{Entry, entries, words, bindsAny}
-use Rattle.planner.specs.code.Passes.{stateBy}
+use Rattle.planner.specs.Layout.{Entry, entries, words, bindsAny, introducesBinding}
+use Rattle.planner.specs.Plan.{DestructuringPlan, plan}
+use Rattle.planner.specs.code.Passes.{stateBy, unboundIn}
 use Rattle.planner.specs.Operations.{planned, answered, written, Answered, isSound, planOf}
-use Rattle.planner.specs.code.Post.{GoodRoot, PatternAsks, PatternPlanned}
+use Rattle.planner.specs.code.Post.{StatesOf, Walks, GoodRoot, PatternAsks, PatternPlanned}
 use Rattle.planner.proofs.destructuring.NodeKinds.{Plain, plain-literal, plain-set, plain-other, plain-kind}
-use Rattle.planner.proofs.laws.SamePlan.{class-wild}
-use Rattle.planner.proofs.laws.Operations.{refuses, table-passes, read-plan}
+use Rattle.planner.proofs.laws.SamePlan.{class-wild, states-wild, same-plan}
+use Rattle.planner.proofs.laws.Operations.{refuses, table-passes}
+use Rattle.planner.proofs.buffer.Copies.{wrote-long, wrote-read}
+use Rattle.pairs.specs.Post.{Roomy, Previewed, SidesAsks, SidesTold}
 use Rattle.assignment.specs.declared.AssignOp.{AssignOp}
 use Rattle.assignment.specs.declared.AssignOp.the-variants.{ColEq, Eq}
 use Rattle.checks.specs.declared.LiteralStructureCheck.{LiteralStructureCheck}
 use Rattle.checks.specs.PatternStructure.{structureBy}
 use Rattle.planner.specs.Entries.{readEntries}
-use Rattle.assignment.specs.Assignment.{bindSide, firstSameScope, colonEqualsFrom, colonEqualsPlanned, isUnderscore, sideOf, pairsOutcome, equalsFrom, equalsSides, equalsPlanned, byOperator, assignmentOutcome}
+use Rattle.assignment.specs.Assignment.{bindSide, firstSameScope, colonEqualsFrom, colonEqualsPlanned, isUnderscore, sideOf, pairsOutcome, equalsSides, equalsPlanned, byOperator, assignmentOutcome}
 use Rattle.checks.specs.Post.{GoodPair}
 use Rattle.assignment.specs.Post.{BindAsks}
 use Rattle.checks.proofs.Refused.{passes-undefined, refuses-defined}
@@ -69,11 +72,8 @@ module _ (T : Tables) (s : Scope) (left right : ℕ) (c : LiteralStructureCheck)
 
 -- a side's plan in a scratch
 module _ (T : Tables) (a b : ℕ) (g : GoodPair T a b) where
-  pub ask-first : PatternAsks T a (replicate 128 0)
-  ask-first = record { table = g .table; node = g .first; none-bound = refl }
-
-  pub ask-second : PatternAsks T b (replicate 128 0)
-  ask-second = record { table = g .table; node = g .second; none-bound = refl }
+  pub ask-first : PatternAsks T a (replicate 128 0) 0
+  ask-first = record { table = g .table; node = g .first; none-bound = refl; low = omega arith }
 
   pub ask-left : GoodRoot T a
   ask-left = record { table = g .table; node = g .first }
@@ -81,19 +81,36 @@ module _ (T : Tables) (a b : ℕ) (g : GoodPair T a b) where
   pub ask-right : GoodRoot T b
   ask-right = record { table = g .table; node = g .second }
 
-  pub turned : GoodPair T b a
+  turned : GoodPair T b a
   turned = record { table = g .table; first = g .second; second = g .first }
 
-  pub ask-bind : (s : Scope) (mode : ScopingMode) {binders scratch : List ℕ} {count : ℕ} → PatternPlanned T s mode a (replicate 2048 0) binders scratch count → BindAsks T a b count
-  ask-bind s mode p = record { pair = g; few = p .few }
+  -- space for an entry of each node
+  pub roomy-small : {scratch : List ℕ} → length scratch ≡ 256 → length (T .nodes) ≤ 320 → Roomy T scratch
+  roomy-small e le = record { space = omega arith }
 
-pub colon-planned : (T : Tables) (s : Scope) (left right : ℕ) {binders scratch before later : List ℕ} {count : ℕ} {r : PlanAnswer} → PatternPlanned T s AllowShadowing left (replicate 2048 0) binders scratch count
-    → Answered (colonEqualsFrom T s left right (structureBy (expr T right) (expr T left)) (readEntries scratch 0 count)) before later r → Answered (colonEqualsPlanned T s left right) before later r
-colon-planned T s left right {binders} {scratch} {before} {later} {count} {r} p a =
-    let e = read-plan T s AllowShadowing left p in
-    let c = structure-plan (isUnbound s AllowShadowing) (expr T right) (expr T left) [] in
-    subst (λ (k : LiteralStructureCheck). Answered (colonEqualsFrom T s left right k (entries (planOf T s AllowShadowing left) 0)) before later r) (sym c)
-    (subst (λ (es : List Entry). Answered (colonEqualsFrom T s left right (structureBy (expr T right) (expr T left)) es) before later r) e a)
+  pub roomy-large : {scratch : List ℕ} → length scratch ≡ 2048 → Roomy T scratch
+  roomy-large e = let l = g .table .limits .nodes in record { space = omega arith }
+
+  module _ {before : List ℕ} (space : Roomy T before) (s : Scope) {binders scratch : List ℕ} {count : ℕ} (p : PatternPlanned T s AllowShadowing a 0 before binders scratch count) where
+    held : count ≤ length before / 4
+    held =
+        let m = p .space in
+        let h = g .first .high in
+        let r = space .space in
+        omega arith
+
+    pub ask-colon : BindAsks T a b scratch count
+    ask-colon =
+        let h = held in
+        let long = wrote-long (p .wrote) in
+        record { pair = g; read = record { few = p .few; held = omega arith } }
+
+    pub colon-planned : {plan later : List ℕ} {r : PlanAnswer} → Answered (colonEqualsFrom T s a b (structureBy (expr T b) (expr T a)) (readEntries scratch 0 count)) plan later r → Answered (colonEqualsPlanned T s a b) plan later r
+    colon-planned {plan} {later} {r} answer =
+        let e = wrote-read (p .wrote) held in
+        let c = structure-plan (isUnbound s AllowShadowing) (expr T b) (expr T a) [] in
+        subst (λ (k : LiteralStructureCheck). Answered (colonEqualsFrom T s a b k (entries (planOf T s AllowShadowing a) 0)) plan later r) (sym c)
+        (subst (λ (es : List Entry). Answered (colonEqualsFrom T s a b (structureBy (expr T b) (expr T a)) es) plan later r) e answer)
 
 -- underscores
 module _ (T : Tables) (n : ℕ) (g : GoodRoot T n) {kind : ℕ} (is-kind : kind ≡ kindOf (T .nodes) n) where
@@ -142,29 +159,54 @@ module _ (T : Tables) (left right : ℕ) {l r : Bool} (is-left : l ≡ isUndersc
   side-none p q = simp (sym is-left ∙ p, sym is-right ∙ q)
 
 -- `=` by the sides that bind
-module _ (T : Tables) (s : Scope) (left right : ℕ) (c d : LiteralStructureCheck) (ls rs : List Entry) {l r : Bool} (is-left : l ≡ bindsAny ls) (is-right : r ≡ bindsAny rs) {before later : List ℕ} {answer : PlanAnswer} where
-  pub equals-both : l ≡ true → r ≡ true → Answered (pairsOutcome T s left right) before later answer → Answered (equalsFrom T s left right c ls d rs) before later answer
-  equals-both p q a = simp (sym is-left ∙ p, sym is-right ∙ q) a
+module _ (T : Tables) (s : Scope) (left right : ℕ) (g : GoodPair T left right) {states : List ℕ} (of : StatesOf (T .names) (T .text) s RespectParent states) where
+  pub ask-sides : SidesAsks T states left right
+  ask-sides = record { pair-ok = g; states-ok = states-wild T s RespectParent states of }
 
-  pub equals-left : l ≡ true → r ≡ false → Answered (bindSide T 2 left right c ls) before later answer → Answered (equalsFrom T s left right c ls d rs) before later answer
-  equals-left p q a = simp (sym is-left ∙ p, sym is-right ∙ q) a
+  -- a side's plan by the scope
+  module _ {n : ℕ} (v : Node T n) where
+    same : plan (unboundIn states) (expr T n) [] ≡ planOf T s RespectParent n
+    same = same-plan T s RespectParent states of (g .table) n v []
 
-  pub equals-right : l ≡ false → r ≡ true → Answered (bindSide T 3 right left d rs) before later answer → Answered (equalsFrom T s left right c ls d rs) before later answer
-  equals-right p q a = simp (sym is-left ∙ p, sym is-right ∙ q) a
+    told-by : {b : Bool} → b ≡ introducesBinding (plan (unboundIn states) (expr T n) []) → bindsAny (entries (planOf T s RespectParent n) 0) ≡ b
+    told-by e = sym (e ∙ ap introducesBinding same)
 
-  pub equals-none : l ≡ false → r ≡ false → Answered (planned 5 0 []) before later answer → Answered (equalsFrom T s left right c ls d rs) before later answer
-  equals-none p q a = simp (sym is-left ∙ p, sym is-right ∙ q) a
+    read-by : {binders scratch : List ℕ} {count : ℕ} {b : Bool} → Previewed T states n binders scratch count b → readEntries scratch 0 count ≡ entries (planOf T s RespectParent n) 0
+    read-by p = p .read ∙ ap (λ (q : DestructuringPlan). entries q 0) same
 
-pub sides-planned : (T : Tables) (s : Scope) (left right : ℕ) {lb ls rb rs before later : List ℕ} {m n : ℕ} {r : PlanAnswer}
-    → PatternPlanned T s RespectParent left (replicate 2048 0) lb ls m → PatternPlanned T s RespectParent right (replicate 2048 0) rb rs n
-    → Answered (equalsFrom T s left right (structureBy (expr T right) (expr T left)) (readEntries ls 0 m) (structureBy (expr T left) (expr T right)) (readEntries rs 0 n)) before later r
-    → Answered (equalsSides T s left right) before later r
-sides-planned T s left right {lb} {ls} {rb} {rs} {before} {later} {m} {n} {r} p q a =
-    let e = read-plan T s RespectParent left p in
-    let f = read-plan T s RespectParent right q in
-    let c = structure-plan (isUnbound s RespectParent) (expr T right) (expr T left) [] in
-    let d = structure-plan (isUnbound s RespectParent) (expr T left) (expr T right) [] in
-    rw (c, d) (rw (e, f) at a)
+  module _ {binders scratch : List ℕ} {count : ℕ} {one other : Bool} (told : SidesTold T states left right binders scratch count one other) where
+    left-is : bindsAny (entries (planOf T s RespectParent left) 0) ≡ one
+    left-is = told-by (g .first) (told .left-seen .told)
+
+    right-is : bindsAny (entries (planOf T s RespectParent right) 0) ≡ other
+    right-is = told-by (g .second) (told .right-told)
+
+    pub ask-bind-left : BindAsks T left right scratch count
+    ask-bind-left = record { pair = g; read = told .left-seen .asks }
+
+    module _ {before later : List ℕ} {answer : PlanAnswer} where
+      pub equals-both : one ≡ true → other ≡ true → Answered (pairsOutcome T s left right) before later answer → Answered (equalsSides T s left right) before later answer
+      equals-both p q a = simp (left-is ∙ p, right-is ∙ q) a
+
+      pub equals-left : one ≡ true → other ≡ false → Answered (bindSide T 2 left right (structureBy (expr T right) (expr T left)) (readEntries scratch 0 count)) before later answer → Answered (equalsSides T s left right) before later answer
+      equals-left p q a =
+          let e = read-by (g .first) (told .left-seen) in
+          let c = structure-plan (isUnbound s RespectParent) (expr T right) (expr T left) [] in
+          simp (left-is ∙ p, right-is ∙ q) (rw c (rw e at a))
+
+      pub equals-right : one ≡ false → other ≡ true → Answered (bindSide T 3 right left (structureBy (expr T left) (expr T right)) (entries (plan (unboundIn states) (expr T right) []) 0)) before later answer → Answered (equalsSides T s left right) before later answer
+      equals-right p q a =
+          let e = same (g .second) in
+          let c = structure-plan (isUnbound s RespectParent) (expr T left) (expr T right) [] in
+          simp (left-is ∙ p, right-is ∙ q) (rw c (rw e at a))
+
+      pub equals-none : one ≡ false → other ≡ false → Answered (planned 5 0 []) before later answer → Answered (equalsSides T s left right) before later answer
+      equals-none p q a = simp (left-is ∙ p, right-is ∙ q) a
+
+-- the right side, planned anew
+pub bound-right : {T : Tables} {states : List ℕ} (left : ℕ) {right : ℕ} {binders scratch : List ℕ} {count : ℕ} {b : Bool} → Previewed T states right binders scratch count b → (c : LiteralStructureCheck) {before later : List ℕ} {r : PlanAnswer}
+    → Answered (bindSide T 3 right left c (readEntries scratch 0 count)) before later r → Answered (bindSide T 3 right left c (entries (plan (unboundIn states) (expr T right) []) 0)) before later r
+bound-right left seen c answer = rw (seen .read) at answer
 
 -- the wildcard form, or the sides
 module _ (T : Tables) (s : Scope) (left right : ℕ) {side : ℕ} (is : side ≡ sideOf T left right) {before later : List ℕ} {r : PlanAnswer} where

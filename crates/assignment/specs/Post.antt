@@ -1,15 +1,11 @@
 -- What the crate's own functions ask of their callers.
-use Prim.Native.Nat.{ℕ, _≤_}
+use Prim.Native.Nat.{ℕ}
+use mathlib.Core.List.{List}
 use Rattle.table.specs.Tables.{Tables}
 use Rattle.checks.specs.Post.{GoodPair}
+use Rattle.pairs.specs.Post.{ReadAsks}
 
 -- a binding side with its plan in a scratch, and a value side
-pub record BindAsks (T : Tables) (binding value count : ℕ) : Type 0 where
+pub record BindAsks (T : Tables) (binding value : ℕ) (scratch : List ℕ) (count : ℕ) : Type 0 where
   pub pair : GoodPair T binding value
-  pub few : count ≤ 512
-
--- two sides with their plans in scratches
-pub record EqualsAsks (T : Tables) (left right leftCount rightCount : ℕ) : Type 0 where
-  pub pair : GoodPair T left right
-  pub few-left : leftCount ≤ 512
-  pub few-right : rightCount ≤ 512
+  pub read : ReadAsks scratch count

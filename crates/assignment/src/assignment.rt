@@ -3,24 +3,31 @@ ghost use mathlib.Core.Path.{_≡_};
 ghost use mathlib.Core.List.{[]};
 ghost use Rattle.table.specs.Tables.{tables};
 ghost use Rattle.table.specs.Decode.{expr};
+ghost use Rattle.planner.specs.Plan as Plan;
+ghost use Rattle.planner.specs.Layout.{entries};
+ghost use Rattle.planner.specs.code.Passes.{unboundIn};
 ghost use Rattle.planner.specs.Operations.{planned, Answered};
 ghost use Rattle.planner.specs.code.Post.{GoodRoot};
 ghost use Rattle.planner.specs.Entries.{readEntries};
 ghost use Rattle.checks.specs.PatternStructure.{structureBy};
 ghost use Rattle.pairs.specs.Pairs.{shapeOf};
-ghost use Rattle.assignment.specs.Assignment.{opposed, bindSide, isUnderscore, sideOf, colonEqualsFrom, colonEqualsPlanned, equalsFrom, equalsSides, equalsPlanned, assignmentOutcome};
+ghost use Rattle.assignment.specs.Assignment.{opposed, bindSide, isUnderscore, sideOf, colonEqualsFrom, colonEqualsPlanned, equalsSides, equalsPlanned, assignmentOutcome};
 ghost use Rattle.checks.specs.Post.{GoodPair};
-ghost use Rattle.assignment.specs.Post.{BindAsks, EqualsAsks};
+ghost use Rattle.pairs.specs.Post.{Roomy, SidesAsks};
+ghost use Rattle.assignment.specs.Post.{BindAsks};
 use crate::AssignOp;
+use crate::entries::deliver;
 use crate::entries::first_same_scope;
 use checks::LiteralStructureCheck;
 use checks::utils::check_literal_structure;
 use pairs::flatten::flatten_assignment_pairs;
 use pairs::preview::introduces_binding;
+use pairs::preview::preview_binding_plan;
+use pairs::preview::preview_sides;
 use planner::PlanAnswer;
 use planner::buffer::clear;
-use planner::buffer::deliver;
 use planner::context::is_sound;
+use planner::context::name_states;
 use planner::destructuring::plan_pattern;
 use scope::Scope;
 use scope::ScopingMode;
@@ -67,11 +74,11 @@ fn bind_side(
     form: u32,
     binding: u32,
     value: u32,
-    scratch: &[u32; 2048],
+    scratch: &[u32],
     count: usize,
     plan: &mut [u32],
 ) -> PlanAnswer
-    requires { ⌜ BindAsks (tables (now nodes) (now children) (now numbers) (now names) (now strings) (now text)) binding value count ⌝ }
+    requires { ⌜ BindAsks (tables (now nodes) (now children) (now numbers) (now names) (now strings) (now text)) binding value (now scratch) count ⌝ }
     ensures { λ r. ⌜ Answered (bindSide (tables (now (nodes .entry)) (now (children .entry)) (now (numbers .entry)) (now (names .entry)) (now (strings .entry)) (now (text .entry))) form binding value (structureBy (expr (tables (now (nodes .entry)) (now (children .entry)) (now (numbers .entry)) (now (names .entry)) (now (strings .entry)) (now (text .entry))) value) (expr (tables (now (nodes .entry)) (now (children .entry)) (now (numbers .entry)) (now (names .entry)) (now (strings .entry)) (now (text .entry))) binding)) (readEntries (now (scratch .entry)) 0 count)) (now (plan .entry)) (now (plan .exit)) r ⌝ }
 {
     if incompatible(
@@ -98,8 +105,8 @@ fn bind_side(
         value,
     );
     match structure {
-        LiteralStructureCheck::Match => deliver(plan, scratch, form, 0, count),
-        LiteralStructureCheck::Unknown => deliver(plan, scratch, form, 0, count),
+        LiteralStructureCheck::Match => deliver(plan, scratch, form, count),
+        LiteralStructureCheck::Unknown => deliver(plan, scratch, form, count),
         LiteralStructureCheck::ArrayMismatch {
             value,
             expected,
@@ -142,11 +149,11 @@ fn colon_equals_from(
     scope: Scope,
     left: u32,
     right: u32,
-    scratch: &[u32; 2048],
+    scratch: &[u32],
     count: usize,
     plan: &mut [u32],
 ) -> PlanAnswer
-    requires { ⌜ BindAsks (tables (now nodes) (now children) (now numbers) (now names) (now strings) (now text)) left right count ⌝ }
+    requires { ⌜ BindAsks (tables (now nodes) (now children) (now numbers) (now names) (now strings) (now text)) left right (now scratch) count ⌝ }
     ensures { λ r. ⌜ Answered (colonEqualsFrom (tables (now (nodes .entry)) (now (children .entry)) (now (numbers .entry)) (now (names .entry)) (now (strings .entry)) (now (text .entry))) scope left right (structureBy (expr (tables (now (nodes .entry)) (now (children .entry)) (now (numbers .entry)) (now (names .entry)) (now (strings .entry)) (now (text .entry))) right) (expr (tables (now (nodes .entry)) (now (children .entry)) (now (numbers .entry)) (now (names .entry)) (now (strings .entry)) (now (text .entry))) left)) (readEntries (now (scratch .entry)) 0 count)) (now (plan .entry)) (now (plan .exit)) r ⌝ }
 {
     if !introduces_binding(scratch, count) {
@@ -174,6 +181,55 @@ fn colon_equals_from(
     )
 }
 
+// `:=`, the left side planned into a scratch with space for an entry of each node.
+fn colon_equals_in(
+    nodes: &[u32],
+    children: &[u32],
+    numbers: &[u64],
+    names: &[u32],
+    strings: &[u8],
+    text: &[u8],
+    scope: Scope,
+    left: u32,
+    right: u32,
+    scratch: &mut [u32],
+    plan: &mut [u32],
+) -> PlanAnswer
+    requires { ⌜ GoodPair (tables (now nodes) (now children) (now numbers) (now names) (now strings) (now text)) left right × Roomy (tables (now nodes) (now children) (now numbers) (now names) (now strings) (now text)) (now scratch) ⌝ }
+    ensures { λ r. ⌜ Answered (colonEqualsPlanned (tables (now (nodes .entry)) (now (children .entry)) (now (numbers .entry)) (now (names .entry)) (now (strings .entry)) (now (text .entry))) scope left right) (now (plan .entry)) (now (plan .exit)) r ⌝ }
+{
+    let mut binders = [0u32; 128];
+    let count = plan_pattern(
+        nodes,
+        children,
+        numbers,
+        names,
+        strings,
+        text,
+        scope,
+        ScopingMode::AllowShadowing,
+        left,
+        &mut binders,
+        scratch,
+        0,
+    );
+    colon_equals_from(
+        nodes,
+        children,
+        numbers,
+        names,
+        strings,
+        text,
+        scope,
+        left,
+        right,
+        scratch,
+        count,
+        plan,
+    )
+}
+
+// Few nodes have a small scratch, since clearing the larger takes longer than a small plan.
 fn plan_colon_equals(
     nodes: &[u32],
     children: &[u32],
@@ -189,22 +245,24 @@ fn plan_colon_equals(
     requires { ⌜ GoodPair (tables (now nodes) (now children) (now numbers) (now names) (now strings) (now text)) left right ⌝ }
     ensures { λ r. ⌜ Answered (colonEqualsPlanned (tables (now (nodes .entry)) (now (children .entry)) (now (numbers .entry)) (now (names .entry)) (now (strings .entry)) (now (text .entry))) scope left right) (now (plan .entry)) (now (plan .exit)) r ⌝ }
 {
-    let mut binders = [0u32; 128];
+    if nodes.len() <= 320 {
+        let mut scratch = [0u32; 256];
+        return colon_equals_in(
+            nodes,
+            children,
+            numbers,
+            names,
+            strings,
+            text,
+            scope,
+            left,
+            right,
+            &mut scratch,
+            plan,
+        );
+    }
     let mut scratch = [0u32; 2048];
-    let count = plan_pattern(
-        nodes,
-        children,
-        numbers,
-        names,
-        strings,
-        text,
-        scope,
-        ScopingMode::AllowShadowing,
-        left,
-        &mut binders,
-        &mut scratch,
-    );
-    colon_equals_from(
+    colon_equals_in(
         nodes,
         children,
         numbers,
@@ -214,8 +272,7 @@ fn plan_colon_equals(
         scope,
         left,
         right,
-        &scratch,
-        count,
+        &mut scratch,
         plan,
     )
 }
@@ -272,8 +329,54 @@ fn wildcard_side(
     0
 }
 
-// `=`, both sides' plans standing in scratches.
-fn equals_from(
+// `=`, the right side planned anew and held against the left.
+fn bind_right(
+    nodes: &[u32],
+    children: &[u32],
+    numbers: &[u64],
+    names: &[u32],
+    strings: &[u8],
+    text: &[u8],
+    states: &[u8; 128],
+    left: u32,
+    right: u32,
+    binders: &mut [u32; 128],
+    scratch: &mut [u32],
+    plan: &mut [u32],
+) -> PlanAnswer
+    requires { ⌜ SidesAsks (tables (now nodes) (now children) (now numbers) (now names) (now strings) (now text)) (now states) left right × Roomy (tables (now nodes) (now children) (now numbers) (now names) (now strings) (now text)) (now scratch) ⌝ }
+    ensures { λ r. ⌜ Answered (bindSide (tables (now (nodes .entry)) (now (children .entry)) (now (numbers .entry)) (now (names .entry)) (now (strings .entry)) (now (text .entry))) 3 right left (structureBy (expr (tables (now (nodes .entry)) (now (children .entry)) (now (numbers .entry)) (now (names .entry)) (now (strings .entry)) (now (text .entry))) left) (expr (tables (now (nodes .entry)) (now (children .entry)) (now (numbers .entry)) (now (names .entry)) (now (strings .entry)) (now (text .entry))) right)) (entries (Plan.plan (unboundIn (now (states .entry))) (expr (tables (now (nodes .entry)) (now (children .entry)) (now (numbers .entry)) (now (names .entry)) (now (strings .entry)) (now (text .entry))) right) []) 0)) (now (plan .entry)) (now (plan .exit)) r ⌝ }
+{
+    let planned = preview_binding_plan(
+        nodes,
+        children,
+        numbers,
+        names,
+        strings,
+        text,
+        states,
+        right,
+        binders,
+        scratch,
+    );
+    bind_side(
+        nodes,
+        children,
+        numbers,
+        names,
+        strings,
+        text,
+        3,
+        right,
+        left,
+        scratch,
+        planned.count,
+        plan,
+    )
+}
+
+// `=`, the sides planned into a scratch with space for an entry of each node.
+fn equals_in(
     nodes: &[u32],
     children: &[u32],
     numbers: &[u64],
@@ -283,19 +386,30 @@ fn equals_from(
     scope: Scope,
     left: u32,
     right: u32,
-    left_scratch: &[u32; 2048],
-    left_count: usize,
-    right_scratch: &[u32; 2048],
-    right_count: usize,
+    scratch: &mut [u32],
     plan: &mut [u32],
 ) -> PlanAnswer
-    requires { ⌜ EqualsAsks (tables (now nodes) (now children) (now numbers) (now names) (now strings) (now text)) left right «left_count» «right_count» ⌝ }
-    ensures { λ r. ⌜ Answered (equalsFrom (tables (now (nodes .entry)) (now (children .entry)) (now (numbers .entry)) (now (names .entry)) (now (strings .entry)) (now (text .entry))) scope left right (structureBy (expr (tables (now (nodes .entry)) (now (children .entry)) (now (numbers .entry)) (now (names .entry)) (now (strings .entry)) (now (text .entry))) right) (expr (tables (now (nodes .entry)) (now (children .entry)) (now (numbers .entry)) (now (names .entry)) (now (strings .entry)) (now (text .entry))) left)) (readEntries (now («left_scratch» .entry)) 0 «left_count») (structureBy (expr (tables (now (nodes .entry)) (now (children .entry)) (now (numbers .entry)) (now (names .entry)) (now (strings .entry)) (now (text .entry))) left) (expr (tables (now (nodes .entry)) (now (children .entry)) (now (numbers .entry)) (now (names .entry)) (now (strings .entry)) (now (text .entry))) right)) (readEntries (now («right_scratch» .entry)) 0 «right_count»)) (now (plan .entry)) (now (plan .exit)) r ⌝ }
+    requires { ⌜ GoodPair (tables (now nodes) (now children) (now numbers) (now names) (now strings) (now text)) left right × Roomy (tables (now nodes) (now children) (now numbers) (now names) (now strings) (now text)) (now scratch) ⌝ }
+    ensures { λ r. ⌜ Answered (equalsSides (tables (now (nodes .entry)) (now (children .entry)) (now (numbers .entry)) (now (names .entry)) (now (strings .entry)) (now (text .entry))) scope left right) (now (plan .entry)) (now (plan .exit)) r ⌝ }
 {
-    let left_binds = introduces_binding(left_scratch, left_count);
-    let right_binds = introduces_binding(right_scratch, right_count);
-    if left_binds {
-        if right_binds {
+    let states = name_states(names, text, scope, ScopingMode::RespectParent);
+    let mut binders = [0u32; 128];
+    let sides = preview_sides(
+        nodes,
+        children,
+        numbers,
+        names,
+        strings,
+        text,
+        &states,
+        left,
+        right,
+        &mut binders,
+        scratch,
+    );
+    let count = sides.count;
+    if sides.left {
+        if sides.right {
             return flatten_assignment_pairs(
                 nodes,
                 children,
@@ -306,6 +420,8 @@ fn equals_from(
                 scope,
                 left,
                 right,
+                &mut binders,
+                scratch,
                 plan,
             );
         }
@@ -319,30 +435,31 @@ fn equals_from(
             2,
             left,
             right,
-            left_scratch,
-            left_count,
+            scratch,
+            count,
             plan,
         );
     }
-    if right_binds {
-        return bind_side(
+    if sides.right {
+        return bind_right(
             nodes,
             children,
             numbers,
             names,
             strings,
             text,
-            3,
-            right,
+            &states,
             left,
-            right_scratch,
-            right_count,
+            right,
+            &mut binders,
+            scratch,
             plan,
         );
     }
     deliver_none(plan, 5, 0)
 }
 
+// Few nodes have a small scratch, as for `:=`.
 fn plan_sides(
     nodes: &[u32],
     children: &[u32],
@@ -358,37 +475,24 @@ fn plan_sides(
     requires { ⌜ GoodPair (tables (now nodes) (now children) (now numbers) (now names) (now strings) (now text)) left right ⌝ }
     ensures { λ r. ⌜ Answered (equalsSides (tables (now (nodes .entry)) (now (children .entry)) (now (numbers .entry)) (now (names .entry)) (now (strings .entry)) (now (text .entry))) scope left right) (now (plan .entry)) (now (plan .exit)) r ⌝ }
 {
-    let mut left_binders = [0u32; 128];
-    let mut left_scratch = [0u32; 2048];
-    let left_count = plan_pattern(
-        nodes,
-        children,
-        numbers,
-        names,
-        strings,
-        text,
-        scope,
-        ScopingMode::RespectParent,
-        left,
-        &mut left_binders,
-        &mut left_scratch,
-    );
-    let mut right_binders = [0u32; 128];
-    let mut right_scratch = [0u32; 2048];
-    let right_count = plan_pattern(
-        nodes,
-        children,
-        numbers,
-        names,
-        strings,
-        text,
-        scope,
-        ScopingMode::RespectParent,
-        right,
-        &mut right_binders,
-        &mut right_scratch,
-    );
-    equals_from(
+    if nodes.len() <= 320 {
+        let mut scratch = [0u32; 256];
+        return equals_in(
+            nodes,
+            children,
+            numbers,
+            names,
+            strings,
+            text,
+            scope,
+            left,
+            right,
+            &mut scratch,
+            plan,
+        );
+    }
+    let mut scratch = [0u32; 2048];
+    equals_in(
         nodes,
         children,
         numbers,
@@ -398,10 +502,7 @@ fn plan_sides(
         scope,
         left,
         right,
-        &left_scratch,
-        left_count,
-        &right_scratch,
-        right_count,
+        &mut scratch,
         plan,
     )
 }

@@ -1,8 +1,12 @@
-// The names of a plan's entries that this very scope has bound.
+// The entries of a scratch: delivered, and searched for names that this very scope has bound.
 ghost use mathlib.Core.Path.{_≡_};
-ghost use Prim.Native.Nat.{_≤_};
 ghost use Rattle.planner.specs.Entries.{readEntries};
+ghost use Rattle.planner.specs.Operations.{planned, Answered};
+ghost use Rattle.pairs.specs.Post.{ReadAsks};
 ghost use Rattle.assignment.specs.Assignment.{boundHere, firstSameScope};
+use planner::PlanAnswer;
+use planner::buffer::close;
+use planner::buffer::copy_entries;
 use scope::Binding;
 use scope::Scope;
 use table::reading::first_of;
@@ -23,13 +27,8 @@ fn bound_here(nodes: &[u32], scope: Scope, kind: u32, node: u32) -> bool
 }
 
 // The node of the first such entry, or 0.
-pub(crate) fn first_same_scope(
-    nodes: &[u32],
-    scope: Scope,
-    scratch: &[u32; 2048],
-    count: usize,
-) -> u32
-    requires { ⌜ count ≤ 512 ⌝ }
+pub(crate) fn first_same_scope(nodes: &[u32], scope: Scope, scratch: &[u32], count: usize) -> u32
+    requires { ⌜ ReadAsks (now scratch) count ⌝ }
     ensures { λ r. ⌜ r ≡ firstSameScope (now (nodes .entry)) scope (readEntries (now (scratch .entry)) 0 count) ⌝ }
 {
     let mut i: usize = 0;
@@ -41,4 +40,13 @@ pub(crate) fn first_same_scope(
         i += 1;
     }
     0
+}
+
+// The first entries of the scratch in the lent buffer.
+pub(crate) fn deliver(plan: &mut [u32], scratch: &[u32], form: u32, count: usize) -> PlanAnswer
+    requires { ⌜ ReadAsks (now scratch) count ⌝ }
+    ensures { λ r. ⌜ Answered (planned form 0 (readEntries (now (scratch .entry)) 0 count)) (now (plan .entry)) (now (plan .exit)) r ⌝ }
+{
+    let end = copy_entries(plan, 0, scratch, count);
+    close(plan, form, end)
 }

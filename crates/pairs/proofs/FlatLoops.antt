@@ -21,7 +21,8 @@ use Rattle.planner.proofs.buffer.Copies.{wrote-none, wrote-append, wrote-long}
 use Rattle.pairs.specs.declared.flatten.Flattened.{Flattened}
 use Rattle.pairs.specs.declared.flatten.Flattened.the-variants.{Next, Refused}
 use Rattle.pairs.specs.Pairs.{Pair, pairEntries, pairsEntries, Flat, failed, paired, before, further, flatten}
-use Rattle.pairs.specs.Post.{Scoped, InOrder, FieldAsks, FieldSides, FieldOk, Came, Flattens, nodesFlat, itemsFlat, objectsFlat, fieldsFlat, mostOf, mostItems, mostFields, FlattenAsks, ItemsAsks, ObjectFieldsAsks}
+use Rattle.pairs.specs.Post.{Roomy, Scoped, InOrder, FieldAsks, FieldSides, FieldOk, Came, Flattens, nodesFlat, itemsFlat, objectsFlat, fieldsFlat, mostOf, mostItems, mostFields, FlattenAsks, ItemsAsks, ObjectFieldsAsks}
+use Rattle.pairs.proofs.PairSides.{roomy-kept}
 use Rattle.pairs.proofs.Seen.{scoped-self}
 use Rattle.pairs.proofs.Partners.{partner-node, partner-some}
 
@@ -122,6 +123,17 @@ module _ {f rest : (ℕ → Bool) → List ℕ → Flat} {T : Tables} {used : �
           scoped = p .scoped;
         };
   }
+
+-- the scratch keeps its space
+pub record Kept (T : Tables) (scratch₀ scratch : List ℕ) : Type 0 where
+  pub roomy : Roomy T scratch
+  pub long : length scratch ≡ length scratch₀
+
+pub kept-start : {T : Tables} {scratch : List ℕ} → Roomy T scratch → Kept T scratch scratch
+kept-start r = record { roomy = r; long = refl }
+
+pub kept-on : {T : Tables} {scratch₀ scratch next : List ℕ} → Kept T scratch₀ scratch → length next ≡ length scratch → Kept T scratch₀ next
+kept-on k e = record { roomy = roomy-kept (k .roomy) e; long = e ∙ k .long }
 
 -- the items of two arrays
 pub record PairingItems (T : Tables) (left₀ parent right₀ k₀ : ℕ) (states₀ start : List ℕ) (at left right more : ℕ) (states mid : List ℕ) (here : ℕ) : Type 0 where

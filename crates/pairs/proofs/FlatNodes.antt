@@ -23,8 +23,8 @@ use Rattle.planner.specs.declared.PlanAnswer.the-variants.{ArraySizeMismatch, O
 use Rattle.planner.specs.Plan.{equalityExpr}
 use Rattle.planner.specs.Layout.{Entry, entry, entries}
 use Rattle.planner.specs.Operations.{answered, written, Answered}
-use Rattle.planner.specs.Entries.{Wrote}
-use Rattle.planner.specs.code.Post.{OrderAsks, OrderedBy, StatesOf, Delivered}
+use Rattle.planner.specs.Entries.{readEntries, Wrote}
+use Rattle.planner.specs.code.Post.{OrderAsks, OrderedBy, StatesOf, Closed}
 use Rattle.planner.proofs.fields.Objects.{node-of}
 use Rattle.pairs.specs.declared.flatten.Flattened.{Flattened}
 use Rattle.pairs.specs.declared.flatten.Flattened.the-variants.{Next, Refused}
@@ -37,14 +37,14 @@ use Rattle.pairs.specs.declared.judge.Judgement.{Judgement}
 use Rattle.pairs.specs.declared.judge.Judgement.the-variants as Judged
 use Rattle.pairs.specs.declared.judge.Judgement.the-variants.{Compare, BindLeft, BindRight, Refuse}
 use Rattle.pairs.specs.Pairs.{pair, pairsEntries, Flat, failed, flatOutcome, single, shapeOf, allLiteral, distinctKeys, binds, side, flatten, flattenAll}
-use Rattle.pairs.specs.Post.{Scoped, pairingOf, missingFrom, InOrder, LiteralNode, MissingAsks, Flattens, Came, sideFlat, nodesFlat, arraysFlat, objectsFlat, itemsFlat, fieldsFlat, mostOf, mostItems, BindAsks, SidesAsks, Judges, Compared, KeysAsks, KeysMatched, MatchedBy, ObjectFieldsAsks, FlattenAsks, ByKeyAsks, ArraysAsks, ItemsAsks}
+use Rattle.pairs.specs.Post.{ReadAsks, Scoped, Bound, pairingOf, missingFrom, InOrder, LiteralNode, MissingAsks, Flattens, Came, sideFlat, nodesFlat, arraysFlat, objectsFlat, itemsFlat, fieldsFlat, mostOf, mostItems, BindAsks, SidesAsks, Judges, Compared, KeysAsks, KeysMatched, MatchedBy, ObjectFieldsAsks, FlattenAsks, ByKeyAsks, ArraysAsks, ItemsAsks}
 use Rattle.checks.specs.Post.{GoodPair}
 use Rattle.pairs.proofs.Seen.{scoped-start}
-use Rattle.planner.proofs.buffer.Copies.{wrote-delivered}
+use Rattle.planner.proofs.buffer.Copies.{wrote-closed}
 use Rattle.pairs.proofs.Partners.{object-child, object-listed, object-order, literal-each, check-missing, missing-none}
 use Rattle.pairs.proofs.KeySearch.{total-distinct}
 use Rattle.pairs.proofs.PairShapes.{shape-items, shape-fields, shape-single, flat-neither, flat-whole, flat-items, flat-fields, flat-array-object, flat-object-array}
-use Rattle.pairs.proofs.PairSides.{flattens-as, binds-told, means}
+use Rattle.pairs.proofs.PairSides.{flattens-as, binds-told, side-bound, means}
 
 -- what a pairing says of the kinds
 module _ (T : Tables) (w : WellFormed T) (n : ℕ) (v : Node T n) where
@@ -121,12 +121,15 @@ module _ {T : Tables} {states : List ℕ} {left right at : ℕ} (a : FlattenAsks
   pub ask-bind-right : BindAsks T states right left at
   ask-bind-right = record { pair-ok = record { table = a .pair-ok .table; first = a .pair-ok .second; second = a .pair-ok .first }; states-ok = a .states-ok; low = at-low }
 
-  module _ {way : Judgement} (j : Judges T states left right way) where
+  module _ {binders scratch : List ℕ} {count : ℕ} {way : Judgement} (j : Judges T states left right binders scratch count way) where
     left-binds : (u : ℕ → Bool) (seen : List ℕ) → Scoped T u seen states → j .one ≡ binds u (expr T left) seen
-    left-binds = binds-told T (a .pair-ok .table) (a .pair-ok .first) (j .sides .left-told)
+    left-binds = binds-told T (a .pair-ok .table) (a .pair-ok .first) (j .sides .left-seen .told)
 
     right-binds : (u : ℕ → Bool) (seen : List ℕ) → Scoped T u seen states → j .other ≡ binds u (expr T right) seen
     right-binds = binds-told T (a .pair-ok .table) (a .pair-ok .second) (j .sides .right-told)
+
+    pub ask-bound : ReadAsks scratch count
+    ask-bound = j .sides .left-seen .asks
 
     some-bind : {b : Bool} → (j .one || j .other) ≡ b → (u : ℕ → Bool) (seen : List ℕ) → Scoped T u seen states → (binds u (expr T left) seen || binds u (expr T right) seen) ≡ b
     some-bind e u seen s = rw (← left-binds u seen s, ← right-binds u seen s) e
@@ -158,11 +161,11 @@ module _ {T : Tables} {states : List ℕ} {left right at : ℕ} (a : FlattenAsks
         })
 
     module _ {before known later : List ℕ} {r : Flattened} where
-      pub flat-bind-left : way ≡ BindLeft → Flattens (sideFlat T left right) T 513 states before at known later r → Flattens (nodesFlat T left right) T (mostOf T right) states before at known later r
+      pub flat-bind-left : way ≡ BindLeft → Bound right (readEntries scratch 0 count) states binders before at known later r → Flattens (nodesFlat T left right) T (mostOf T right) states before at known later r
       unfolding sideFlat
       flat-bind-left e f =
           let m = means (j .one) (j .other) _ (j .is) BindLeft e in
-          flattens-as (λ u seen s. sym (as-whole (m .0) (m .1) refl (m .2) u seen s)) (most-some T right) f
+          flattens-as (λ u seen s. sym (as-whole (m .0) (m .1) refl (m .2) u seen s)) (most-some T right) (side-bound ask-bind-left (j .sides .left-seen) f)
 
       pub flat-bind-right : way ≡ BindRight → Flattens (sideFlat T right left) T 513 states before at known later r → Flattens (nodesFlat T left right) T (mostOf T right) states before at known later r
       unfolding sideFlat
@@ -363,8 +366,8 @@ module _ (T : Tables) {left right : ℕ} (g : GoodPair T left right) (s : Scope)
         let c = came (Refused answer) e in
         record { answer = rw c; buffer = rw c (rw long at zeros) }
 
-    pub pairs-planned : {at : ℕ} {later : List ℕ} {r : PlanAnswer} → done ≡ Next at → Delivered mid 4 0 at mid later r
+    pub pairs-planned : {at : ℕ} {later : List ℕ} {r : PlanAnswer} → done ≡ Next at → Closed 4 at mid later r
         → Answered (flatOutcome (flatten (isUnbound s RespectParent) (expr T right) (expr T left) [])) before later r
     pairs-planned {at} e d =
         let c = came (Next at) e in
-        rw (c .is) (wrote-delivered 4 (pairsEntries (c .pairs)) (c .wrote) d)
+        rw (c .is) (wrote-closed 4 (pairsEntries (c .pairs)) (c .wrote) d)

@@ -1,5 +1,5 @@
 -- Two sides as they are: what becomes of them, and the pair of two sides one of which binds.
-use Prim.Native.Nat.{ℕ, _+_, _≤_}
+use Prim.Native.Nat.{ℕ, _+_, _^_, _≤_}
 use mathlib.Core.Path.{_≡_, refl, sym, ap, subst, _∙_}
 use mathlib.Core.Logic.{_⊎_, inl, inr}
 use mathlib.Core.Bool.{Bool, true, false, _||_, not, false≢true}
@@ -23,23 +23,35 @@ use Rattle.pairs.specs.declared.judge.Judgement.{Judgement}
 use Rattle.pairs.specs.declared.judge.Judgement.the-variants as Judged
 use Rattle.pairs.specs.declared.judge.Judgement.the-variants.{Compare, BindLeft, BindRight, Refuse}
 use Rattle.pairs.specs.Pairs.{pair, pairsEntries, Flat, binds}
-use Rattle.pairs.specs.Post.{Scoped, Previewed, Learnt, Came, Flattens, sideFlat, BindAsks, Compared, judgementOf}
-use Rattle.planner.specs.Entries.{readEntries, Wrote}
+use Rattle.pairs.specs.Post.{ReadAsks, Roomy, Scoped, Previewed, Learnt, Came, Flattens, sideFlat, BindAsks, Compared, Bound, judgementOf}
+use Rattle.planner.specs.Entries.{readEntries, Wrote, CopyAsks}
 use Rattle.pairs.proofs.PairShapes.{or-false}
 use Rattle.pairs.proofs.Seen.{plan-scoped, scoped-learnt}
-use Rattle.planner.proofs.buffer.ReadBack.{read-laid, length-read}
-use Rattle.planner.proofs.buffer.Copies.{wrote-append}
+use Rattle.planner.proofs.buffer.ReadBack.{length-read}
+use Rattle.planner.proofs.buffer.Copies.{wrote-append, wrote-long, wrote-read}
 
 -- a preview
-pub ask-preview : {T : Tables} {states : List ℕ} {n : ℕ} → Walks T states n → (start : List ℕ) {binders : List ℕ} → binders ≡ replicate (length start) 0 → length start ≡ 128 → PlanAsks T states n binders
-ask-preview a start e long = record { walks = a; none-bound = rw long at e }
+pub ask-preview : {T : Tables} {states : List ℕ} {n : ℕ} → Walks T states n → (start : List ℕ) {binders : List ℕ} → binders ≡ replicate (length start) 0 → length start ≡ 128 → PlanAsks T states n binders 0
+ask-preview a start e long = record { walks = a; none-bound = rw long at e; low = omega arith }
 
-pub previewed : {T : Tables} {states : List ℕ} {n : ℕ} {before binders scratch : List ℕ} {count : ℕ} {told : Bool} → PlannedBy T states n before binders scratch count → length scratch ≡ 2048
-    → told ≡ bindsAny (readEntries scratch 0 count) → Previewed T states n binders scratch count told
-previewed p long is =
-    let few = p .few in
-    let read = read-laid (p .laid) (omega arith) in
-    record { bound = p .bound; read = read; told = is ∙ ap bindsAny read; few = p .few }
+module _ {T : Tables} {states : List ℕ} {n : ℕ} (a : Walks T states n) {before : List ℕ} (space : Roomy T before) {binders scratch : List ℕ} {count : ℕ} (p : PlannedBy T states n 0 before binders scratch count) where
+  pub ask-read : ReadAsks scratch count
+  ask-read =
+      let s = space .space in
+      let m = p .space in
+      let h = a .node .high in
+      let long = wrote-long (p .wrote) in
+      record { few = p .few; held = omega arith }
+
+  pub previewed : {told : Bool} → told ≡ bindsAny (readEntries scratch 0 count) → Previewed T states n binders scratch count told
+  previewed is =
+      let h = ask-read .held in
+      let long = wrote-long (p .wrote) in
+      let read = wrote-read (p .wrote) (omega arith) in
+      record { bound = p .bound; read = read; told = is ∙ ap bindsAny read; asks = ask-read }
+
+pub roomy-kept : {T : Tables} {before after : List ℕ} → Roomy T before → length after ≡ length before → Roomy T after
+roomy-kept r e = record { space = rw e (r .space) }
 
 -- the same of another definition
 pub flattens-as : {f g : (ℕ → Bool) → List ℕ → Flat} {T : Tables} {most bound : ℕ} {states before : List ℕ} {at : ℕ} {later after : List ℕ} {r : Flattened}
@@ -63,11 +75,17 @@ module _ (T : Tables) (w : WellFormed T) {states : List ℕ} {n : ℕ} (v : Node
   binds-told u seen s = is ∙ ap introducesBinding (plan-scoped T w u seen states s n v)
 
 -- one side binds
+pub side-wrote : {before mid after : List ℕ} {at value next : ℕ} {es : List Entry} → Wrote before at (entry 7 value 1 0 ∷ []) mid (at + 1) → Wrote mid (at + 1) es after next
+    → {states binders known : List ℕ} → Learnt states binders known → Bound value es states binders before at known after (Next next)
+side-wrote {next = next} a b l = record { next = next; is = refl; wrote = wrote-append a b; learnt = l }
+
+pub ask-copy : {scratch : List ℕ} {count at : ℕ} → ReadAsks scratch count → at ≤ 2 ^ 32 → CopyAsks scratch (at + 1) count
+ask-copy r low = record { held = r .held; few = r .few; low = omega arith }
+
 pub side-bound : {T : Tables} {states : List ℕ} {pattern value at : ℕ} → BindAsks T states pattern value at → {binders scratch : List ℕ} {count : ℕ} {told : Bool} → Previewed T states pattern binders scratch count told
-    → {before mid later : List ℕ} {next : ℕ} → Wrote before at (entry 7 value 1 0 ∷ []) mid (at + 1) → Wrote mid (at + 1) (readEntries scratch 0 count) later next
-    → {known : List ℕ} → Learnt states binders known → Flattens (sideFlat T pattern value) T 513 states before at known later (Next next)
+    → {before known later : List ℕ} {r : Flattened} → Bound value (readEntries scratch 0 count) states binders before at known later r → Flattens (sideFlat T pattern value) T 513 states before at known later r
 unfolding sideFlat pairsEntries
-side-bound {T} {states} {pattern} {value} {at} a {binders} {scratch} {count} p {before} {mid} {later} {next} first rest {known} l = record {
+side-bound {T} {states} {pattern} {value} {at} a {binders} {scratch} {count} p {before} {known} {later} b = rw (b .is) (record {
   each = λ u seen s.
       let w = a .pair-ok .table in
       let read : readEntries scratch 0 count ≡ entries (plan u (expr T pattern) seen) 0 = p .read ∙ ap (λ (q : DestructuringPlan). entries q 0) (plan-scoped T w u seen states s pattern (a .pair-ok .first)) in
@@ -78,11 +96,11 @@ side-bound {T} {states} {pattern} {value} {at} a {binders} {scratch} {count} p {
         pairs = pair (expr T value) (plan u (expr T pattern) seen) ∷ [];
         newlyBound = after u (expr T pattern) seen;
         is = refl;
-        wrote = subst (λ (es : List Entry). Wrote before at es later next) all (wrote-append first rest);
-        few = let n = ap length all in let k = length-read scratch 0 count in let f = p .few in omega arith;
-        scoped = scoped-learnt T w pattern (a .pair-ok .first) (p .bound) l u seen s;
+        wrote = subst (λ (es : List Entry). Wrote before at es later (b .next)) all (b .wrote);
+        few = let n = ap length all in let k = length-read scratch 0 count in let f = p .asks .few in omega arith;
+        scoped = scoped-learnt T w pattern (a .pair-ok .first) (p .bound) (b .learnt) u seen s;
       };
-}
+})
 
 -- neither does
 pub sides-compared : {before mid after : List ℕ} {at left right : ℕ} → Wrote before at (entry 7 right 1 0 ∷ []) mid (at + 1) → Wrote mid (at + 1) (entry 3 left 0 0 ∷ []) after (at + 1 + 1)

@@ -8,13 +8,13 @@ use mathlib.Core.Option as Option
 use lib.Dec.{eqb, leb}
 use lib.ListN.{length, getD, replicate}
 use Rattle.literal.specs.Literal.{Literal}
-use Rattle.table.specs.Tables.{Tables, kindOf, firstOf, countOf, childAt}
+use Rattle.table.specs.Tables.{Tables, nodeCount, kindOf, firstOf, countOf, childAt}
 use Rattle.table.specs.Decode.{isWildcard, expr, items, fields, literalAt, fieldsOf}
 use Rattle.table.specs.Expr.{parts, partsAll, partsFields}
 use Rattle.table.specs.Sound.{Node, WellFormed}
 use Rattle.planner.specs.declared.PlanAnswer.the-variants.{ArraySizeMismatch, ObjectFieldCountMismatch}
 use Rattle.planner.specs.Plan.{fresh, plan, after}
-use Rattle.planner.specs.Layout.{entry, entries, introducesBinding, Slot}
+use Rattle.planner.specs.Layout.{Entry, entry, entries, introducesBinding, Slot}
 use Rattle.planner.specs.code.Passes.{unboundIn, bindersOf, keyNode, valueNode, orderOf}
 use Rattle.planner.specs.code.Post.{States, OrderedBy}
 use Rattle.pairs.specs.declared.flatten.Flattened.{Flattened}
@@ -35,7 +35,11 @@ use Rattle.pairs.specs.Pairs.{Pair, pair, pairsEntries, Flat, failed, pa
 -- entries that are read back from a scratch
 pub record ReadAsks (scratch : List ℕ) (count : ℕ) : Type 0 where
   pub few : count ≤ 512
-  pub long : length scratch ≡ 2048
+  pub held : count * 4 ≤ length scratch
+
+-- a scratch with space for an entry of each node
+pub record Roomy (T : Tables) (scratch : List ℕ) : Type 0 where
+  pub space : nodeCount T * 4 ≤ length scratch
 
 -- `states` calls the names unbound that the scope does and that are not planned so far, and tells `_`
 pub record Scoped (T : Tables) (unbound : ℕ → Bool) (seen states : List ℕ) : Type 0 where
@@ -47,7 +51,7 @@ pub record Previewed (T : Tables) (states : List ℕ) (n : ℕ) (binders scratch
   pub bound : binders ≡ bindersOf (unboundIn states) (expr T n) (replicate 128 0)
   pub read : readEntries scratch 0 count ≡ entries (plan (unboundIn states) (expr T n) []) 0
   pub told : binds ≡ introducesBinding (plan (unboundIn states) (expr T n) [])
-  pub few : count ≤ 512
+  pub asks : ReadAsks scratch count
 
 -- a name with a binder becomes known, `_` stays `_`
 abbrev pub learntState : ℕ → ℕ → ℕ
@@ -87,15 +91,16 @@ pub record SidesAsks (T : Tables) (states : List ℕ) (left right : ℕ) : Type 
   pub pair-ok : GoodPair T left right
   pub states-ok : States T states
 
-pub record SidesTold (T : Tables) (states : List ℕ) (left right : ℕ) (one other : Bool) : Type 0 where
-  pub left-told : one ≡ introducesBinding (plan (unboundIn states) (expr T left) [])
+-- which of the sides binds; the left one's plan stays in the scratch
+pub record SidesTold (T : Tables) (states : List ℕ) (left right : ℕ) (binders scratch : List ℕ) (count : ℕ) (one other : Bool) : Type 0 where
+  pub left-seen : Previewed T states left binders scratch count one
   pub right-told : other ≡ introducesBinding (plan (unboundIn states) (expr T right) [])
 
--- which of the sides binds, and what becomes of them
-pub record Judges (T : Tables) (states : List ℕ) (left right : ℕ) (r : Judgement) : Type 0 where
+-- and what becomes of them
+pub record Judges (T : Tables) (states : List ℕ) (left right : ℕ) (binders scratch : List ℕ) (count : ℕ) (r : Judgement) : Type 0 where
   pub one : Bool
   pub other : Bool
-  pub sides : SidesTold T states left right one other
+  pub sides : SidesTold T states left right binders scratch count one other
   pub is : r ≡ judgementOf one other (pairingOf (shapeOf (expr T left)) (shapeOf (expr T right)))
 
 -- the node of an object's last value under a literal, or 0
@@ -150,6 +155,13 @@ pub record Compared (left right : ℕ) (before : List ℕ) (at : ℕ) (after : L
   pub next : ℕ
   pub is : r ≡ Next next
   pub wrote : Wrote before at (entry 7 right 1 0 ∷ entry 3 left 0 0 ∷ []) after next
+
+-- the entries of a side that is bound, and its names known
+pub record Bound (value : ℕ) (es : List Entry) (states₀ binders before : List ℕ) (at : ℕ) (states after : List ℕ) (r : Flattened) : Type 0 where
+  pub next : ℕ
+  pub is : r ≡ Next next
+  pub wrote : Wrote before at (entry 7 value 1 0 ∷ es) after next
+  pub learnt : Learnt states₀ binders states
 
 -- what comes of a pair of sides
 pub record Reached (o : Flat) (T : Tables) (unbound : ℕ → Bool) (most : ℕ) (before : List ℕ) (at : ℕ) (states after : List ℕ) (r : ℕ) : Type 0 where

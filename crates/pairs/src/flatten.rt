@@ -5,10 +5,11 @@ ghost use Rattle.scope.specs.declared.ScopingMode.the-variants.{RespectParent};
 ghost use Rattle.scope.specs.Scope.{isUnbound};
 ghost use Rattle.table.specs.Tables.{tables};
 ghost use Rattle.table.specs.Decode.{expr};
+ghost use Rattle.planner.specs.Entries.{readEntries};
 ghost use Rattle.planner.specs.Operations.{Answered};
 ghost use Rattle.checks.specs.Post.{GoodPair};
 ghost use Rattle.pairs.specs.Pairs.{flatten, flatOutcome};
-ghost use Rattle.pairs.specs.Post.{Compared, BindAsks, FlattenAsks, ArraysAsks, ByKeyAsks, ItemsAsks, ObjectFieldsAsks, Flattens, sideFlat, nodesFlat, arraysFlat, objectsFlat, itemsFlat, mostOf, mostItems};
+ghost use Rattle.pairs.specs.Post.{ReadAsks, Roomy, Compared, Bound, BindAsks, FlattenAsks, ArraysAsks, ByKeyAsks, ItemsAsks, ObjectFieldsAsks, Flattens, sideFlat, nodesFlat, arraysFlat, objectsFlat, itemsFlat, mostOf, mostItems};
 use crate::judge::Judgement;
 use crate::judge::judge;
 use crate::keys::Keys;
@@ -44,7 +45,26 @@ fn compare_sides(plan: &mut [u32], at: usize, left: u32, right: u32) -> Flattene
     Flattened::Next { at: at + 2 }
 }
 
-// One side binds to the other: their pair, and the names that it binds are known from now on.
+// A side, whose plan is the first entries of the scratch, binds to the other: their pair. The names that it binds are known from now on.
+fn bind_planned(
+    states: &mut [u8; 128],
+    value: u32,
+    binders: &[u32; 128],
+    scratch: &[u32],
+    count: usize,
+    plan: &mut [u32],
+    at: usize,
+) -> Flattened
+    requires { ⌜ ReadAsks (now scratch) count × (at ≤ 2 ^ 32) ⌝ }
+    ensures { λ r. ⌜ Bound value (readEntries (now (scratch .entry)) 0 count) (now (states .entry)) (now (binders .entry)) (now (plan .entry)) at (now (states .exit)) (now (plan .exit)) r ⌝ }
+{
+    put_entry(plan, at, 7, value, 1, 0);
+    let next = copy_entries(plan, at + 1, scratch, count);
+    learn_names(states, binders);
+    Flattened::Next { at: next }
+}
+
+// A side that binds to the other, its plan still to be made.
 fn bind_side(
     nodes: &[u32],
     children: &[u32],
@@ -56,11 +76,11 @@ fn bind_side(
     pattern: u32,
     value: u32,
     binders: &mut [u32; 128],
-    scratch: &mut [u32; 2048],
+    scratch: &mut [u32],
     plan: &mut [u32],
     at: usize,
 ) -> Flattened
-    requires { ⌜ BindAsks (tables (now nodes) (now children) (now numbers) (now names) (now strings) (now text)) (now states) pattern value at ⌝ }
+    requires { ⌜ BindAsks (tables (now nodes) (now children) (now numbers) (now names) (now strings) (now text)) (now states) pattern value at × Roomy (tables (now nodes) (now children) (now numbers) (now names) (now strings) (now text)) (now scratch) ⌝ }
     ensures { λ r. ⌜ Flattens (sideFlat (tables (now (nodes .entry)) (now (children .entry)) (now (numbers .entry)) (now (names .entry)) (now (strings .entry)) (now (text .entry))) pattern value) (tables (now (nodes .entry)) (now (children .entry)) (now (numbers .entry)) (now (names .entry)) (now (strings .entry)) (now (text .entry))) 513 (now (states .entry)) (now (plan .entry)) at (now (states .exit)) (now (plan .exit)) r ⌝ }
 {
     let planned = preview_binding_plan(
@@ -75,10 +95,7 @@ fn bind_side(
         binders,
         scratch,
     );
-    put_entry(plan, at, 7, value, 1, 0);
-    let next = copy_entries(plan, at + 1, scratch, planned.count);
-    learn_names(states, binders);
-    Flattened::Next { at: next }
+    bind_planned(states, value, binders, scratch, planned.count, plan, at)
 }
 
 // Two sides in pairs, from entry `at` on.
@@ -93,14 +110,14 @@ fn flatten(
     left: u32,
     right: u32,
     binders: &mut [u32; 128],
-    scratch: &mut [u32; 2048],
+    scratch: &mut [u32],
     plan: &mut [u32],
     at: usize,
 ) -> Flattened
-    requires { ⌜ FlattenAsks (tables (now nodes) (now children) (now numbers) (now names) (now strings) (now text)) (now states) left right at ⌝ }
+    requires { ⌜ FlattenAsks (tables (now nodes) (now children) (now numbers) (now names) (now strings) (now text)) (now states) left right at × Roomy (tables (now nodes) (now children) (now numbers) (now names) (now strings) (now text)) (now scratch) ⌝ }
     ensures { λ r. ⌜ Flattens (nodesFlat (tables (now (nodes .entry)) (now (children .entry)) (now (numbers .entry)) (now (names .entry)) (now (strings .entry)) (now (text .entry))) left right) (tables (now (nodes .entry)) (now (children .entry)) (now (numbers .entry)) (now (names .entry)) (now (strings .entry)) (now (text .entry))) (mostOf (tables (now (nodes .entry)) (now (children .entry)) (now (numbers .entry)) (now (names .entry)) (now (strings .entry)) (now (text .entry))) right) (now (states .entry)) (now (plan .entry)) at (now (states .exit)) (now (plan .exit)) r ⌝ }
 {
-    match judge(
+    let verdict = judge(
         nodes,
         children,
         numbers,
@@ -112,20 +129,17 @@ fn flatten(
         right,
         binders,
         scratch,
-    ) {
+    );
+    let count = verdict.count;
+    let way = verdict.way;
+    match way {
         Judgement::Compare => return compare_sides(plan, at, left, right),
-        Judgement::BindLeft => return bind_side(
-            nodes,
-            children,
-            numbers,
-            names,
-            strings,
-            text,
+        Judgement::BindLeft => return bind_planned(
             states,
-            left,
             right,
             binders,
             scratch,
+            count,
             plan,
             at,
         ),
@@ -190,11 +204,11 @@ fn flatten_arrays(
     left: u32,
     right: u32,
     binders: &mut [u32; 128],
-    scratch: &mut [u32; 2048],
+    scratch: &mut [u32],
     plan: &mut [u32],
     at: usize,
 ) -> Flattened
-    requires { ⌜ ArraysAsks (tables (now nodes) (now children) (now numbers) (now names) (now strings) (now text)) (now states) left right at ⌝ }
+    requires { ⌜ ArraysAsks (tables (now nodes) (now children) (now numbers) (now names) (now strings) (now text)) (now states) left right at × Roomy (tables (now nodes) (now children) (now numbers) (now names) (now strings) (now text)) (now scratch) ⌝ }
     ensures { λ r. ⌜ Flattens (arraysFlat (tables (now (nodes .entry)) (now (children .entry)) (now (numbers .entry)) (now (names .entry)) (now (strings .entry)) (now (text .entry))) left right) (tables (now (nodes .entry)) (now (children .entry)) (now (numbers .entry)) (now (names .entry)) (now (strings .entry)) (now (text .entry))) (mostOf (tables (now (nodes .entry)) (now (children .entry)) (now (numbers .entry)) (now (names .entry)) (now (strings .entry)) (now (text .entry))) right) (now (states .entry)) (now (plan .entry)) at (now (states .exit)) (now (plan .exit)) r ⌝ }
 {
     let size = count_of(nodes, left);
@@ -237,11 +251,11 @@ fn flatten_items(
     rights: usize,
     count: usize,
     binders: &mut [u32; 128],
-    scratch: &mut [u32; 2048],
+    scratch: &mut [u32],
     plan: &mut [u32],
     at: usize,
 ) -> Flattened
-    requires { ⌜ ItemsAsks (tables (now nodes) (now children) (now numbers) (now names) (now strings) (now text)) (now states) lefts parent rights count at ⌝ }
+    requires { ⌜ ItemsAsks (tables (now nodes) (now children) (now numbers) (now names) (now strings) (now text)) (now states) lefts parent rights count at × Roomy (tables (now nodes) (now children) (now numbers) (now names) (now strings) (now text)) (now scratch) ⌝ }
     ensures { λ r. ⌜ Flattens (itemsFlat (tables (now (nodes .entry)) (now (children .entry)) (now (numbers .entry)) (now (names .entry)) (now (strings .entry)) (now (text .entry))) lefts rights count) (tables (now (nodes .entry)) (now (children .entry)) (now (numbers .entry)) (now (names .entry)) (now (strings .entry)) (now (text .entry))) (mostItems (tables (now (nodes .entry)) (now (children .entry)) (now (numbers .entry)) (now (names .entry)) (now (strings .entry)) (now (text .entry))) rights count) (now (states .entry)) (now (plan .entry)) at (now (states .exit)) (now (plan .exit)) r ⌝ }
 {
     let mut left_place = lefts;
@@ -287,11 +301,11 @@ fn flatten_objects(
     left: u32,
     right: u32,
     binders: &mut [u32; 128],
-    scratch: &mut [u32; 2048],
+    scratch: &mut [u32],
     plan: &mut [u32],
     at: usize,
 ) -> Flattened
-    requires { ⌜ ByKeyAsks (tables (now nodes) (now children) (now numbers) (now names) (now strings) (now text)) (now states) left right at ⌝ }
+    requires { ⌜ ByKeyAsks (tables (now nodes) (now children) (now numbers) (now names) (now strings) (now text)) (now states) left right at × Roomy (tables (now nodes) (now children) (now numbers) (now names) (now strings) (now text)) (now scratch) ⌝ }
     ensures { λ r. ⌜ Flattens (objectsFlat (tables (now (nodes .entry)) (now (children .entry)) (now (numbers .entry)) (now (names .entry)) (now (strings .entry)) (now (text .entry))) left right) (tables (now (nodes .entry)) (now (children .entry)) (now (numbers .entry)) (now (names .entry)) (now (strings .entry)) (now (text .entry))) (mostOf (tables (now (nodes .entry)) (now (children .entry)) (now (numbers .entry)) (now (names .entry)) (now (strings .entry)) (now (text .entry))) right) (now (states .entry)) (now (plan .entry)) at (now (states .exit)) (now (plan .exit)) r ⌝ }
 {
     let mut order = [0u32; 256];
@@ -341,11 +355,11 @@ fn flatten_fields(
     order: &[u32; 256],
     total: usize,
     binders: &mut [u32; 128],
-    scratch: &mut [u32; 2048],
+    scratch: &mut [u32],
     plan: &mut [u32],
     at: usize,
 ) -> Flattened
-    requires { ⌜ ObjectFieldsAsks (tables (now nodes) (now children) (now numbers) (now names) (now strings) (now text)) (now states) left right (now order) total at ⌝ }
+    requires { ⌜ ObjectFieldsAsks (tables (now nodes) (now children) (now numbers) (now names) (now strings) (now text)) (now states) left right (now order) total at × Roomy (tables (now nodes) (now children) (now numbers) (now names) (now strings) (now text)) (now scratch) ⌝ }
     ensures { λ r. ⌜ Flattens (objectsFlat (tables (now (nodes .entry)) (now (children .entry)) (now (numbers .entry)) (now (names .entry)) (now (strings .entry)) (now (text .entry))) left right) (tables (now (nodes .entry)) (now (children .entry)) (now (numbers .entry)) (now (names .entry)) (now (strings .entry)) (now (text .entry))) (mostOf (tables (now (nodes .entry)) (now (children .entry)) (now (numbers .entry)) (now (names .entry)) (now (strings .entry)) (now (text .entry))) right) (now (states .entry)) (now (plan .entry)) at (now (states .exit)) (now (plan .exit)) r ⌝ }
 {
     let mut place = first_of(nodes, right) as usize;
@@ -388,7 +402,8 @@ fn flatten_fields(
     Flattened::Next { at: here }
 }
 
-fn deliver_pairs(
+// The pairs of two sides of a good table, in the lent buffer. The scratch has space for an entry of each node.
+pub fn flatten_assignment_pairs(
     nodes: &[u32],
     children: &[u32],
     numbers: &[u64],
@@ -399,10 +414,10 @@ fn deliver_pairs(
     left: u32,
     right: u32,
     binders: &mut [u32; 128],
-    scratch: &mut [u32; 2048],
+    scratch: &mut [u32],
     plan: &mut [u32],
 ) -> PlanAnswer
-    requires { ⌜ GoodPair (tables (now nodes) (now children) (now numbers) (now names) (now strings) (now text)) left right ⌝ }
+    requires { ⌜ GoodPair (tables (now nodes) (now children) (now numbers) (now names) (now strings) (now text)) left right × Roomy (tables (now nodes) (now children) (now numbers) (now names) (now strings) (now text)) (now scratch) ⌝ }
     ensures { λ r. ⌜ Answered (flatOutcome (flatten (isUnbound scope RespectParent) (expr (tables (now (nodes .entry)) (now (children .entry)) (now (numbers .entry)) (now (names .entry)) (now (strings .entry)) (now (text .entry))) right) (expr (tables (now (nodes .entry)) (now (children .entry)) (now (numbers .entry)) (now (names .entry)) (now (strings .entry)) (now (text .entry))) left) [])) (now (plan .entry)) (now (plan .exit)) r ⌝ }
 {
     let mut states = name_states(names, text, scope, ScopingMode::RespectParent);
@@ -427,38 +442,4 @@ fn deliver_pairs(
             return answer;
         }
     }
-}
-
-// The pairs of two sides of a good table, in the lent buffer.
-pub fn flatten_assignment_pairs(
-    nodes: &[u32],
-    children: &[u32],
-    numbers: &[u64],
-    names: &[u32],
-    strings: &[u8],
-    text: &[u8],
-    scope: Scope,
-    left: u32,
-    right: u32,
-    plan: &mut [u32],
-) -> PlanAnswer
-    requires { ⌜ GoodPair (tables (now nodes) (now children) (now numbers) (now names) (now strings) (now text)) left right ⌝ }
-    ensures { λ r. ⌜ Answered (flatOutcome (flatten (isUnbound scope RespectParent) (expr (tables (now (nodes .entry)) (now (children .entry)) (now (numbers .entry)) (now (names .entry)) (now (strings .entry)) (now (text .entry))) right) (expr (tables (now (nodes .entry)) (now (children .entry)) (now (numbers .entry)) (now (names .entry)) (now (strings .entry)) (now (text .entry))) left) [])) (now (plan .entry)) (now (plan .exit)) r ⌝ }
-{
-    let mut binders = [0u32; 128];
-    let mut scratch = [0u32; 2048];
-    deliver_pairs(
-        nodes,
-        children,
-        numbers,
-        names,
-        strings,
-        text,
-        scope,
-        left,
-        right,
-        &mut binders,
-        &mut scratch,
-        plan,
-    )
 }

@@ -6,7 +6,7 @@ ghost use Rattle.table.specs.Decode.{expr};
 ghost use Rattle.checks.specs.Post.{GoodPair};
 ghost use Rattle.pairs.specs.declared.judge.Pairing.the-variants.{Whole};
 ghost use Rattle.pairs.specs.Pairs.{shapeOf};
-ghost use Rattle.pairs.specs.Post.{pairingOf, judgementOf, ObjectsAsks, SidesAsks, Judges};
+ghost use Rattle.pairs.specs.Post.{pairingOf, judgementOf, ObjectsAsks, Roomy, SidesAsks, Judges};
 use crate::keys::literal_keys;
 use crate::preview::preview_sides;
 use table::reading::kind_of;
@@ -27,6 +27,12 @@ pub(crate) enum Judgement {
     Items,
     ByKey,
     Refuse,
+}
+
+// A judgement, and how many entries the left side's plan has.
+pub(crate) struct Verdict {
+    pub way: Judgement,
+    pub count: usize,
 }
 
 // Two objects go by their keys if all of these are literals.
@@ -139,7 +145,7 @@ fn judge_sides(
     }
 }
 
-// What becomes of two nodes, by the names that are known.
+// What becomes of two nodes, by the names that are known. The left one's plan and binders stay.
 pub(crate) fn judge(
     nodes: &[u32],
     children: &[u32],
@@ -151,10 +157,10 @@ pub(crate) fn judge(
     left: u32,
     right: u32,
     binders: &mut [u32; 128],
-    scratch: &mut [u32; 2048],
-) -> Judgement
-    requires { ⌜ SidesAsks (tables (now nodes) (now children) (now numbers) (now names) (now strings) (now text)) (now states) left right ⌝ }
-    ensures { λ r. ⌜ Judges (tables (now (nodes .entry)) (now (children .entry)) (now (numbers .entry)) (now (names .entry)) (now (strings .entry)) (now (text .entry))) (now (states .entry)) left right r ⌝ }
+    scratch: &mut [u32],
+) -> Verdict
+    requires { ⌜ SidesAsks (tables (now nodes) (now children) (now numbers) (now names) (now strings) (now text)) (now states) left right × Roomy (tables (now nodes) (now children) (now numbers) (now names) (now strings) (now text)) (now scratch) ⌝ }
+    ensures { λ r. ⌜ Judges (tables (now (nodes .entry)) (now (children .entry)) (now (numbers .entry)) (now (names .entry)) (now (strings .entry)) (now (text .entry))) (now (states .entry)) left right (now (binders .exit)) (now (scratch .exit)) (r .count) (r .way) ⌝ }
 {
     let sides = preview_sides(
         nodes,
@@ -169,7 +175,7 @@ pub(crate) fn judge(
         binders,
         scratch,
     );
-    judge_sides(
+    let way = judge_sides(
         nodes,
         children,
         numbers,
@@ -180,5 +186,9 @@ pub(crate) fn judge(
         right,
         sides.left,
         sides.right,
-    )
+    );
+    Verdict {
+        way,
+        count: sides.count,
+    }
 }

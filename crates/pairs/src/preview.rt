@@ -5,20 +5,21 @@ ghost use Rattle.table.specs.Tables.{tables};
 ghost use Rattle.planner.specs.Layout.{bindsAny};
 ghost use Rattle.planner.specs.Entries.{readEntries};
 ghost use Rattle.planner.specs.code.Post.{Walks};
-ghost use Rattle.pairs.specs.Post.{ReadAsks, Previewed, LearntAt, Learnt, SidesAsks, SidesTold};
+ghost use Rattle.pairs.specs.Post.{ReadAsks, Previewed, LearntAt, Learnt, Roomy, SidesAsks, SidesTold};
 use planner::buffer::clear;
 use planner::destructuring::create_destructuring_plan_with_tracking;
 
 // A side's plan: how many entries it has, and whether one of them binds.
-pub(crate) struct Preview {
+pub struct Preview {
     pub count: usize,
     pub binds: bool,
 }
 
-// Which of two sides binds.
-pub(crate) struct Sides {
+// Which of two sides binds, and how many entries the left one's plan has.
+pub struct Sides {
     pub left: bool,
     pub right: bool,
+    pub count: usize,
 }
 
 // Does one of the first entries bind or ignore?
@@ -41,7 +42,7 @@ pub fn introduces_binding(scratch: &[u32], count: usize) -> bool
 }
 
 // The plan of a side by the states alone, in the scratch.
-pub(crate) fn preview_binding_plan(
+pub fn preview_binding_plan(
     nodes: &[u32],
     children: &[u32],
     numbers: &[u64],
@@ -51,9 +52,9 @@ pub(crate) fn preview_binding_plan(
     states: &[u8; 128],
     node: u32,
     binders: &mut [u32; 128],
-    scratch: &mut [u32; 2048],
+    scratch: &mut [u32],
 ) -> Preview
-    requires { ⌜ Walks (tables (now nodes) (now children) (now numbers) (now names) (now strings) (now text)) (now states) node ⌝ }
+    requires { ⌜ Walks (tables (now nodes) (now children) (now numbers) (now names) (now strings) (now text)) (now states) node × Roomy (tables (now nodes) (now children) (now numbers) (now names) (now strings) (now text)) (now scratch) ⌝ }
     ensures { λ r. ⌜ Previewed (tables (now (nodes .entry)) (now (children .entry)) (now (numbers .entry)) (now (names .entry)) (now (strings .entry)) (now (text .entry))) (now (states .entry)) node (now (binders .exit)) (now (scratch .exit)) (r .count) (r .binds) ⌝ }
 {
     clear(binders);
@@ -68,13 +69,14 @@ pub(crate) fn preview_binding_plan(
         node,
         binders,
         scratch,
+        0,
     );
     let binds = introduces_binding(scratch, count);
     Preview { count, binds }
 }
 
-// Neither side's preview sees the other's names.
-pub(crate) fn preview_sides(
+// Neither side's preview sees the other's names. The left one's plan and binders stay.
+pub fn preview_sides(
     nodes: &[u32],
     children: &[u32],
     numbers: &[u64],
@@ -85,23 +87,11 @@ pub(crate) fn preview_sides(
     left: u32,
     right: u32,
     binders: &mut [u32; 128],
-    scratch: &mut [u32; 2048],
+    scratch: &mut [u32],
 ) -> Sides
-    requires { ⌜ SidesAsks (tables (now nodes) (now children) (now numbers) (now names) (now strings) (now text)) (now states) left right ⌝ }
-    ensures { λ r. ⌜ SidesTold (tables (now (nodes .entry)) (now (children .entry)) (now (numbers .entry)) (now (names .entry)) (now (strings .entry)) (now (text .entry))) (now (states .entry)) left right (r .left) (r .right) ⌝ }
+    requires { ⌜ SidesAsks (tables (now nodes) (now children) (now numbers) (now names) (now strings) (now text)) (now states) left right × Roomy (tables (now nodes) (now children) (now numbers) (now names) (now strings) (now text)) (now scratch) ⌝ }
+    ensures { λ r. ⌜ SidesTold (tables (now (nodes .entry)) (now (children .entry)) (now (numbers .entry)) (now (names .entry)) (now (strings .entry)) (now (text .entry))) (now (states .entry)) left right (now (binders .exit)) (now (scratch .exit)) (r .count) (r .left) (r .right) ⌝ }
 {
-    let one = preview_binding_plan(
-        nodes,
-        children,
-        numbers,
-        names,
-        strings,
-        text,
-        states,
-        left,
-        binders,
-        scratch,
-    );
     let other = preview_binding_plan(
         nodes,
         children,
@@ -114,9 +104,22 @@ pub(crate) fn preview_sides(
         binders,
         scratch,
     );
+    let one = preview_binding_plan(
+        nodes,
+        children,
+        numbers,
+        names,
+        strings,
+        text,
+        states,
+        left,
+        binders,
+        scratch,
+    );
     Sides {
         left: one.binds,
         right: other.binds,
+        count: one.count,
     }
 }
 

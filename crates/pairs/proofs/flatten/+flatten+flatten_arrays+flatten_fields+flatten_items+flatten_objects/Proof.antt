@@ -1,8 +1,9 @@
+use Rattle.pairs.proofs.PairSides.{roomy-kept}
 use Prim.Native.Nat.{_-_, _*_}
 use Rattle.table.specs.Tables.{tables}
 use Rattle.planner.proofs.destructuring.SecondPass.{object-falls, child-falls}
-use Rattle.pairs.proofs.FlatNodes.{ask-sides, at-low, ask-bind-left, ask-bind-right, flat-compared, flat-bind-left, flat-bind-right, ask-arrays, ask-keyed, flat-by-items, flat-by-keys, flat-refused, arrays-differ, ask-items, arrays-items, ask-fields, objects-refused}
-use Rattle.pairs.proofs.FlatLoops.{PairingItems, items-start, items-left-fits, items-right-fits, items-child, items-below, items-on, items-fail, items-over, PairingFields, fields-start, fields-fit, fields-ask, fields-child, fields-below, fields-on, fields-fail, fields-over, parts-fall}
+use Rattle.pairs.proofs.FlatNodes.{ask-sides, at-low, ask-bound, ask-bind-right, flat-compared, flat-bind-left, flat-bind-right, ask-arrays, ask-keyed, flat-by-items, flat-by-keys, flat-refused, arrays-differ, ask-items, arrays-items, ask-fields, objects-refused}
+use Rattle.pairs.proofs.FlatLoops.{Kept, kept-start, kept-on, PairingItems, items-start, items-left-fits, items-right-fits, items-child, items-below, items-on, items-fail, items-over, PairingFields, fields-start, fields-fit, fields-ask, fields-child, fields-below, fields-on, fields-fail, fields-over, parts-fall}
 use borrow.Author.Needs.{needs}
 use Prim.Native.Nat.{ℕ, _<_}
 use borrow.Fn.Kinds.{In}
@@ -22,10 +23,11 @@ use Rattle.pairs.proofs.flatten.+flatten+flatten_arrays+flatten_fields+
 use Rattle.pairs.proofs.flatten.flatten_objects.Reads as flatten-objects
 use Rattle.pairs.proofs.flatten.flatten_objects.Kinds as flatten-objects-kinds
 use Rattle.pairs.proofs.flatten.+flatten+flatten_arrays+flatten_fields+flatten_items+flatten_objects.Lts-flatten_objects as flatten-objects-lts
+use Rattle.pairs.proofs.flatten.bind_planned.Reads as bind-planned-reads
 use Rattle.pairs.proofs.flatten.bind_side.Reads as bind-side-reads
 use Rattle.pairs.proofs.flatten.compare_sides.Reads as compare-sides-reads
-use Rattle.pairs.proofs.keys.field_sides.Reads as field-sides-reads
 use Rattle.pairs.proofs.judge.judge.Reads as judge-reads
+use Rattle.pairs.proofs.keys.field_sides.Reads as field-sides-reads
 use Rattle.pairs.proofs.keys.match_keys.Reads as match-keys-reads
 use Rattle.table.proofs.reading.child_at.Reads as child-at-reads
 use Rattle.table.proofs.reading.count_of.Reads as count-of-reads
@@ -123,7 +125,7 @@ flatten-objects-below t =
     flatten-objects.Pre
 
 abbrev flatten-calls : ℕ → flatten-lts.Claims
-flatten-calls t = (judge-reads.Asked, judge-reads.Learnt, compare-sides-reads.Asked, compare-sides-reads.Learnt, bind-side-reads.Asked, bind-side-reads.Learnt, flatten-arrays-below t, flatten-arrays.Post, flatten-objects-below t, flatten-objects.Post)
+flatten-calls t = (judge-reads.Asked, judge-reads.Learnt, compare-sides-reads.Asked, compare-sides-reads.Learnt, bind-planned-reads.Asked, bind-planned-reads.Learnt, bind-side-reads.Asked, bind-side-reads.Learnt, flatten-arrays-below t, flatten-arrays.Post, flatten-objects-below t, flatten-objects.Post)
 
 abbrev flatten-arrays-calls : ℕ → flatten-arrays-lts.Claims
 flatten-arrays-calls t = (count-of-reads.Asked, count-of-reads.Learnt, first-of-reads.Asked, first-of-reads.Learnt, flatten-items-below t, flatten-items.Post)
@@ -137,299 +139,341 @@ flatten-items-calls t = (child-at-reads.Asked, child-at-reads.Learnt, flatten-be
 abbrev flatten-objects-calls : ℕ → flatten-objects-lts.Claims
 flatten-objects-calls t = (match-keys-reads.Asked, match-keys-reads.Learnt, flatten-fields-below t, flatten-fields.Post)
 
--- src/pairs.rt:558:11
+-- src/flatten.rt:120:9
 flatten-judge-requires : (t : ℕ) → flatten-lts.Need-judge-requires (flatten-calls t) (flatten-at t) flatten.Post
-flatten-judge-requires t c κs = search (ask-sides, needs)
+flatten-judge-requires t c κs = (search (ask-sides, needs), search needs)
 
--- src/pairs.rt:559:52
+-- src/flatten.rt:136:52
 flatten-enum-told : (t : ℕ) → flatten-lts.Need-enum-told (flatten-calls t) (flatten-at t) flatten.Post
 flatten-enum-told t c = search needs
 
--- src/pairs.rt:559:31
+-- src/flatten.rt:136:31
 flatten-compare-sides-requires : (t : ℕ) → flatten-lts.Need-compare-sides-requires (flatten-calls t) (flatten-at t) flatten.Post
 flatten-compare-sides-requires t c κs = search (at-low, needs)
 
--- src/pairs.rt:559:31
+-- src/flatten.rt:136:31
 flatten-same-length : (t : ℕ) → flatten-lts.Need-same-length (flatten-calls t) (flatten-at t) flatten.Post
 flatten-same-length t c = search needs
 
--- src/pairs.rt:559:31
-flatten-returns : (t : ℕ) → flatten-lts.Need-returns (flatten-calls t) (flatten-at t) flatten.Post
-flatten-returns t c = search (flat-compared, needs)
-
--- src/pairs.rt:560:97
-flatten-enum-told-2 : (t : ℕ) → flatten-lts.Need-enum-told-2 (flatten-calls t) (flatten-at t) flatten.Post
-flatten-enum-told-2 t c = search needs
-
--- src/pairs.rt:560:32
-flatten-bind-side-requires : (t : ℕ) → flatten-lts.Need-bind-side-requires (flatten-calls t) (flatten-at t) flatten.Post
-flatten-bind-side-requires t c κs = search (ask-bind-left, needs)
-
--- src/pairs.rt:560:32
+-- src/flatten.rt:136:31
 flatten-same-length-2 : (t : ℕ) → flatten-lts.Need-same-length-2 (flatten-calls t) (flatten-at t) flatten.Post
 flatten-same-length-2 t c = search needs
 
--- src/pairs.rt:560:32
-flatten-returns-2 : (t : ℕ) → flatten-lts.Need-returns-2 (flatten-calls t) (flatten-at t) flatten.Post
-flatten-returns-2 t c = search (flat-bind-left, needs)
+-- src/flatten.rt:136:31
+flatten-returns : (t : ℕ) → flatten-lts.Need-returns (flatten-calls t) (flatten-at t) flatten.Post
+flatten-returns t c = search (flat-compared, needs)
 
--- src/pairs.rt:561:98
-flatten-enum-told-3 : (t : ℕ) → flatten-lts.Need-enum-told-3 (flatten-calls t) (flatten-at t) flatten.Post
-flatten-enum-told-3 t c = search needs
+-- src/flatten.rt:138:13
+flatten-enum-told-2 : (t : ℕ) → flatten-lts.Need-enum-told-2 (flatten-calls t) (flatten-at t) flatten.Post
+flatten-enum-told-2 t c = search needs
 
--- src/pairs.rt:561:33
-flatten-bind-side-requires-2 : (t : ℕ) → flatten-lts.Need-bind-side-requires-2 (flatten-calls t) (flatten-at t) flatten.Post
-flatten-bind-side-requires-2 t c κs = search (ask-bind-right, needs)
+-- src/flatten.rt:137:32
+flatten-bind-planned-requires : (t : ℕ) → flatten-lts.Need-bind-planned-requires (flatten-calls t) (flatten-at t) flatten.Post
+flatten-bind-planned-requires t c κs = (search (ask-bound, needs), search (at-low, needs))
 
--- src/pairs.rt:561:33
+-- src/flatten.rt:137:32
 flatten-same-length-3 : (t : ℕ) → flatten-lts.Need-same-length-3 (flatten-calls t) (flatten-at t) flatten.Post
 flatten-same-length-3 t c = search needs
 
--- src/pairs.rt:561:33
-flatten-returns-3 : (t : ℕ) → flatten-lts.Need-returns-3 (flatten-calls t) (flatten-at t) flatten.Post
-flatten-returns-3 t c = search (flat-bind-right, needs)
-
--- src/pairs.rt:562:99
-flatten-enum-told-4 : (t : ℕ) → flatten-lts.Need-enum-told-4 (flatten-calls t) (flatten-at t) flatten.Post
-flatten-enum-told-4 t c = search needs
-
--- src/pairs.rt:562:29
-flatten-flatten-arrays-requires : (t : ℕ) → flatten-lts.Need-flatten-arrays-requires (flatten-calls t) (flatten-at t) flatten.Post
-flatten-flatten-arrays-requires t c κs =
-    let s = c .before .before .before .before .before .before .before .before .before .before .before .before .before .before .before .before .before in
-    (object-falls (s .pre .1 .pair-ok .second .low) (s .pre .0), ask-arrays (s .pre .1) (c .before .before .before .before .before .before .judge .ensures) (search needs))
-
--- src/pairs.rt:562:29
+-- src/flatten.rt:137:32
 flatten-same-length-4 : (t : ℕ) → flatten-lts.Need-same-length-4 (flatten-calls t) (flatten-at t) flatten.Post
 flatten-same-length-4 t c = search needs
 
--- src/pairs.rt:562:29
-flatten-returns-4 : (t : ℕ) → flatten-lts.Need-returns-4 (flatten-calls t) (flatten-at t) flatten.Post
-flatten-returns-4 t c = search (flat-by-items, needs)
+-- src/flatten.rt:137:32
+flatten-returns-2 : (t : ℕ) → flatten-lts.Need-returns-2 (flatten-calls t) (flatten-at t) flatten.Post
+flatten-returns-2 t c = flat-bind-left (c .before .before .before .before .before .before .before .before .before .before .before .before .before .before .before .before .before .before .before .before .before .before .before .pre .1 .0) (c .before .before .before .before .before .before .before .before .before .before .before .judge .ensures) (search needs) (c .before .before .bind-planned .ensures)
 
--- src/pairs.rt:563:100
-flatten-enum-told-5 : (t : ℕ) → flatten-lts.Need-enum-told-5 (flatten-calls t) (flatten-at t) flatten.Post
-flatten-enum-told-5 t c = search needs
+-- src/flatten.rt:153:13
+flatten-enum-told-3 : (t : ℕ) → flatten-lts.Need-enum-told-3 (flatten-calls t) (flatten-at t) flatten.Post
+flatten-enum-told-3 t c = search needs
 
--- src/pairs.rt:563:29
-flatten-flatten-objects-requires : (t : ℕ) → flatten-lts.Need-flatten-objects-requires (flatten-calls t) (flatten-at t) flatten.Post
-flatten-flatten-objects-requires t c κs =
-    let s = c .before .before .before .before .before .before .before .before .before .before .before .before .before .before .before .before .before in
-    (object-falls (s .pre .1 .pair-ok .second .low) (s .pre .0), ask-keyed (s .pre .1) (c .before .before .before .before .before .before .judge .ensures) (search needs))
+-- src/flatten.rt:146:33
+flatten-bind-side-requires : (t : ℕ) → flatten-lts.Need-bind-side-requires (flatten-calls t) (flatten-at t) flatten.Post
+flatten-bind-side-requires t c κs = (search (ask-bind-right, needs), search (roomy-kept, needs))
 
--- src/pairs.rt:563:29
+-- src/flatten.rt:146:33
 flatten-same-length-5 : (t : ℕ) → flatten-lts.Need-same-length-5 (flatten-calls t) (flatten-at t) flatten.Post
 flatten-same-length-5 t c = search needs
 
--- src/pairs.rt:563:29
-flatten-returns-5 : (t : ℕ) → flatten-lts.Need-returns-5 (flatten-calls t) (flatten-at t) flatten.Post
-flatten-returns-5 t c = search (flat-by-keys, needs)
+-- src/flatten.rt:146:33
+flatten-same-length-6 : (t : ℕ) → flatten-lts.Need-same-length-6 (flatten-calls t) (flatten-at t) flatten.Post
+flatten-same-length-6 t c = search needs
 
--- src/pairs.rt:564:56
+-- src/flatten.rt:146:33
+flatten-returns-3 : (t : ℕ) → flatten-lts.Need-returns-3 (flatten-calls t) (flatten-at t) flatten.Post
+flatten-returns-3 t c = flat-bind-right (c .before .before .before .before .before .before .before .before .before .before .before .before .before .before .before .before .before .before .before .before .before .before .before .before .before .pre .1 .0) (c .before .before .before .before .before .before .before .before .before .before .before .before .before .judge .ensures) (search needs) (c .before .before .before .before .bind-side .ensures)
+
+-- src/flatten.rt:168:13
+flatten-enum-told-4 : (t : ℕ) → flatten-lts.Need-enum-told-4 (flatten-calls t) (flatten-at t) flatten.Post
+flatten-enum-told-4 t c = search needs
+
+-- src/flatten.rt:161:29
+flatten-flatten-arrays-requires : (t : ℕ) → flatten-lts.Need-flatten-arrays-requires (flatten-calls t) (flatten-at t) flatten.Post
+flatten-flatten-arrays-requires t c κs =
+    let s = c .before .before .before .before .before .before .before .before .before .before .before .before .before .before .before .before .before .before .before .before in
+    (object-falls (s .pre .1 .0 .pair-ok .second .low) (s .pre .0), (ask-arrays (s .pre .1 .0) (c .before .before .before .before .before .before .before .before .judge .ensures) (search needs), search (roomy-kept, s .pre .1 .1, needs)))
+
+-- src/flatten.rt:161:29
+flatten-same-length-7 : (t : ℕ) → flatten-lts.Need-same-length-7 (flatten-calls t) (flatten-at t) flatten.Post
+flatten-same-length-7 t c = search needs
+
+-- src/flatten.rt:161:29
+flatten-same-length-8 : (t : ℕ) → flatten-lts.Need-same-length-8 (flatten-calls t) (flatten-at t) flatten.Post
+flatten-same-length-8 t c = search needs
+
+-- src/flatten.rt:161:29
+flatten-returns-4 : (t : ℕ) → flatten-lts.Need-returns-4 (flatten-calls t) (flatten-at t) flatten.Post
+flatten-returns-4 t c = flat-by-items (c .before .before .before .before .before .before .before .before .before .before .before .before .before .before .before .before .before .before .before .before .before .before .before .before .before .pre .1 .0) (c .before .before .before .before .before .before .before .before .before .before .before .before .before .judge .ensures) (search needs) (c .before .before .before .before .flatten-arrays .ensures)
+
+-- src/flatten.rt:183:13
+flatten-enum-told-5 : (t : ℕ) → flatten-lts.Need-enum-told-5 (flatten-calls t) (flatten-at t) flatten.Post
+flatten-enum-told-5 t c = search needs
+
+-- src/flatten.rt:176:29
+flatten-flatten-objects-requires : (t : ℕ) → flatten-lts.Need-flatten-objects-requires (flatten-calls t) (flatten-at t) flatten.Post
+flatten-flatten-objects-requires t c κs =
+    let s = c .before .before .before .before .before .before .before .before .before .before .before .before .before .before .before .before .before .before .before .before in
+    (object-falls (s .pre .1 .0 .pair-ok .second .low) (s .pre .0), (ask-keyed (s .pre .1 .0) (c .before .before .before .before .before .before .before .before .judge .ensures) (search needs), search (roomy-kept, s .pre .1 .1, needs)))
+
+-- src/flatten.rt:176:29
+flatten-same-length-9 : (t : ℕ) → flatten-lts.Need-same-length-9 (flatten-calls t) (flatten-at t) flatten.Post
+flatten-same-length-9 t c = search needs
+
+-- src/flatten.rt:176:29
+flatten-same-length-10 : (t : ℕ) → flatten-lts.Need-same-length-10 (flatten-calls t) (flatten-at t) flatten.Post
+flatten-same-length-10 t c = search needs
+
+-- src/flatten.rt:176:29
+flatten-returns-5 : (t : ℕ) → flatten-lts.Need-returns-5 (flatten-calls t) (flatten-at t) flatten.Post
+flatten-returns-5 t c = flat-by-keys (c .before .before .before .before .before .before .before .before .before .before .before .before .before .before .before .before .before .before .before .before .before .before .before .before .before .pre .1 .0) (c .before .before .before .before .before .before .before .before .before .before .before .before .before .judge .ensures) (search needs) (c .before .before .before .before .flatten-objects .ensures)
+
+-- src/flatten.rt:192:39
 flatten-enum-told-6 : (t : ℕ) → flatten-lts.Need-enum-told-6 (flatten-calls t) (flatten-at t) flatten.Post
 flatten-enum-told-6 t c = search needs
 
--- src/pairs.rt:564:30
+-- src/flatten.rt:192:13
+flatten-same-length-11 : (t : ℕ) → flatten-lts.Need-same-length-11 (flatten-calls t) (flatten-at t) flatten.Post
+flatten-same-length-11 t c = search needs
+
+-- src/flatten.rt:192:13
 flatten-returns-6 : (t : ℕ) → flatten-lts.Need-returns-6 (flatten-calls t) (flatten-at t) flatten.Post
 flatten-returns-6 t c = search (flat-refused, needs)
 
--- src/pairs.rt:586:9
+-- src/flatten.rt:214:9
 flatten-arrays-count-of-requires : (t : ℕ) → flatten-arrays-lts.Need-count-of-requires (flatten-arrays-calls t) (flatten-arrays-at t) flatten-arrays.Post
 flatten-arrays-count-of-requires t c κs = search needs
 
--- src/pairs.rt:587:9
+-- src/flatten.rt:215:9
 flatten-arrays-count-of-requires-2 : (t : ℕ) → flatten-arrays-lts.Need-count-of-requires-2 (flatten-arrays-calls t) (flatten-arrays-at t) flatten-arrays.Post
 flatten-arrays-count-of-requires-2 t c κs = search needs
 
--- src/pairs.rt:589:9
+-- src/flatten.rt:217:9
 flatten-arrays-returns : (t : ℕ) → flatten-arrays-lts.Need-returns (flatten-arrays-calls t) (flatten-arrays-at t) flatten-arrays.Post
 flatten-arrays-returns t c = search (arrays-differ, needs)
 
--- src/pairs.rt:591:22
+-- src/flatten.rt:219:22
 flatten-arrays-first-of-requires : (t : ℕ) → flatten-arrays-lts.Need-first-of-requires (flatten-arrays-calls t) (flatten-arrays-at t) flatten-arrays.Post
 flatten-arrays-first-of-requires t c κs = search needs
 
--- src/pairs.rt:591:22
+-- src/flatten.rt:219:22
 flatten-arrays-cast-left-first : (t : ℕ) → flatten-arrays-lts.Need-cast-left-first (flatten-arrays-calls t) (flatten-arrays-at t) flatten-arrays.Post
 flatten-arrays-cast-left-first t c = search needs
 
--- src/pairs.rt:592:23
+-- src/flatten.rt:220:23
 flatten-arrays-first-of-requires-2 : (t : ℕ) → flatten-arrays-lts.Need-first-of-requires-2 (flatten-arrays-calls t) (flatten-arrays-at t) flatten-arrays.Post
 flatten-arrays-first-of-requires-2 t c κs = search needs
 
--- src/pairs.rt:592:23
+-- src/flatten.rt:220:23
 flatten-arrays-cast-right-first : (t : ℕ) → flatten-arrays-lts.Need-cast-right-first (flatten-arrays-calls t) (flatten-arrays-at t) flatten-arrays.Post
 flatten-arrays-cast-right-first t c = search needs
 
--- src/pairs.rt:593:107
+-- src/flatten.rt:232:9
 flatten-arrays-cast-flatten-items : (t : ℕ) → flatten-arrays-lts.Need-cast-flatten-items (flatten-arrays-calls t) (flatten-arrays-at t) flatten-arrays.Post
 flatten-arrays-cast-flatten-items t c = search needs
 
--- src/pairs.rt:593:5
+-- src/flatten.rt:221:5
 flatten-arrays-flatten-items-requires : (t : ℕ) → flatten-arrays-lts.Need-flatten-items-requires (flatten-arrays-calls t) (flatten-arrays-at t) flatten-arrays.Post
-flatten-arrays-flatten-items-requires t c κs = (search (parts-fall, needs), search (ask-items, needs))
+flatten-arrays-flatten-items-requires t c κs = (search (parts-fall, needs), (search (ask-items, needs), search needs))
 
--- src/pairs.rt:568:1
+-- src/flatten.rt:196:1
 flatten-arrays-same-length : (t : ℕ) → flatten-arrays-lts.Need-same-length (flatten-arrays-calls t) (flatten-arrays-at t) flatten-arrays.Post
 flatten-arrays-same-length t c = search needs
 
--- src/pairs.rt:568:1
+-- src/flatten.rt:196:1
+flatten-arrays-same-length-2 : (t : ℕ) → flatten-arrays-lts.Need-same-length-2 (flatten-arrays-calls t) (flatten-arrays-at t) flatten-arrays.Post
+flatten-arrays-same-length-2 t c = search needs
+
+-- src/flatten.rt:196:1
 flatten-arrays-returns-2 : (t : ℕ) → flatten-arrays-lts.Need-returns-2 (flatten-arrays-calls t) (flatten-arrays-at t) flatten-arrays.Post
-flatten-arrays-returns-2 t c = search (arrays-items, needs)
+flatten-arrays-returns-2 t c = search (arrays-items, c .before .before .before .before .before .before .before .before .before .before .before .before .before .before .before .before .before .before .before .before .before .before .pre .1 .0, needs)
 
 abbrev flatten-fields-Inv-loop : flatten-fields-lts.InvT-loop
-flatten-fields-Inv-loop nodes children numbers names strings text states₀ left right order total binders₀ scratch₀ plan₀ at place₀ more₀ here₀ states binders scratch plan place more here = PairingFields (tables nodes children numbers names strings text) left right order total states₀ plan₀ at place more states plan here
+flatten-fields-Inv-loop nodes children numbers names strings text states₀ left right order total binders₀ scratch₀ plan₀ at place₀ more₀ here₀ states binders scratch plan place more here = PairingFields (tables nodes children numbers names strings text) left right order total states₀ plan₀ at place more states plan here × Kept (tables nodes children numbers names strings text) scratch₀ scratch
 
 abbrev flatten-fields-μ-loop : flatten-fields-lts.MeasureT-loop
 flatten-fields-μ-loop nodes children numbers names strings text states₀ left right order total binders₀ scratch₀ plan₀ at place₀ more₀ here₀ states binders scratch plan place more here = more
 
--- src/pairs.rt:681:21
+-- src/flatten.rt:365:21
 flatten-fields-first-of-requires : (t : ℕ) → flatten-fields-lts.Need-first-of-requires (flatten-fields-calls t) (flatten-fields-at t) flatten-fields.Post flatten-fields-Inv-loop flatten-fields-μ-loop
 flatten-fields-first-of-requires t c κs = search needs
 
--- src/pairs.rt:681:21
+-- src/flatten.rt:365:21
 flatten-fields-cast-place : (t : ℕ) → flatten-fields-lts.Need-cast-place (flatten-fields-calls t) (flatten-fields-at t) flatten-fields.Post flatten-fields-Inv-loop flatten-fields-μ-loop
 flatten-fields-cast-place t c = search needs
 
--- src/pairs.rt:682:20
+-- src/flatten.rt:366:20
 flatten-fields-count-of-requires : (t : ℕ) → flatten-fields-lts.Need-count-of-requires (flatten-fields-calls t) (flatten-fields-at t) flatten-fields.Post flatten-fields-Inv-loop flatten-fields-μ-loop
 flatten-fields-count-of-requires t c κs = search needs
 
--- src/pairs.rt:682:20
+-- src/flatten.rt:366:20
 flatten-fields-cast-more : (t : ℕ) → flatten-fields-lts.Need-cast-more (flatten-fields-calls t) (flatten-fields-at t) flatten-fields.Post flatten-fields-Inv-loop flatten-fields-μ-loop
 flatten-fields-cast-more t c = search needs
 
--- src/pairs.rt:684:5
+-- src/flatten.rt:368:5
 flatten-fields-loop-holds : (t : ℕ) → flatten-fields-lts.Need-loop-holds (flatten-fields-calls t) (flatten-fields-at t) flatten-fields.Post flatten-fields-Inv-loop flatten-fields-μ-loop
-flatten-fields-loop-holds t c = search (fields-start, needs)
+flatten-fields-loop-holds t c = (search (fields-start, needs), search (kept-start, needs))
 
--- src/pairs.rt:685:13
+-- src/flatten.rt:369:13
 flatten-fields-field-sides-requires : (t : ℕ) → flatten-fields-lts.Need-field-sides-requires (flatten-fields-calls t) (flatten-fields-at t) flatten-fields.Post flatten-fields-Inv-loop flatten-fields-μ-loop
-flatten-fields-field-sides-requires t c κs = fields-ask (c .before .loop .inv) (c .loop-test .taken)
+flatten-fields-field-sides-requires t c κs = fields-ask (c .before .loop .inv .0) (c .loop-test .taken)
 
--- src/pairs.rt:686:15
+-- src/flatten.rt:381:15
 flatten-fields-flatten-requires : (t : ℕ) → flatten-fields-lts.Need-flatten-requires (flatten-fields-calls t) (flatten-fields-at t) flatten-fields.Post flatten-fields-Inv-loop flatten-fields-μ-loop
-flatten-fields-flatten-requires t c κs = (search (child-falls, fields-below, needs), search (fields-child, needs))
+flatten-fields-flatten-requires t c κs = (search (child-falls, fields-below, needs), (search (fields-child, needs), search needs))
 
--- src/pairs.rt:687:35
+-- src/flatten.rt:396:35
 flatten-fields-enum-known-next : (t : ℕ) → flatten-fields-lts.Need-enum-known-next (flatten-fields-calls t) (flatten-fields-at t) flatten-fields.Post flatten-fields-Inv-loop flatten-fields-μ-loop
 flatten-fields-enum-known-next t c = search needs
 
--- src/pairs.rt:688:32
+-- src/flatten.rt:397:32
 flatten-fields-enum-known-answer : (t : ℕ) → flatten-fields-lts.Need-enum-known-answer (flatten-fields-calls t) (flatten-fields-at t) flatten-fields.Post flatten-fields-Inv-loop flatten-fields-μ-loop
 flatten-fields-enum-known-answer t c = search needs
 
--- src/pairs.rt:688:43
+-- src/flatten.rt:397:43
 flatten-fields-same-length : (t : ℕ) → flatten-fields-lts.Need-same-length (flatten-fields-calls t) (flatten-fields-at t) flatten-fields.Post flatten-fields-Inv-loop flatten-fields-μ-loop
 flatten-fields-same-length t c = search needs
 
--- src/pairs.rt:688:43
-flatten-fields-returns : (t : ℕ) → flatten-fields-lts.Need-returns (flatten-fields-calls t) (flatten-fields-at t) flatten-fields.Post flatten-fields-Inv-loop flatten-fields-μ-loop
-flatten-fields-returns t c = search (fields-fail, needs)
-
--- src/pairs.rt:690:9
-flatten-fields-add-place : (t : ℕ) → flatten-fields-lts.Need-add-place (flatten-fields-calls t) (flatten-fields-at t) flatten-fields.Post flatten-fields-Inv-loop flatten-fields-μ-loop
-flatten-fields-add-place t c = search (fields-fit, needs)
-
--- src/pairs.rt:691:9
-flatten-fields-sub-more : (t : ℕ) → flatten-fields-lts.Need-sub-more (flatten-fields-calls t) (flatten-fields-at t) flatten-fields.Post flatten-fields-Inv-loop flatten-fields-μ-loop
-flatten-fields-sub-more t c = search needs
-
--- src/pairs.rt:684:5
-flatten-fields-loop-less : (t : ℕ) → flatten-fields-lts.Need-loop-less (flatten-fields-calls t) (flatten-fields-at t) flatten-fields.Post flatten-fields-Inv-loop flatten-fields-μ-loop
-flatten-fields-loop-less t c = search needs
-
--- src/pairs.rt:684:5
-flatten-fields-loop-again : (t : ℕ) → flatten-fields-lts.Need-loop-again (flatten-fields-calls t) (flatten-fields-at t) flatten-fields.Post flatten-fields-Inv-loop flatten-fields-μ-loop
-flatten-fields-loop-again t c =
-    let s = c .before .before .before .before .before .before .before .before .before .before in
-    fields-on (s .before .before .loop .inv) (s .before .loop-test .taken) (s .field-sides .ensures) (c .before .before .before .before .before .flatten .ensures) (search needs)
-
--- src/pairs.rt:661:1
+-- src/flatten.rt:397:43
 flatten-fields-same-length-2 : (t : ℕ) → flatten-fields-lts.Need-same-length-2 (flatten-fields-calls t) (flatten-fields-at t) flatten-fields.Post flatten-fields-Inv-loop flatten-fields-μ-loop
 flatten-fields-same-length-2 t c = search needs
 
--- src/pairs.rt:661:1
+-- src/flatten.rt:397:43
+flatten-fields-returns : (t : ℕ) → flatten-fields-lts.Need-returns (flatten-fields-calls t) (flatten-fields-at t) flatten-fields.Post flatten-fields-Inv-loop flatten-fields-μ-loop
+flatten-fields-returns t c = search (fields-fail, needs)
+
+-- src/flatten.rt:399:9
+flatten-fields-add-place : (t : ℕ) → flatten-fields-lts.Need-add-place (flatten-fields-calls t) (flatten-fields-at t) flatten-fields.Post flatten-fields-Inv-loop flatten-fields-μ-loop
+flatten-fields-add-place t c = search (fields-fit, needs)
+
+-- src/flatten.rt:400:9
+flatten-fields-sub-more : (t : ℕ) → flatten-fields-lts.Need-sub-more (flatten-fields-calls t) (flatten-fields-at t) flatten-fields.Post flatten-fields-Inv-loop flatten-fields-μ-loop
+flatten-fields-sub-more t c = search needs
+
+-- src/flatten.rt:368:5
+flatten-fields-loop-less : (t : ℕ) → flatten-fields-lts.Need-loop-less (flatten-fields-calls t) (flatten-fields-at t) flatten-fields.Post flatten-fields-Inv-loop flatten-fields-μ-loop
+flatten-fields-loop-less t c = search needs
+
+-- src/flatten.rt:368:5
+flatten-fields-loop-again : (t : ℕ) → flatten-fields-lts.Need-loop-again (flatten-fields-calls t) (flatten-fields-at t) flatten-fields.Post flatten-fields-Inv-loop flatten-fields-μ-loop
+flatten-fields-loop-again t c =
+    (fields-on (c .before .before .before .before .before .before .before .before .before .before .before .before .before .before .loop .inv .0) (c .before .before .before .before .before .before .before .before .before .before .before .before .before .loop-test .taken) (c .before .before .before .before .before .before .before .before .before .before .before .before .field-sides .ensures) (c .before .before .before .before .before .before .before .flatten .ensures) (search needs), search (kept-on, c .before .before .before .before .before .before .before .before .before .before .before .before .before .before .loop .inv .1, needs))
+
+-- src/flatten.rt:345:1
+flatten-fields-same-length-3 : (t : ℕ) → flatten-fields-lts.Need-same-length-3 (flatten-fields-calls t) (flatten-fields-at t) flatten-fields.Post flatten-fields-Inv-loop flatten-fields-μ-loop
+flatten-fields-same-length-3 t c = search needs
+
+-- src/flatten.rt:345:1
+flatten-fields-same-length-4 : (t : ℕ) → flatten-fields-lts.Need-same-length-4 (flatten-fields-calls t) (flatten-fields-at t) flatten-fields.Post flatten-fields-Inv-loop flatten-fields-μ-loop
+flatten-fields-same-length-4 t c = search needs
+
+-- src/flatten.rt:345:1
 flatten-fields-returns-2 : (t : ℕ) → flatten-fields-lts.Need-returns-2 (flatten-fields-calls t) (flatten-fields-at t) flatten-fields.Post flatten-fields-Inv-loop flatten-fields-μ-loop
 flatten-fields-returns-2 t c = search (fields-over, needs)
 
 abbrev flatten-items-Inv-loop : flatten-items-lts.InvT-loop
-flatten-items-Inv-loop nodes children numbers names strings text states₀ lefts parent rights count binders₀ scratch₀ plan₀ at left-place₀ right-place₀ more₀ here₀ states binders scratch plan left-place right-place more here = PairingItems (tables nodes children numbers names strings text) lefts parent rights count states₀ plan₀ at left-place right-place more states plan here
+flatten-items-Inv-loop nodes children numbers names strings text states₀ lefts parent rights count binders₀ scratch₀ plan₀ at left-place₀ right-place₀ more₀ here₀ states binders scratch plan left-place right-place more here = PairingItems (tables nodes children numbers names strings text) lefts parent rights count states₀ plan₀ at left-place right-place more states plan here × Kept (tables nodes children numbers names strings text) scratch₀ scratch
 
 abbrev flatten-items-μ-loop : flatten-items-lts.MeasureT-loop
 flatten-items-μ-loop nodes children numbers names strings text states₀ lefts parent rights count binders₀ scratch₀ plan₀ at left-place₀ right-place₀ more₀ here₀ states binders scratch plan left-place right-place more here = more
 
--- src/pairs.rt:621:5
+-- src/flatten.rt:265:5
 flatten-items-loop-holds : (t : ℕ) → flatten-items-lts.Need-loop-holds (flatten-items-calls t) (flatten-items-at t) flatten-items.Post flatten-items-Inv-loop flatten-items-μ-loop
-flatten-items-loop-holds t c = search (items-start, needs)
+flatten-items-loop-holds t c = (search (items-start, needs), search (kept-start, needs))
 
--- src/pairs.rt:622:13
+-- src/flatten.rt:266:13
 flatten-items-child-at-requires : (t : ℕ) → flatten-items-lts.Need-child-at-requires (flatten-items-calls t) (flatten-items-at t) flatten-items.Post flatten-items-Inv-loop flatten-items-μ-loop
 flatten-items-child-at-requires t c κs = search needs
 
--- src/pairs.rt:623:13
+-- src/flatten.rt:267:13
 flatten-items-child-at-requires-2 : (t : ℕ) → flatten-items-lts.Need-child-at-requires-2 (flatten-items-calls t) (flatten-items-at t) flatten-items.Post flatten-items-Inv-loop flatten-items-μ-loop
 flatten-items-child-at-requires-2 t c κs = search needs
 
--- src/pairs.rt:624:15
+-- src/flatten.rt:268:15
 flatten-items-flatten-requires : (t : ℕ) → flatten-items-lts.Need-flatten-requires (flatten-items-calls t) (flatten-items-at t) flatten-items.Post flatten-items-Inv-loop flatten-items-μ-loop
-flatten-items-flatten-requires t c κs = (search (child-falls, items-below, needs), search (items-child, needs))
+flatten-items-flatten-requires t c κs = (search (child-falls, items-below, needs), (search (items-child, needs), search needs))
 
--- src/pairs.rt:625:35
+-- src/flatten.rt:283:35
 flatten-items-enum-known-next : (t : ℕ) → flatten-items-lts.Need-enum-known-next (flatten-items-calls t) (flatten-items-at t) flatten-items.Post flatten-items-Inv-loop flatten-items-μ-loop
 flatten-items-enum-known-next t c = search needs
 
--- src/pairs.rt:626:32
+-- src/flatten.rt:284:32
 flatten-items-enum-known-answer : (t : ℕ) → flatten-items-lts.Need-enum-known-answer (flatten-items-calls t) (flatten-items-at t) flatten-items.Post flatten-items-Inv-loop flatten-items-μ-loop
 flatten-items-enum-known-answer t c = search needs
 
--- src/pairs.rt:626:43
+-- src/flatten.rt:284:43
 flatten-items-same-length : (t : ℕ) → flatten-items-lts.Need-same-length (flatten-items-calls t) (flatten-items-at t) flatten-items.Post flatten-items-Inv-loop flatten-items-μ-loop
 flatten-items-same-length t c = search needs
 
--- src/pairs.rt:626:43
-flatten-items-returns : (t : ℕ) → flatten-items-lts.Need-returns (flatten-items-calls t) (flatten-items-at t) flatten-items.Post flatten-items-Inv-loop flatten-items-μ-loop
-flatten-items-returns t c = search (items-fail, needs)
-
--- src/pairs.rt:628:9
-flatten-items-add-left-place : (t : ℕ) → flatten-items-lts.Need-add-left-place (flatten-items-calls t) (flatten-items-at t) flatten-items.Post flatten-items-Inv-loop flatten-items-μ-loop
-flatten-items-add-left-place t c = search (items-left-fits, needs)
-
--- src/pairs.rt:629:9
-flatten-items-add-right-place : (t : ℕ) → flatten-items-lts.Need-add-right-place (flatten-items-calls t) (flatten-items-at t) flatten-items.Post flatten-items-Inv-loop flatten-items-μ-loop
-flatten-items-add-right-place t c = search (items-right-fits, needs)
-
--- src/pairs.rt:630:9
-flatten-items-sub-more : (t : ℕ) → flatten-items-lts.Need-sub-more (flatten-items-calls t) (flatten-items-at t) flatten-items.Post flatten-items-Inv-loop flatten-items-μ-loop
-flatten-items-sub-more t c = search needs
-
--- src/pairs.rt:621:5
-flatten-items-loop-less : (t : ℕ) → flatten-items-lts.Need-loop-less (flatten-items-calls t) (flatten-items-at t) flatten-items.Post flatten-items-Inv-loop flatten-items-μ-loop
-flatten-items-loop-less t c = search needs
-
--- src/pairs.rt:621:5
-flatten-items-loop-again : (t : ℕ) → flatten-items-lts.Need-loop-again (flatten-items-calls t) (flatten-items-at t) flatten-items.Post flatten-items-Inv-loop flatten-items-μ-loop
-flatten-items-loop-again t c =
-    let s = c .before .before .before .before .before .before .before .before .before .before in
-    items-on (s .before .before .before .loop .inv) (s .before .before .loop-test .taken) (s .before .child-at .ensures) (s .child-at2 .ensures) (c .before .before .before .before .before .flatten .ensures) (search needs)
-
--- src/pairs.rt:597:1
+-- src/flatten.rt:284:43
 flatten-items-same-length-2 : (t : ℕ) → flatten-items-lts.Need-same-length-2 (flatten-items-calls t) (flatten-items-at t) flatten-items.Post flatten-items-Inv-loop flatten-items-μ-loop
 flatten-items-same-length-2 t c = search needs
 
--- src/pairs.rt:597:1
+-- src/flatten.rt:284:43
+flatten-items-returns : (t : ℕ) → flatten-items-lts.Need-returns (flatten-items-calls t) (flatten-items-at t) flatten-items.Post flatten-items-Inv-loop flatten-items-μ-loop
+flatten-items-returns t c = search (items-fail, needs)
+
+-- src/flatten.rt:286:9
+flatten-items-add-left-place : (t : ℕ) → flatten-items-lts.Need-add-left-place (flatten-items-calls t) (flatten-items-at t) flatten-items.Post flatten-items-Inv-loop flatten-items-μ-loop
+flatten-items-add-left-place t c = search (items-left-fits, needs)
+
+-- src/flatten.rt:287:9
+flatten-items-add-right-place : (t : ℕ) → flatten-items-lts.Need-add-right-place (flatten-items-calls t) (flatten-items-at t) flatten-items.Post flatten-items-Inv-loop flatten-items-μ-loop
+flatten-items-add-right-place t c = search (items-right-fits, needs)
+
+-- src/flatten.rt:288:9
+flatten-items-sub-more : (t : ℕ) → flatten-items-lts.Need-sub-more (flatten-items-calls t) (flatten-items-at t) flatten-items.Post flatten-items-Inv-loop flatten-items-μ-loop
+flatten-items-sub-more t c = search needs
+
+-- src/flatten.rt:265:5
+flatten-items-loop-less : (t : ℕ) → flatten-items-lts.Need-loop-less (flatten-items-calls t) (flatten-items-at t) flatten-items.Post flatten-items-Inv-loop flatten-items-μ-loop
+flatten-items-loop-less t c = search needs
+
+-- src/flatten.rt:265:5
+flatten-items-loop-again : (t : ℕ) → flatten-items-lts.Need-loop-again (flatten-items-calls t) (flatten-items-at t) flatten-items.Post flatten-items-Inv-loop flatten-items-μ-loop
+flatten-items-loop-again t c =
+    (items-on (c .before .before .before .before .before .before .before .before .before .before .before .before .before .before .before .loop .inv .0) (c .before .before .before .before .before .before .before .before .before .before .before .before .before .before .loop-test .taken) (c .before .before .before .before .before .before .before .before .before .before .before .before .before .child-at .ensures) (c .before .before .before .before .before .before .before .before .before .before .before .before .child-at2 .ensures) (c .before .before .before .before .before .before .before .flatten .ensures) (search needs), search (kept-on, c .before .before .before .before .before .before .before .before .before .before .before .before .before .before .before .loop .inv .1, needs))
+
+-- src/flatten.rt:241:1
+flatten-items-same-length-3 : (t : ℕ) → flatten-items-lts.Need-same-length-3 (flatten-items-calls t) (flatten-items-at t) flatten-items.Post flatten-items-Inv-loop flatten-items-μ-loop
+flatten-items-same-length-3 t c = search needs
+
+-- src/flatten.rt:241:1
+flatten-items-same-length-4 : (t : ℕ) → flatten-items-lts.Need-same-length-4 (flatten-items-calls t) (flatten-items-at t) flatten-items.Post flatten-items-Inv-loop flatten-items-μ-loop
+flatten-items-same-length-4 t c = search needs
+
+-- src/flatten.rt:241:1
 flatten-items-returns-2 : (t : ℕ) → flatten-items-lts.Need-returns-2 (flatten-items-calls t) (flatten-items-at t) flatten-items.Post flatten-items-Inv-loop flatten-items-μ-loop
 flatten-items-returns-2 t c = search (items-over, needs)
 
--- src/pairs.rt:654:11
+-- src/flatten.rt:312:11
 flatten-objects-match-keys-requires : (t : ℕ) → flatten-objects-lts.Need-match-keys-requires (flatten-objects-calls t) (flatten-objects-at t) flatten-objects.Post
 flatten-objects-match-keys-requires t c κs = search needs
 
--- src/pairs.rt:655:25
+-- src/flatten.rt:323:25
 flatten-objects-enum-known-total : (t : ℕ) → flatten-objects-lts.Need-enum-known-total (flatten-objects-calls t) (flatten-objects-at t) flatten-objects.Post
 flatten-objects-enum-known-total t c = search needs
 
--- src/pairs.rt:655:36
+-- src/flatten.rt:323:36
 flatten-objects-flatten-fields-requires :
     (t : ℕ) → flatten-objects-lts.Need-flatten-fields-requires (
       match-keys-reads.Asked,
@@ -438,22 +482,26 @@ flatten-objects-flatten-fields-requires :
       flatten-fields.Post,
     ) (flatten-objects-at t) flatten-objects.Post
 flatten-objects-flatten-fields-requires t c κs =
-    let s = c .before .before .before .before .before .before .before .before .before .before .before .before .before .before .before .before .before in
-    (parts-fall (s .pre .1 .asks .pair-ok .second .low) (s .pre .0), search (ask-fields, needs))
+    let s = c .before .before .before .before .before .before .before .before .before .before .before .before .before .before .before .before .before .before in
+    (parts-fall (s .pre .1 .0 .asks .pair-ok .second .low) (s .pre .0), (ask-fields (s .pre .1 .0) (c .before .before .before .before .before .before .before .before .match-keys .ensures) (search needs), s .pre .1 .1))
 
--- src/pairs.rt:655:36
+-- src/flatten.rt:323:36
 flatten-objects-same-length : (t : ℕ) → flatten-objects-lts.Need-same-length (flatten-objects-calls t) (flatten-objects-at t) flatten-objects.Post
 flatten-objects-same-length t c = search needs
 
--- src/pairs.rt:655:36
+-- src/flatten.rt:323:36
+flatten-objects-same-length-2 : (t : ℕ) → flatten-objects-lts.Need-same-length-2 (flatten-objects-calls t) (flatten-objects-at t) flatten-objects.Post
+flatten-objects-same-length-2 t c = search needs
+
+-- src/flatten.rt:323:36
 flatten-objects-returns : (t : ℕ) → flatten-objects-lts.Need-returns (flatten-objects-calls t) (flatten-objects-at t) flatten-objects.Post
 flatten-objects-returns t c = search needs
 
--- src/pairs.rt:656:23
+-- src/flatten.rt:340:23
 flatten-objects-enum-known-answer : (t : ℕ) → flatten-objects-lts.Need-enum-known-answer (flatten-objects-calls t) (flatten-objects-at t) flatten-objects.Post
 flatten-objects-enum-known-answer t c = search needs
 
--- src/pairs.rt:656:34
+-- src/flatten.rt:340:34
 flatten-objects-returns-2 : (t : ℕ) → flatten-objects-lts.Need-returns-2 (flatten-objects-calls t) (flatten-objects-at t) flatten-objects.Post
 flatten-objects-returns-2 t c = search (objects-refused, needs)
 
@@ -471,6 +519,8 @@ pub +flatten+flatten-arrays+flatten-fields+flatten-items+flatten-objects-spec :
       judge-reads.Learnt,
       compare-sides-reads.Asked,
       compare-sides-reads.Learnt,
+      bind-planned-reads.Asked,
+      bind-planned-reads.Learnt,
       bind-side-reads.Asked,
       bind-side-reads.Learnt,
       flatten-arrays-below t,
@@ -484,24 +534,30 @@ pub +flatten+flatten-arrays+flatten-fields+flatten-items+flatten-objects-spec :
     (flatten-enum-told t)
     (flatten-compare-sides-requires t)
     (flatten-same-length t)
+    (flatten-same-length-2 t)
     (flatten-returns t)
     (flatten-enum-told-2 t)
-    (flatten-bind-side-requires t)
-    (flatten-same-length-2 t)
+    (flatten-bind-planned-requires t)
+    (flatten-same-length-3 t)
+    (flatten-same-length-4 t)
     (flatten-returns-2 t)
     (flatten-enum-told-3 t)
-    (flatten-bind-side-requires-2 t)
-    (flatten-same-length-3 t)
+    (flatten-bind-side-requires t)
+    (flatten-same-length-5 t)
+    (flatten-same-length-6 t)
     (flatten-returns-3 t)
     (flatten-enum-told-4 t)
     (flatten-flatten-arrays-requires t)
-    (flatten-same-length-4 t)
+    (flatten-same-length-7 t)
+    (flatten-same-length-8 t)
     (flatten-returns-4 t)
     (flatten-enum-told-5 t)
     (flatten-flatten-objects-requires t)
-    (flatten-same-length-5 t)
+    (flatten-same-length-9 t)
+    (flatten-same-length-10 t)
     (flatten-returns-5 t)
     (flatten-enum-told-6 t)
+    (flatten-same-length-11 t)
     (flatten-returns-6 t))
     (λ t. flatten-arrays-lts.spec (
       count-of-reads.Asked,
@@ -523,6 +579,7 @@ pub +flatten+flatten-arrays+flatten-fields+flatten-items+flatten-objects-spec :
     (flatten-arrays-cast-flatten-items t)
     (flatten-arrays-flatten-items-requires t)
     (flatten-arrays-same-length t)
+    (flatten-arrays-same-length-2 t)
     (flatten-arrays-returns-2 t))
     (λ t. flatten-fields-lts.spec (
       first-of-reads.Asked,
@@ -548,12 +605,14 @@ pub +flatten+flatten-arrays+flatten-fields+flatten-items+flatten-objects-spec :
     (flatten-fields-enum-known-next t)
     (flatten-fields-enum-known-answer t)
     (flatten-fields-same-length t)
+    (flatten-fields-same-length-2 t)
     (flatten-fields-returns t)
     (flatten-fields-add-place t)
     (flatten-fields-sub-more t)
     (flatten-fields-loop-less t)
     (flatten-fields-loop-again t)
-    (flatten-fields-same-length-2 t)
+    (flatten-fields-same-length-3 t)
+    (flatten-fields-same-length-4 t)
     (flatten-fields-returns-2 t))
     (λ t. flatten-items-lts.spec (
       child-at-reads.Asked,
@@ -572,13 +631,15 @@ pub +flatten+flatten-arrays+flatten-fields+flatten-items+flatten-objects-spec :
     (flatten-items-enum-known-next t)
     (flatten-items-enum-known-answer t)
     (flatten-items-same-length t)
+    (flatten-items-same-length-2 t)
     (flatten-items-returns t)
     (flatten-items-add-left-place t)
     (flatten-items-add-right-place t)
     (flatten-items-sub-more t)
     (flatten-items-loop-less t)
     (flatten-items-loop-again t)
-    (flatten-items-same-length-2 t)
+    (flatten-items-same-length-3 t)
+    (flatten-items-same-length-4 t)
     (flatten-items-returns-2 t))
     λ t. flatten-objects-lts.spec
     (match-keys-reads.Asked, match-keys-reads.Learnt, flatten-fields-below t, flatten-fields.Post)
@@ -588,6 +649,7 @@ pub +flatten+flatten-arrays+flatten-fields+flatten-items+flatten-objects-spec :
     (flatten-objects-enum-known-total t)
     (flatten-objects-flatten-fields-requires t)
     (flatten-objects-same-length t)
+    (flatten-objects-same-length-2 t)
     (flatten-objects-returns t)
     (flatten-objects-enum-known-answer t)
     (flatten-objects-returns-2 t)
