@@ -14,7 +14,10 @@ use Rattle.literal.proofs.Orders.{key-order}
 use Rattle.planner.specs.Layout.{Entry, entry, Slot, placed, insert, FieldOrder, noFields, addField, heldIn, inOrder, concat, words}
 use Rattle.table.specs.Names.{isSame}
 use Rattle.planner.specs.Simple.{sameKey}
+use Rattle.planner.specs.Entries.{Wrote}
+use Rattle.planner.specs.code.Post.{Laid}
 use Rattle.planner.proofs.buffer.Written.{length-words}
+use Rattle.planner.proofs.buffer.Copies.{wrote-laid}
 use Rattle.planner.proofs.fields.FieldOrder.{AllSlots, insert-all}
 
 module _ (P : Entry → Type 0) where
@@ -153,6 +156,9 @@ count-word (e ∷ es) zero lt = refl
 count-word (e ∷ es) (suc i) lt = let z : suc i * 4 + 2 ≡ suc (suc (suc (suc (i * 4 + 2)))) = omega arith in ap (λ (j : ℕ). getD (words (e ∷ es)) j 0) z ∙ count-word es i (omega arith)
 
 -- in a scratch of 512 entries that holds them first
+pub scratch-laid : {es : List Entry} {scratch : List ℕ} {count : ℕ} → Wrote (replicate 2048 0) 0 es scratch count → count ≤ 512 → Laid (replicate 2048 0) 0 es scratch count
+scratch-laid w few = let long = length-replicate {A = ℕ} 2048 0 in wrote-laid w (omega arith)
+
 module _ (es : List Entry) (few : length es ≤ 512) {scratch : List ℕ} (stored : scratch ≡ sets (replicate 2048 0) 0 (words es)) where
   scratch-word : (j : ℕ) → j < length es * 4 → getD scratch j 0 ≡ getD (words es) j 0
   scratch-word j lt =

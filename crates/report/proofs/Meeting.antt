@@ -117,7 +117,7 @@ module _ (x : ℕ) where
         ∙ (ap₂ (λ (a b : Bool). a || b) (mentions-met v (q .0)) (mentions-met-fields fs (q .1)) ∙ sym (elem-or x (namesMet v) (namesMetFields fs)))
 
 -- where no name is known
-pub met-by : (T : Tables) (root : ℕ) {s : Scope} {before met scratch : List ℕ} {r : ℕ} → s ≡ newScope 0 false → PatternPlanned T s AllowShadowing root before met scratch r → MetBy (expr T root) met
+pub met-by : (T : Tables) (root : ℕ) {s : Scope} {at : ℕ} {before met scratch : List ℕ} {r : ℕ} → s ≡ newScope 0 false → PatternPlanned T s AllowShadowing root at before met scratch r → MetBy (expr T root) met
 unfolding isUnderscore newScope elem
 met-by T root {s} {before} {met} {scratch} {r} is p = record {
   each = λ x v.

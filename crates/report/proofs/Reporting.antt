@@ -24,11 +24,11 @@ use Rattle.table.proofs.tests.Bools.{told-no, told-yes}
 use Rattle.planner.specs.Plan.{var, equalityExpr, fresh, plan, plans, fieldPlans, after}
 use Rattle.planner.specs.Layout.{Entry, literalKey, FieldOrder, noFields, addField, concat, entries, entriesAll, fieldOrder}
 use Rattle.planner.specs.Operations.{isSound, planOf}
-use Rattle.planner.specs.code.Post.{PatternPlanned, tabulate}
+use Rattle.planner.specs.code.Post.{Laid, PatternPlanned, tabulate}
 use Rattle.planner.proofs.laws.Binders.{AllNames, AllNamesAll, AllNamesFields, names-all}
 use Rattle.planner.proofs.buffer.Filling.{length-tabulate, getD-tabulate}
 use Rattle.planner.proofs.laws.Operations.{table-passes, sound-well, root-node}
-use Rattle.matching.proofs.EntryLists.{AllE, all-append, all-at, AllOrder, all-none, all-add, all-order, blank, scratch-kind, scratch-node}
+use Rattle.matching.proofs.EntryLists.{AllE, all-append, all-at, AllOrder, all-none, all-add, all-order, blank, scratch-laid, scratch-kind, scratch-node}
 use Rattle.report.specs.declared.ReportAnswer.{ReportAnswer}
 use Rattle.report.specs.declared.ReportAnswer.the-variants.{Reported, TableRefused, RootOutside, ListTooShort}
 use Rattle.report.specs.Report.{boundIn, namesMet, reported, answerAfter, reportAnswer, reportList, ReportedBy}
@@ -188,12 +188,15 @@ bound-entries nodes scratch i (e ∷ es) each =
     ∙ ap (λ (l : List ℕ). cond (eqb (e .kind) 1) (firstOf nodes (e .node) ∷ l) l) r
 
 module _ (T : Tables) (s : Scope) (mode : ScopingMode) (pattern : ℕ) {list : List ℕ} (a : ReportAsks T pattern list) where
-  module _ {binders scratch : List ℕ} {count : ℕ} (p : PatternPlanned T s mode pattern (replicate 2048 0) binders scratch count) where
+  module _ {binders scratch : List ℕ} {count : ℕ} (p : PatternPlanned T s mode pattern 0 (replicate 2048 0) binders scratch count) where
     abbrev es : List Entry
     es = entries (planOf T s mode pattern) 0
 
+    laid : Laid (replicate 2048 0) 0 es scratch count
+    laid = scratch-laid (p .wrote) (p .few)
+
     size : count ≡ length es
-    size = let e = p .laid .end in omega arith
+    size = let e = laid .end in omega arith
 
     few : length es ≤ 512
     few = let f = p .few in let z = size in omega arith
@@ -202,8 +205,8 @@ module _ (T : Tables) (s : Scope) (mode : ScopingMode) (pattern : ℕ) {list : L
     named i lt one =
         let z = size in
         let inside : i < length es = omega arith in
-        let k = scratch-kind es few (p .laid .stored) i inside in
-        let n = scratch-node es few (p .laid .stored) i inside in
+        let k = scratch-kind es few (laid .stored) i inside in
+        let n = scratch-node es few (laid .stored) i inside in
         let w = a .good .table in
         let all = names-all T w (λ m x. Named T (firstOf (T .nodes) m)) (λ m v h named. w .named m v h) pattern (a .good .node) in
         rw n (all-at (BindsName T (isUnbound s mode)) blank es i inside (binds-names T (isUnbound s mode) (expr T pattern) all [] 0) (sym k ∙ one))
@@ -217,7 +220,7 @@ module _ (T : Tables) (s : Scope) (mode : ScopingMode) (pattern : ℕ) {list : L
     pub planned-marked : {after : List ℕ} → BoundMarked (T .nodes) scratch count list after → PlannedMarked T s mode pattern list after
     planned-marked m =
         let z = size in
-        let e = bound-entries (T .nodes) scratch 0 es (λ j lt. let y : 0 + j ≡ j = omega arith in rw y (scratch-kind es few (p .laid .stored) j lt, scratch-node es few (p .laid .stored) j lt)) in
+        let e = bound-entries (T .nodes) scratch 0 es (λ j lt. let y : 0 + j ≡ j = omega arith in rw y (scratch-kind es few (laid .stored) j lt, scratch-node es few (laid .stored) j lt)) in
         let q : boundFrom (T .nodes) scratch 0 count ≡ boundIn (T .nodes) es = ap (boundFrom (T .nodes) scratch 0) z ∙ e in
         record { long = m .long; each = λ k. m .each k ∙ ap (λ (l : List ℕ). cond (elem (k + 1) l) 1 (getD list k 0)) q }
 

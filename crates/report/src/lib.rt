@@ -52,6 +52,7 @@ pub fn names_met(
         pattern,
         &mut met,
         &mut scratch,
+        0,
     );
     met
 }
@@ -134,6 +135,7 @@ fn mark_planned(
         pattern,
         &mut binders,
         &mut scratch,
+        0,
     );
     mark_bound(nodes, &scratch, count, list);
 }

@@ -24,12 +24,14 @@ use Rattle.table.proofs.trees.Facts.{sound-table}
 use Rattle.table.proofs.tests.Scan.{all-at}
 use Rattle.planner.specs.Plan.{plan, after}
 use Rattle.planner.specs.Layout.{entries}
+use Rattle.planner.specs.Entries.{readEntries, Wrote}
 use Rattle.planner.specs.Operations.{isSound, planned, fits, written, planOf}
-use Rattle.planner.specs.code.Post.{GoodRoot, Laid, PatternAsks, PatternPlanned, Delivered, wordAt, tabulate}
+use Rattle.planner.specs.code.Post.{GoodRoot, Laid, PatternAsks, PatternPlanned, Closed, wordAt, tabulate}
 use Rattle.planner.specs.declared.PlanAnswer.{PlanAnswer}
 use Rattle.planner.specs.Simple.{simple, mentions}
 use Rattle.planner.proofs.buffer.Filling.{length-tabulate, getD-tabulate}
-use Rattle.planner.proofs.laws.Operations.{delivered, table-passes, root-node}
+use Rattle.planner.proofs.buffer.Copies.{wrote-long, wrote-read, wrote-closed}
+use Rattle.planner.proofs.laws.Operations.{ask-pattern, table-passes, root-node}
 use Rattle.planner.proofs.fields.Objects.{node-of}
 use Rattle.value.specs.Value.{Value, isValue, valueOf, valueAt, Proper}
 use Rattle.value.specs.Post.{ValueNode}
@@ -41,6 +43,7 @@ use Rattle.matching.specs.Post as Post
 use Rattle.matching.specs.Post.{envOf, ListOk, PlanIn, Came, PatternCame}
 use Rattle.matching.proofs.Promise as Promise·
 use Rattle.matching.proofs.Lists.{env-at}
+use Rattle.matching.proofs.EntryLists.{scratch-laid}
 use Rattle.report.proofs.Meeting.{after-met, mentions-met, mentioned-named}
 use Rattle.run.specs.declared.RunAnswer.{RunAnswer}
 use Rattle.run.specs.declared.RunAnswer.the-variants.{Match, NoMatch, TableRefused, RootOutside, ListTooShort, PatternNotSimple, NotAValue, NameWithoutValue, PlanTooLarge}
@@ -208,7 +211,7 @@ place-node {T} {list} w ok i =
         rw z (Node·.value-node (expr T (getD list i 0)) ∙ node-of T w (getD list i 0) (v .node))
 
 -- the names with a binder are the ones to be set
-module _ {T : Tables} {s : Scope} {mode : ScopingMode} {root value : ℕ} {before : List ℕ} (a : RunAsks T s mode root value before) {binders scratch : List ℕ} {count : ℕ} (p : PatternPlanned T s mode root (replicate 2048 0) binders scratch count) where
+module _ {T : Tables} {s : Scope} {mode : ScopingMode} {root value : ℕ} {before : List ℕ} (a : RunAsks T s mode root value before) {binders scratch : List ℕ} {count : ℕ} (p : PatternPlanned T s mode root 0 (replicate 2048 0) binders scratch count) where
   binder-planned : (i : ℕ) → i < nameCount T → eqb (getD binders i 0) 0 ≡ not (plannedName (isUnbound s mode) (expr T root) (i + 1))
   unfolding elem
   binder-planned i lt =
@@ -270,8 +273,8 @@ module _ {T : Tables} {s : Scope} {mode : ScopingMode} {scratch : List ℕ} {cou
     ask-match = match-asks (a .asks) of (a .laid)
 
     module _ {later : List ℕ} {r : Bool} (came : PatternCame T scratch count value list later r) (binders : List ℕ) where
-      of-root : (root : ℕ) → RunAsks T s mode root value before → PatternPlanned T s mode root (replicate 2048 0) binders scratch count → Came T (ran T s mode root value before) later r
-      of-root root b p = subst (λ (o : Outcome). Came T o later r) (ran-here b of) (came .each (isUnbound s mode) root (plan-in b of (p .laid)))
+      of-root : (root : ℕ) → RunAsks T s mode root value before → PatternPlanned T s mode root 0 (replicate 2048 0) binders scratch count → Came T (ran T s mode root value before) later r
+      of-root root b p = subst (λ (o : Outcome). Came T o later r) (ran-here b of) (came .each (isUnbound s mode) root (plan-in b of (scratch-laid (p .wrote) (p .few))))
 
       pub values-missed : not r ≡ true → ValuesCame T s mode scratch count binders value before before NoMatch
       values-missed t = record {
@@ -290,30 +293,34 @@ module _ {T : Tables} {s : Scope} {mode : ScopingMode} {scratch : List ℕ} {cou
 
 -- the plan and what carrying it out came to
 module _ (T : Tables) (s : Scope) (mode : ScopingMode) (pattern value : ℕ) {values : List ℕ} (a : RunAsks T s mode pattern value values) where
-  pub ask-plan : PatternAsks T pattern (replicate 128 0)
-  ask-plan = record { table = run-table a; node = a .pattern-node; none-bound = refl }
+  pub ask-plan : PatternAsks T pattern (replicate 128 0) 0
+  ask-plan = ask-pattern T pattern (record { table = run-table a; node = a .pattern-node })
 
-  module _ {binders scratch : List ℕ} {count : ℕ} (p : PatternPlanned T s mode pattern (replicate 2048 0) binders scratch count) where
+  module _ {binders scratch : List ℕ} {count : ℕ} (p : PatternPlanned T s mode pattern 0 (replicate 2048 0) binders scratch count) where
     pub ask-values : MatchValuesAsks T s mode scratch count value values
-    ask-values = record { root = pattern; asks = a; laid = p .laid }
+    ask-values = record { root = pattern; asks = a; laid = scratch-laid (p .wrote) (p .few) }
 
     size : count ≡ length (entries (planOf T s mode pattern) 0)
-    size = let e = p .laid .end in omega arith
+    size = let e = p .wrote .end in omega arith
 
-    module _ {buffer filled : List ℕ} {r : PlanAnswer} (d : Delivered scratch 0 0 count buffer filled r) where
+    module _ {buffer mid filled : List ℕ} {end : ℕ} {r : PlanAnswer} (w : Wrote buffer 0 (readEntries scratch 0 count) mid end) (d : Closed 0 end mid filled r) where
       in-buffer : filled ≡ written (planned 0 0 (entries (planOf T s mode pattern) 0)) buffer
-      in-buffer = delivered 0 0 (entries (planOf T s mode pattern) 0) (p .few) (p .laid) d .buffer
+      in-buffer =
+          let f = p .few in
+          let l = length-replicate {A = ℕ} 2048 0 in
+          let e = wrote-read (p .wrote) (omega arith) in
+          wrote-closed 0 (entries (planOf T s mode pattern) 0) (rw e at w) d .buffer
 
       same-space : length filled ≡ length buffer
-      same-space = go (leb count (length buffer / 4)) refl
+      same-space = go (leb end (length mid / 4)) refl ∙ wrote-long w
         where
-          go : (b : Bool) → leb count (length buffer / 4) ≡ b → length filled ≡ length buffer
+          go : (b : Bool) → leb end (length mid / 4) ≡ b → length filled ≡ length mid
           go true e =
-              let f : filled ≡ tabulate (wordAt scratch (count * 4)) 0 (length buffer) = rw e at (d .buffer) in
-              ap length f ∙ length-tabulate (wordAt scratch (count * 4)) 0 (length buffer)
+              let f : filled ≡ tabulate (wordAt mid (end * 4)) 0 (length mid) = rw e at (d .buffer) in
+              ap length f ∙ length-tabulate (wordAt mid (end * 4)) 0 (length mid)
           go false e =
-              let f : filled ≡ replicate (length buffer) 0 = rw e at (d .buffer) in
-              ap length f ∙ length-replicate {A = ℕ} (length buffer) 0
+              let f : filled ≡ replicate (length mid) 0 = rw e at (d .buffer) in
+              ap length f ∙ length-replicate {A = ℕ} (length mid) 0
 
       pub too-large : length filled / 4 < count → Ran (plannedName (isUnbound s mode) (expr T pattern)) (carriedOut (entries (planOf T s mode pattern) 0) (ran T s mode pattern value values)) values buffer values filled (PlanTooLarge count)
       unfolding runAnswer planAfter valuesAfter

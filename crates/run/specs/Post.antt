@@ -39,7 +39,7 @@ pub record MatchValuesAsks (T : Tables) (s : Scope) (mode : ScopingMode) (scratc
 
 -- what a run from the values in the list came to, whatever pattern the entries are the plan of
 pub record ValuesCame (T : Tables) (s : Scope) (mode : ScopingMode) (scratch : List ℕ) (count : ℕ) (binders : List ℕ) (value : ℕ) (before after : List ℕ) (r : RunAnswer) : Type 0 where
-  pub each : (root : ℕ) → RunAsks T s mode root value before → PatternPlanned T s mode root (replicate 2048 0) binders scratch count
+  pub each : (root : ℕ) → RunAsks T s mode root value before → PatternPlanned T s mode root 0 (replicate 2048 0) binders scratch count
       → (r ≡ answerOf (ran T s mode root value before)) × (after ≡ setNames (plannedName (isUnbound s mode) (expr T root)) (ran T s mode root value before) before)
 
 -- a run of a table that passed the check, with roots in it and a list that is long enough

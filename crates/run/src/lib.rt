@@ -13,7 +13,8 @@ use names::known_listed;
 use names::set_names;
 use names::start_list;
 use planner::buffer::clear;
-use planner::buffer::deliver;
+use planner::buffer::close;
+use planner::buffer::copy_entries;
 use planner::context::is_sound;
 use planner::destructuring::plan_pattern;
 use scope::Scope;
@@ -108,8 +109,10 @@ fn carry_out(
         pattern,
         &mut binders,
         &mut scratch,
+        0,
     );
-    deliver(plan, &scratch, 0, 0, count);
+    let end = copy_entries(plan, 0, &scratch, count);
+    close(plan, 0, end);
     if plan.len() / 4 < count {
         return RunAnswer::PlanTooLarge { needed: count };
     }

@@ -1,8 +1,8 @@
 -- `some .. in`, answer by answer.
-use Prim.Native.Nat.{ℕ, _+_}
-use mathlib.Core.Path.{_≡_, sym, subst, _∙_}
+use Prim.Native.Nat.{ℕ}
+use mathlib.Core.Path.{_≡_, sym, _∙_}
 use mathlib.Core.Bool.{Bool, true, false, cond, not, _||_}
-use mathlib.Core.List.{List, _++_}
+use mathlib.Core.List.{List, [], _++_}
 use native.Mathlib.Omega.{arith}
 use borrow.Author.Tests.{ne-eqb, not-true, not-false}
 use lib.Dec.{eqb}
@@ -15,66 +15,69 @@ use Rattle.table.specs.declared.TableAnswer.the-variants.{Sound}
 use Rattle.table.specs.Tables.{Tables, isNode}
 use Rattle.table.specs.Check.{checked}
 use Rattle.planner.specs.declared.PlanAnswer.{PlanAnswer}
-use Rattle.planner.specs.declared.PlanAnswer.the-variants.{RootOutside, VariableAlreadyDefined}
-use Rattle.planner.specs.Layout.{Entry}
-use Rattle.planner.specs.Entries.{readEntries, Wrote, CopyAsks}
-use Rattle.planner.specs.Operations.{refused, planned, Answered, isSound}
-use Rattle.planner.specs.code.Post.{PatternPlanned, Delivered}
+use Rattle.planner.specs.declared.PlanAnswer.the-variants.{RootOutside, VariableAlreadyDefined, ArrayLengthMismatch, ObjectLiteralKeysMismatch}
+use Rattle.planner.specs.Layout.{Entry, entries}
+use Rattle.planner.specs.Entries.{Wrote}
+use Rattle.planner.specs.Operations.{refused, planned, planOf, Answered, isSound}
+use Rattle.planner.specs.code.Post.{PatternPlanned, Closed}
 use Rattle.planner.specs.code.Validation.{firstDefined}
-use Rattle.planner.proofs.laws.Operations.{refuses, read-plan, table-passes}
-use Rattle.planner.proofs.buffer.ReadBack.{length-read}
-use Rattle.planner.proofs.buffer.Copies.{wrote-append, wrote-delivered}
+use Rattle.planner.proofs.laws.Operations.{refuses, table-passes}
+use Rattle.planner.proofs.buffer.Copies.{wrote-long, wrote-none, wrote-append, wrote-closed}
 use Rattle.planner.proofs.laws.Validating.{validated-by}
 use Rattle.checks.specs.declared.LiteralStructureCheck.{LiteralStructureCheck}
-use Rattle.checks.specs.Refusals.{unlessMismatch}
-use Rattle.checks.proofs.Refused.{passes-undefined, refuses-defined}
-use Rattle.some_in.specs.SomeIn.{valuePlanned, someInPlanned, someInOutcome}
-use Rattle.some_in.specs.Post.{BlankAsks, Validated, CollectionChecked, CountsAsk, KeyAsks}
+use Rattle.checks.specs.declared.LiteralStructureCheck.the-variants.{Match, Unknown, ArrayMismatch, ObjectMismatch}
+use Rattle.checks.proofs.Refused.{passes-match, passes-unknown, refuses-array, refuses-object, passes-undefined, refuses-defined}
+use Rattle.some_in.specs.SomeIn.{someInPlanned, someInOutcome}
+use Rattle.some_in.specs.Post.{CollectionChecked, PlaceAsks, Validated, SomeInClosed, ValueAnswered, KeyAsks}
 
--- both plans into the buffer
-pub ask-entries : {keys count : ℕ} → CountsAsk keys count → (scratch : List ℕ) {before mid : List ℕ} {at : ℕ} → Wrote before 0 (readEntries scratch 0 keys) mid at → CopyAsks at count
-ask-entries {keys} a scratch w =
-    let e = w .end in
-    let n = length-read scratch 0 keys in
-    let f = a .few-keys in
-    record { few = a .few; low = omega arith }
-
-pub both-delivered : (form : ℕ) {ks es : List Entry} {before mid last later : List ℕ} {at end : ℕ} {r : PlanAnswer} → Wrote before 0 ks mid at → Wrote mid at es last end → Delivered last form 0 end last later r
-    → Answered (planned form 0 (ks ++ es)) before later r
-both-delivered form {ks} {es} a b d = wrote-delivered form (ks ++ es) (wrote-append a b) d
+-- a buffer that was written and then cleared
+cleared : {before mid later : List ℕ} {at end : ℕ} {es : List Entry} → Wrote before at es mid end → later ≡ replicate (length mid) 0 → later ≡ replicate (length before) 0
+cleared w z = let long = wrote-long w in rw long at z
 
 -- a pattern's plan, and its names
-module _ (T : Tables) (s : Scope) (root : ℕ) {scratch : List ℕ} (a : BlankAsks T root scratch) where
-  pub plan-validated : {binders later : List ℕ} {count name : ℕ} → PatternPlanned T s RespectParent root scratch binders later count → name ≡ firstDefined T s binders root → Validated T s root later count name
-  plan-validated {binders} {later} {count} laid is =
-      let p = subst (λ (l : List ℕ). PatternPlanned T s RespectParent root l binders later count) (a .blank) laid in
-      record { read = read-plan T s RespectParent root p; few = p .few; defined = is ∙ validated-by T s RespectParent root (record { table = a .table; node = a .node }) p }
+module _ (T : Tables) (s : Scope) (root : ℕ) {at : ℕ} (a : PlaceAsks T root at) where
+  pub plan-validated : {before binders later : List ℕ} {end name : ℕ} → PatternPlanned T s RespectParent root at before binders later end → name ≡ firstDefined T s binders root → Validated T s root at before later end name
+  plan-validated p is = record { wrote = p .wrote; few = p .few; defined = is ∙ validated-by T s RespectParent root (record { table = a .table; node = a .node }) p }
+
+-- the entries in the buffer, by the check
+module _ (form : ℕ) {c : LiteralStructureCheck} {end : ℕ} {mid later : List ℕ} where
+  pub closed-match : {r : PlanAnswer} → c ≡ Match → Closed form end mid later r → SomeInClosed form c end mid later r
+  closed-match e d = record { told = λ before es w. passes-match (planned form 0 es) e (wrote-closed form es w d) }
+
+  pub closed-unknown : {r : PlanAnswer} → c ≡ Unknown → Closed form end mid later r → SomeInClosed form c end mid later r
+  closed-unknown e d = record { told = λ before es w. passes-unknown (planned form 0 es) e (wrote-closed form es w d) }
+
+  module _ (z : later ≡ replicate (length mid) 0) where
+    pub closed-array : {n expected actual : ℕ} → c ≡ ArrayMismatch n expected actual → SomeInClosed form c end mid later (ArrayLengthMismatch n expected actual)
+    closed-array e = record { told = λ before es w. refuses-array (planned form 0 es) e (cleared w z) }
+
+    pub closed-object : {n pattern : ℕ} → c ≡ ObjectMismatch n pattern → SomeInClosed form c end mid later (ObjectLiteralKeysMismatch n pattern)
+    closed-object e = record { told = λ before es w. refuses-object (planned form 0 es) e (cleared w z) }
 
 -- the value's
-module _ (T : Tables) (s : Scope) (value collection : ℕ) {scratch : List ℕ} {count name : ℕ} (p : Validated T s value scratch count name) (form : ℕ) (ks : List Entry) {before later : List ℕ} where
-  pub value-refused : (name ≡ 0 → ⊥) → later ≡ replicate (length before) 0 → Answered (valuePlanned T s value collection form ks) before later (VariableAlreadyDefined name)
-  value-refused d z = rw (← (p .defined)) (refuses-defined _ d z)
+module _ (T : Tables) (s : Scope) (value collection : ℕ) {at : ℕ} {mid last : List ℕ} {end name : ℕ} (p : Validated T s value at mid last end name) (form : ℕ) {later : List ℕ} where
+  pub value-refused : (name ≡ 0 → ⊥) → later ≡ replicate (length last) 0 → ValueAnswered T s value collection form at mid later (VariableAlreadyDefined name)
+  value-refused d z = record { told = λ before ks w. rw (← (p .defined)) (refuses-defined _ d (cleared (wrote-append w (p .wrote)) z)) }
 
-  pub value-delivered : {r : PlanAnswer} → name ≡ 0 → {c : LiteralStructureCheck} → CollectionChecked T value collection c
-      → Answered (unlessMismatch c (planned form 0 (ks ++ readEntries scratch 0 count))) before later r → Answered (valuePlanned T s value collection form ks) before later r
-  value-delivered none-defined told d = rw (← (p .defined)) (passes-undefined _ none-defined (rw (← (told .told (isUnbound s RespectParent)), ← (p .read)) d))
+  pub value-closed : {r : PlanAnswer} → name ≡ 0 → {c : LiteralStructureCheck} → CollectionChecked T value collection c → SomeInClosed form c end last later r → ValueAnswered T s value collection form at mid later r
+  value-closed none-defined checked d = record {
+    told = λ before ks w. rw (← (p .defined)) (passes-undefined _ none-defined (rw (← (checked .told (isUnbound s RespectParent))) (d .told before (ks ++ entries (planOf T s RespectParent value) 0) (wrote-append w (p .wrote)))));
+  }
 
 -- the key's
 a-key : {T : Tables} {value collection key : ℕ} → KeyAsks T value collection key → eqb key 0 ≡ false
 a-key {key = key} a = let l = a .node .low in ne-eqb key 0 (λ e. omega arith)
 
-module _ (T : Tables) (s : Scope) (value collection key : ℕ) (a : KeyAsks T value collection key) {scratch : List ℕ} {count name : ℕ} (p : Validated T s key scratch count name) {before later : List ℕ} where
-  pub key-refused : (name ≡ 0 → ⊥) → later ≡ replicate (length before) 0 → Answered (someInPlanned T s value collection key) before later (VariableAlreadyDefined name)
-  key-refused d z = let k = a-key a in rw (k, ← (p .defined)) (refuses-defined _ d z)
+module _ (T : Tables) (s : Scope) (value collection key : ℕ) (a : KeyAsks T value collection key) {before mid : List ℕ} {end name : ℕ} (p : Validated T s key 0 before mid end name) {later : List ℕ} where
+  pub key-refused : (name ≡ 0 → ⊥) → later ≡ replicate (length mid) 0 → Answered (someInPlanned T s value collection key) before later (VariableAlreadyDefined name)
+  key-refused d z = let k = a-key a in rw (k, ← (p .defined)) (refuses-defined _ d (cleared (p .wrote) z))
 
-  pub key-delivered : {r : PlanAnswer} → name ≡ 0 → Answered (valuePlanned T s value collection 1 (readEntries scratch 0 count)) before later r → Answered (someInPlanned T s value collection key) before later r
-  key-delivered none-defined d = let k = a-key a in rw (k, ← (p .defined)) (passes-undefined _ none-defined (rw (← (p .read)) d))
+  pub key-answered : {r : PlanAnswer} → name ≡ 0 → ValueAnswered T s value collection 1 end mid later r → Answered (someInPlanned T s value collection key) before later r
+  key-answered none-defined v = let k = a-key a in rw (k, ← (p .defined)) (passes-undefined _ none-defined (v .told before (entries (planOf T s RespectParent key) 0) (p .wrote)))
 
 -- no key
-pub without-key : (T : Tables) (s : Scope) (value collection : ℕ) (scratch : List ℕ) {before later : List ℕ} {r : PlanAnswer} → Answered (valuePlanned T s value collection 0 (readEntries scratch 0 0)) before later r
-    → Answered (someInPlanned T s value collection 0) before later r
-unfolding readEntries
-without-key T s value collection scratch a = a
+pub without-key : (T : Tables) (s : Scope) (value collection : ℕ) {before later : List ℕ} {r : PlanAnswer} → ValueAnswered T s value collection 0 0 before later r → Answered (someInPlanned T s value collection 0) before later r
+without-key T s value collection {before} v = v .told before [] (wrote-none before 0)
 
 -- the table check and the roots
 module _ (T : Tables) (s : Scope) {c : TableAnswer} (is : c ≡ checked T s) {ok : Bool} (of : ok ≡ isSound c) (passes : not ok ≡ false) where

@@ -3,19 +3,20 @@ use Prim.Native.Nat.{ℕ, _+_, _^_, _≤_, _<_}
 use mathlib.Core.Path.{_≡_}
 use mathlib.Core.Bool.{Bool}
 use mathlib.Core.List.{List, []}
-use lib.ListN.{replicate}
 use Rattle.scope.specs.declared.Scope.{Scope}
 use Rattle.scope.specs.declared.ScopingMode.the-variants.{RespectParent}
 use Rattle.table.specs.Tables.{Tables, childAt}
 use Rattle.table.specs.Decode.{expr, items}
 use Rattle.table.specs.Sound.{Node, WellFormed}
 use Rattle.planner.specs.Plan.{plan}
-use Rattle.planner.specs.Layout.{entries}
-use Rattle.planner.specs.Entries.{readEntries}
-use Rattle.planner.specs.Operations.{planOf, validated}
+use Rattle.planner.specs.declared.PlanAnswer.{PlanAnswer}
+use Rattle.planner.specs.Layout.{Entry, entries}
+use Rattle.planner.specs.Entries.{Wrote}
+use Rattle.planner.specs.Operations.{planOf, planned, validated, Answered}
 use Rattle.checks.specs.declared.LiteralStructureCheck.{LiteralStructureCheck}
+use Rattle.checks.specs.Refusals.{unlessMismatch}
 use Rattle.checks.specs.Post.{GoodPair}
-use Rattle.some_in.specs.SomeIn.{anyFits, itemsStructure, collectionStructure}
+use Rattle.some_in.specs.SomeIn.{anyFits, itemsStructure, collectionStructure, valuePlanned}
 
 -- a pattern, and `left` items from child entry `at` on
 pub record ItemsAsk (T : Tables) (pattern at left : ℕ) : Type 0 where
@@ -35,27 +36,30 @@ pub record ItemsChecked (T : Tables) (pattern at left : ℕ) (r : LiteralStructu
 pub record CollectionChecked (T : Tables) (pattern collection : ℕ) (r : LiteralStructureCheck) : Type 0 where
   pub told : (unbound : ℕ → Bool) → r ≡ collectionStructure (expr T collection) (plan unbound (expr T pattern) [])
 
--- a root of a good table, and an empty scratch
-pub record BlankAsks (T : Tables) (root : ℕ) (scratch : List ℕ) : Type 0 where
+-- a root of a good table, and the place of its first entry
+pub record PlaceAsks (T : Tables) (root at : ℕ) : Type 0 where
   pub table : WellFormed T
   pub node : Node T root
-  pub blank : scratch ≡ replicate 2048 0
+  pub low : at ≤ 512
 
--- its plan in the scratch, and its first name that is defined already, or 0
-pub record Validated (T : Tables) (s : Scope) (root : ℕ) (scratch : List ℕ) (count name : ℕ) : Type 0 where
-  pub read : readEntries scratch 0 count ≡ entries (planOf T s RespectParent root) 0
-  pub few : count ≤ 512
+-- its plan's entries from that place on, and its first name that is defined already, or 0
+pub record Validated (T : Tables) (s : Scope) (root at : ℕ) (before after : List ℕ) (end name : ℕ) : Type 0 where
+  pub wrote : Wrote before at (entries (planOf T s RespectParent root) 0) after end
+  pub few : end ≤ at + 512
   pub defined : name ≡ validated T s RespectParent root
 
--- two plans in scratches
-pub record CountsAsk (keys count : ℕ) : Type 0 where
-  pub few-keys : keys ≤ 512
-  pub few : count ≤ 512
-
--- the value and the collection, and the key's plan in a scratch
-pub record ValueAsks (T : Tables) (value collection keys : ℕ) : Type 0 where
+-- the value and the collection, and the place after the key's entries
+pub record ValueAsks (T : Tables) (value collection at : ℕ) : Type 0 where
   pub pair : GoodPair T value collection
-  pub few-keys : keys ≤ 512
+  pub low : at ≤ 512
+
+-- What a buffer `mid` becomes, told of the buffer as it was before the entries in `mid` were put.
+
+pub record SomeInClosed (form : ℕ) (c : LiteralStructureCheck) (end : ℕ) (mid later : List ℕ) (r : PlanAnswer) : Type 0 where
+  pub told : (before : List ℕ) (es : List Entry) → Wrote before 0 es mid end → Answered (unlessMismatch c (planned form 0 es)) before later r
+
+pub record ValueAnswered (T : Tables) (s : Scope) (value collection form at : ℕ) (mid later : List ℕ) (r : PlanAnswer) : Type 0 where
+  pub told : (before : List ℕ) (keys : List Entry) → Wrote before 0 keys mid at → Answered (valuePlanned T s value collection form keys) before later r
 
 pub record KeyAsks (T : Tables) (value collection key : ℕ) : Type 0 where
   pub pair : GoodPair T value collection

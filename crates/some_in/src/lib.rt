@@ -1,20 +1,16 @@
 // Plans of `some key, value in collection` (some_in.rs).
 mod collection;
 
-ghost use mathlib.Core.List.{_++_};
 ghost use Rattle.table.specs.Tables.{tables};
-ghost use Rattle.planner.specs.Entries.{readEntries};
-ghost use Rattle.planner.specs.Operations.{planned, Answered};
-ghost use Rattle.checks.specs.Refusals.{unlessMismatch};
+ghost use Rattle.planner.specs.Operations.{Answered};
 ghost use Rattle.checks.specs.Post.{GoodPair};
-ghost use Rattle.some_in.specs.SomeIn.{valuePlanned, someInPlanned, someInOutcome};
-ghost use Rattle.some_in.specs.Post.{BlankAsks, Validated, CountsAsk, ValueAsks, KeyAsks};
+ghost use Rattle.some_in.specs.SomeIn.{someInPlanned, someInOutcome};
+ghost use Rattle.some_in.specs.Post.{PlaceAsks, Validated, SomeInClosed, ValueAsks, ValueAnswered, KeyAsks};
 use crate::collection::check_collection;
 use checks::LiteralStructureCheck;
 use planner::PlanAnswer;
 use planner::buffer::clear;
 use planner::buffer::close;
-use planner::buffer::copy_entries;
 use planner::context::is_sound;
 use planner::destructuring::plan_pattern;
 use planner::parameters::validate_pattern_bindings;
@@ -23,9 +19,9 @@ use scope::ScopingMode;
 use table::check;
 use table::reading::is_node;
 
-// A pattern's plan in a scratch: how many entries it has, and the first name that is defined already, or 0.
+// A pattern's plan in the buffer: the place after its entries, and the first name that is defined already, or 0.
 pub struct ValidatedPlan {
-    pub count: usize,
+    pub end: usize,
     pub name: u32,
 }
 
@@ -38,13 +34,14 @@ fn plan_validated(
     text: &[u8],
     scope: Scope,
     root: u32,
-    scratch: &mut [u32; 2048],
+    plan: &mut [u32],
+    at: usize,
 ) -> ValidatedPlan
-    requires { ⌜ BlankAsks (tables (now nodes) (now children) (now numbers) (now names) (now strings) (now text)) root (now scratch) ⌝ }
-    ensures { λ r. ⌜ Validated (tables (now (nodes .entry)) (now (children .entry)) (now (numbers .entry)) (now (names .entry)) (now (strings .entry)) (now (text .entry))) scope root (now (scratch .exit)) (r .count) (r .name) ⌝ }
+    requires { ⌜ PlaceAsks (tables (now nodes) (now children) (now numbers) (now names) (now strings) (now text)) root at ⌝ }
+    ensures { λ r. ⌜ Validated (tables (now (nodes .entry)) (now (children .entry)) (now (numbers .entry)) (now (names .entry)) (now (strings .entry)) (now (text .entry))) scope root at (now (plan .entry)) (now (plan .exit)) (r .end) (r .name) ⌝ }
 {
     let mut binders = [0u32; 128];
-    let count = plan_pattern(
+    let end = plan_pattern(
         nodes,
         children,
         numbers,
@@ -55,7 +52,8 @@ fn plan_validated(
         ScopingMode::RespectParent,
         root,
         &mut binders,
-        scratch,
+        plan,
+        at,
     );
     let name = validate_pattern_bindings(
         nodes,
@@ -68,49 +66,21 @@ fn plan_validated(
         &binders,
         root,
     );
-    ValidatedPlan { count, name }
+    ValidatedPlan { end, name }
 }
 
-// The key's entries, then the value's.
-fn deliver_both(
-    plan: &mut [u32],
-    form: u32,
-    key_scratch: &[u32; 2048],
-    keys: usize,
-    scratch: &[u32; 2048],
-    count: usize,
-) -> PlanAnswer
-    requires { ⌜ CountsAsk keys count ⌝ }
-    ensures { λ r. ⌜ Answered (planned form 0 (readEntries (now («key_scratch» .entry)) 0 keys ++ readEntries (now (scratch .entry)) 0 count)) (now (plan .entry)) (now (plan .exit)) r ⌝ }
-{
-    let at = copy_entries(plan, 0, key_scratch, keys);
-    let end = copy_entries(plan, at, scratch, count);
-    close(plan, form, end)
-}
-
-// Both plans, unless the collection's items are a mismatch.
+// The entries that stand before `end`, unless the collection's items are a mismatch.
 fn deliver_some_in(
     plan: &mut [u32],
     form: u32,
     check: LiteralStructureCheck,
-    key_scratch: &[u32; 2048],
-    keys: usize,
-    scratch: &[u32; 2048],
-    count: usize,
+    end: usize,
 ) -> PlanAnswer
-    requires { ⌜ CountsAsk keys count ⌝ }
-    ensures { λ r. ⌜ Answered (unlessMismatch check (planned form 0 (readEntries (now («key_scratch» .entry)) 0 keys ++ readEntries (now (scratch .entry)) 0 count))) (now (plan .entry)) (now (plan .exit)) r ⌝ }
+    ensures { λ r. ⌜ SomeInClosed form check end (now (plan .entry)) (now (plan .exit)) r ⌝ }
 {
     match check {
-        LiteralStructureCheck::Match => deliver_both(plan, form, key_scratch, keys, scratch, count),
-        LiteralStructureCheck::Unknown => deliver_both(
-            plan,
-            form,
-            key_scratch,
-            keys,
-            scratch,
-            count,
-        ),
+        LiteralStructureCheck::Match => close(plan, form, end),
+        LiteralStructureCheck::Unknown => close(plan, form, end),
         LiteralStructureCheck::ArrayMismatch {
             value,
             expected,
@@ -130,7 +100,7 @@ fn deliver_some_in(
     }
 }
 
-// The value, after a key whose entries stand in its scratch.
+// The value, after a key whose entries stand before `at`.
 fn plan_value(
     nodes: &[u32],
     children: &[u32],
@@ -142,14 +112,12 @@ fn plan_value(
     value: u32,
     collection: u32,
     form: u32,
-    key_scratch: &[u32; 2048],
-    keys: usize,
     plan: &mut [u32],
+    at: usize,
 ) -> PlanAnswer
-    requires { ⌜ ValueAsks (tables (now nodes) (now children) (now numbers) (now names) (now strings) (now text)) value collection keys ⌝ }
-    ensures { λ r. ⌜ Answered (valuePlanned (tables (now (nodes .entry)) (now (children .entry)) (now (numbers .entry)) (now (names .entry)) (now (strings .entry)) (now (text .entry))) scope value collection form (readEntries (now («key_scratch» .entry)) 0 keys)) (now (plan .entry)) (now (plan .exit)) r ⌝ }
+    requires { ⌜ ValueAsks (tables (now nodes) (now children) (now numbers) (now names) (now strings) (now text)) value collection at ⌝ }
+    ensures { λ r. ⌜ ValueAnswered (tables (now (nodes .entry)) (now (children .entry)) (now (numbers .entry)) (now (names .entry)) (now (strings .entry)) (now (text .entry))) scope value collection form at (now (plan .entry)) (now (plan .exit)) r ⌝ }
 {
-    let mut scratch = [0u32; 2048];
     let value_plan = plan_validated(
         nodes,
         children,
@@ -159,7 +127,8 @@ fn plan_value(
         text,
         scope,
         value,
-        &mut scratch,
+        plan,
+        at,
     );
     if value_plan.name != 0 {
         clear(plan);
@@ -177,15 +146,7 @@ fn plan_value(
         value,
         collection,
     );
-    deliver_some_in(
-        plan,
-        form,
-        check,
-        key_scratch,
-        keys,
-        &scratch,
-        value_plan.count,
-    )
+    deliver_some_in(plan, form, check, value_plan.end)
 }
 
 fn plan_key(
@@ -204,7 +165,6 @@ fn plan_key(
     requires { ⌜ KeyAsks (tables (now nodes) (now children) (now numbers) (now names) (now strings) (now text)) value collection key ⌝ }
     ensures { λ r. ⌜ Answered (someInPlanned (tables (now (nodes .entry)) (now (children .entry)) (now (numbers .entry)) (now (names .entry)) (now (strings .entry)) (now (text .entry))) scope value collection key) (now (plan .entry)) (now (plan .exit)) r ⌝ }
 {
-    let mut key_scratch = [0u32; 2048];
     let key_plan = plan_validated(
         nodes,
         children,
@@ -214,7 +174,8 @@ fn plan_key(
         text,
         scope,
         key,
-        &mut key_scratch,
+        plan,
+        0,
     );
     if key_plan.name != 0 {
         clear(plan);
@@ -233,9 +194,8 @@ fn plan_key(
         value,
         collection,
         1,
-        &key_scratch,
-        key_plan.count,
         plan,
+        key_plan.end,
     )
 }
 
@@ -254,7 +214,6 @@ fn plan_without_key(
     requires { ⌜ GoodPair (tables (now nodes) (now children) (now numbers) (now names) (now strings) (now text)) value collection ⌝ }
     ensures { λ r. ⌜ Answered (someInPlanned (tables (now (nodes .entry)) (now (children .entry)) (now (numbers .entry)) (now (names .entry)) (now (strings .entry)) (now (text .entry))) scope value collection 0) (now (plan .entry)) (now (plan .exit)) r ⌝ }
 {
-    let none = [0u32; 2048];
     plan_value(
         nodes,
         children,
@@ -266,9 +225,8 @@ fn plan_without_key(
         value,
         collection,
         0,
-        &none,
-        0,
         plan,
+        0,
     )
 }
 

@@ -11,6 +11,10 @@ use Rattle.scope.proofs.Scope.new.Reads as new-reads
 new-requires : tie.Need-new-requires
 new-requires c κs = search needs
 
+-- src/lib.rt:54:9
+slice-aggregate-plan-pattern : tie.Need-slice-aggregate-plan-pattern
+slice-aggregate-plan-pattern c = search needs
+
 -- src/lib.rt:43:5
 plan-pattern-requires : tie.Need-plan-pattern-requires
 plan-pattern-requires c κs = search needs
@@ -20,4 +24,5 @@ returns : tie.Need-returns
 returns c = search (met-by, needs)
 
 pub names-met-spec : {M : Type 1} → statement M
-names-met-spec = tie.close (tie.spec new-requires plan-pattern-requires returns)
+names-met-spec =
+    tie.close (tie.spec new-requires slice-aggregate-plan-pattern plan-pattern-requires returns)
