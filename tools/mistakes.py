@@ -6,8 +6,8 @@ An edit (crates/NAME/must-fail/*.edit) holds several mistakes, each under a line
     mistake: NAME in FUNCTION[, FUNCTION ..]: what it would do
 
 `rt must-fail` asks only that the crate with the whole edit is refused. This reads
-what the prover said of each function: it must be refused by itself, not because
-it calls another one that is, and for a fact: none is found, or another is given.
+what the prover said of each function: its own proof must fail, whatever becomes of
+the functions that it calls, and for a fact: none is found, or another is given.
 """
 
 import pathlib
@@ -20,6 +20,8 @@ NO_FACT = re.compile(
     r"`search`: no proof of|`omega`: the goal does not follow|the two types (first differ|differ only) where"
 )
 UNCLOSED = re.compile(r"no proof: expected `[^`]*` in [^;]*; `search` does not close ")
+# What follows from another error: a part of this proof that failed, or the proof of a function that it calls.
+FOLLOWS = re.compile(r" was not admitted ")
 
 
 def mistakes(edit):
@@ -27,13 +29,28 @@ def mistakes(edit):
     return [(name, re.split(r", *", where)) for name, where in MISTAKE.findall(edit)]
 
 
-def first_error(log, function):
-    """The first error in the proof of a function, which may be shared with others (+a+b)."""
+def kebab(name):
+    return name.replace("_", "-")
+
+
+def is_of(need, name, folder):
+    """Is a need of a proof that functions share (a folder +a+b) one of this function's?"""
+    members = [kebab(member) for member in folder.split("+")[1:]]
+    owners = [member for member in members if need.startswith(member + "-")]
+    return not members or max(owners, key=len, default="") == kebab(name)
+
+
+def own_errors(log, function):
+    """The errors in the proof of a function, those aside that follow from others."""
     *modules, name = function.split("::")
-    folder = "/".join(["proofs", *modules])
-    own = rf"{folder}/(?:{name}|[\w+]*\+{name}(?:\+[\w+]*)?)/Proof\.antt"
-    found = re.search(rf"^\S*/{own}:\S*: error: (.*)$", log, re.MULTILINE)
-    return found.group(1) if found else ""
+    proofs = "/".join(["proofs", *modules])
+    own = rf"{proofs}/({name}|[\w+]*\+{name}(?:\+[\w+]*)?)/Proof\.antt"
+    errors = []
+    for folder, text in re.findall(rf"^\S*/{own}:\S*: error: (.*)$", log, re.MULTILINE):
+        need = re.match(r"`([^`]+)`: ", text)
+        if not FOLLOWS.search(text) and (not need or is_of(need.group(1), name, folder)):
+            errors.append(text)
+    return errors
 
 
 def fault(log, crate, function):
@@ -43,26 +60,33 @@ def fault(log, crate, function):
         return "the prover says nothing of it"
     if UNCLOSED.match(said.group(1)):
         return None
-    if said.group(1) != "not proved":
-        return said.group(1)
-    error = first_error(log, function)
-    return None if NO_FACT.search(error) else f"its first error: {error[:200] or 'none'}"
+    errors = own_errors(log, function)
+    if not errors:
+        return f"its own proof has no error: {said.group(1)}"
+    return None if NO_FACT.search(errors[0]) else f"its first error: {errors[0][:200]}"
+
+
+def twice(listed):
+    """The functions that more than one mistake changes: an error could be of either."""
+    functions = [function for _, changed in listed for function in changed]
+    return sorted({function for function in functions if functions.count(function) > 1})
 
 
 def faults(root, edit):
     """The faults of an edit file, a line each, and how many mistakes it holds."""
     crate = edit.parent.parent.name
+    label = f"{crate}/{edit.stem}"
     listed = mistakes(edit.read_text())
     if not listed:
-        return [f"{crate}/{edit.stem}: it names no mistake"], 0
+        return [f"{label}: it names no mistake"], 0
     log_file = root / "target" / "must-fail" / crate / edit.stem / ".log"
     log = log_file.read_text(errors="replace") if log_file.exists() else ""
-    lines = []
+    lines = [f"{label}: two mistakes in {function}" for function in twice(listed)]
     for name, functions in listed:
         for function in functions:
             why = fault(log, crate, function)
             if why:
-                lines.append(f"{crate}/{edit.stem}: {name} in {function}: {why}")
+                lines.append(f"{label}: {name} in {function}: {why}")
     return lines, len(listed)
 
 

@@ -12,6 +12,9 @@ CYCLE = "/x/proofs/keys/+first+order+second/Proof.antt:8:11: error: `order-retur
 OTHER = "/x/proofs/keys/order/Proof.antt:8:11: error: `asks`: the two types differ only where one has `i` and the other `k`\n"
 OMEGA = "/x/proofs/keys/order/Proof.antt:8:11: error: `asks`: `omega`: the goal does not follow from what it read\n"
 SHAPE = "/x/proofs/keys/order/Proof.antt:9:1: error: `order-spec`: `mul` is not a name\n"
+OTHERS = "/x/proofs/keys/+order+order_all/Proof.antt:8:11: error: `order-all-returns`: `search`: no proof of `Post`\n"
+FOLLOWS = "/x/proofs/keys/order/Proof.antt:9:1: error: `order-spec`: `close` was not admitted (it has holes), so ..\n"
+CALLS = "fn c::keys::order: not proved; it calls `c::same`, which is not proved\n"
 AUTOMATIC = "fn c::same: no proof: expected `same-spec` in /x/proofs/same/Proof.antt; `search` does not close `returns`\n"
 
 
@@ -25,11 +28,21 @@ class Mistakes(unittest.TestCase):
             self.assertIsNone(mistakes.fault(log, "c", "keys::order"))
         self.assertIsNone(mistakes.fault(AUTOMATIC, "c", "same"))
 
+    def test_refused_by_itself_and_for_a_call(self):
+        self.assertIsNone(mistakes.fault(FACT + FOLLOWS + CALLS, "c", "keys::order"))
+        calls = AUTOMATIC.replace("\n", "; it calls `c::keys::order`, which is not proved\n")
+        self.assertIsNone(mistakes.fault(calls, "c", "same"))
+
     def test_not_refused_by_itself(self):
-        calls = "fn c::keys::order: not proved; it calls `c::same`, which is not proved\n"
-        self.assertIn("it calls", mistakes.fault(FACT + calls, "c", "keys::order"))
-        self.assertEqual(mistakes.fault("fn c::same: proved\n", "c", "same"), "proved")
+        self.assertIn("it calls", mistakes.fault(FOLLOWS + CALLS, "c", "keys::order"))
+        self.assertIn("no error", mistakes.fault(OTHERS + CALLS, "c", "keys::order"))
+        self.assertIsNone(mistakes.fault(OTHERS + "fn c::keys::order_all: not proved\n", "c", "keys::order_all"))
+        self.assertIn("proved", mistakes.fault("fn c::same: proved\n", "c", "same"))
         self.assertIn("nothing", mistakes.fault("", "c", "same"))
+
+    def test_two_mistakes_in_one_function(self):
+        listed = mistakes.mistakes(EDIT + EDIT.replace("swapped", "again").replace(", same", ""))
+        self.assertEqual(mistakes.twice(listed), ["keys::order"])
 
     def test_refused_for_its_shape(self):
         log = SHAPE + FACT + "fn c::keys::order: not proved\n"
