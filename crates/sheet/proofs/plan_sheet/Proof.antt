@@ -4,6 +4,10 @@ use borrow.Author.Needs.{needs}
 use Rattle.sheet.proofs.plan_sheet.Statement.{statement}
 use Rattle.sheet.proofs.plan_sheet.Tie as tie
 
+-- what is answered over a limit, apart, so that an edit shows it
+returns-2 : tie.Need-returns-2
+returns-2 c = search (sheet-large, needs)
+
 pub plan-sheet-spec : {M : Type 1} → statement M
 plan-sheet-spec =
     tie.close
@@ -17,7 +21,7 @@ plan-sheet-spec =
     (λ c κs. search needs)
     (λ c κs. search needs)
     (λ c. search needs)
-    (λ c. search (sheet-large, needs))
+    returns-2
     (λ c κs. search (limited, needs))
     (λ c. search needs)
     (λ c. search (sheet-counted, needs)))

@@ -50,7 +50,7 @@ same-length-4 c = search needs
 
 -- src/assignment.rt:428:9
 returns-2 : tie.Need-returns-2
-returns-2 c = search (equals-left, c .before .before .before .before .before .before .before .before .before .before .before .before .before .before .before .before .before .before .before .before .before .before .pre .0, c .before .before .before .before .before .before .before .before .before .preview-sides .ensures, needs)
+returns-2 c = equals-left _ _ _ _ (c .before .before .before .before .before .before .before .before .before .before .before .before .before .before .before .before .before .before .before .before .before .before .pre .0) (search needs) (c .before .before .before .before .before .before .before .before .before .preview-sides .ensures) (search needs) (search needs) (c .before .before .bind-side .ensures)
 
 -- src/assignment.rt:444:9
 bind-right-requires : tie.Need-bind-right-requires
