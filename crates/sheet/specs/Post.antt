@@ -29,11 +29,11 @@ pub record Limited (c : Counts) : Type 0 where
   pub strings-few : c .strings ≤ 8192
   pub text-few : c .text ≤ 16384
 
--- counts for which small arrays have room
-pub record Small (c : Counts) : Type 0 where
-  pub children-fit : c .children ≤ 64
-  pub numbers-fit : c .numbers ≤ 32
-  pub names-fit : c .names ≤ 16
+-- counts for which arrays of such sizes have space
+pub record Space (c : Counts) (children numbers names : ℕ) : Type 0 where
+  pub children-fit : c .children ≤ children
+  pub numbers-fit : c .numbers ≤ numbers
+  pub names-fit : c .names ≤ names
 
 -- what was read of a column, into word w
 pub record WordRead (sheet : List ℕ) (at w : ℕ) (before after : List ℕ) (r : Bool) : Type 0 where

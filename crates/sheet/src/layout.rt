@@ -2,7 +2,7 @@
 ghost use mathlib.Core.Path.{_≡_};
 ghost use mathlib.Core.Bool.{true};
 ghost use Rattle.sheet.specs.Sheet.{withinLimits, placesOf};
-ghost use Rattle.sheet.specs.Post.{countsIn, Limited, Small};
+ghost use Rattle.sheet.specs.Post.{countsIn, Limited, Space};
 
 // What line 1 says.
 pub(crate) struct Counts {
@@ -64,17 +64,17 @@ pub(crate) fn within_limits(counts: Counts) -> bool
     counts.text <= 16384
 }
 
-// Whether the tables after the nodes are small: then clearing large arrays would take longer than reading them.
-pub(crate) fn is_small(counts: Counts) -> bool
-    ensures { λ r. ⌜ (r ≡ true → Small counts) ⌝ }
+// Whether arrays of such sizes have space for the tables after the nodes: clearing large ones would take longer than reading small tables.
+pub(crate) fn has_space(counts: Counts, children: usize, numbers: usize, names: usize) -> bool
+    ensures { λ r. ⌜ (r ≡ true → Space counts children numbers names) ⌝ }
 {
-    if 64 < counts.children {
+    if children < counts.children {
         return false;
     }
-    if 32 < counts.numbers {
+    if numbers < counts.numbers {
         return false;
     }
-    counts.names <= 16
+    counts.names <= names
 }
 
 pub(crate) fn places_of(counts: Counts) -> Places

@@ -1,12 +1,12 @@
 // A sheet after line 1: its tables read into arrays, planned and listed.
 ghost use mathlib.Core.Path.{_≡_};
-ghost use Prim.Native.Nat.{_<_};
+ghost use Prim.Native.Nat.{_<_, _≤_};
 ghost use lib.ListN.{length};
 ghost use Rattle.table.specs.Tables.{tables};
 ghost use Rattle.sheet.specs.Listing.{operated, linesOf, linesBytes, Printed};
-ghost use Rattle.sheet.specs.Post.{Limited, laidListing, Headed, NodesRead, TablesAsked, TablesRead, Tabled};
+ghost use Rattle.sheet.specs.Post.{Limited, Space, laidListing, Headed, NodesRead, TablesAsked, TablesRead, Tabled};
 use crate::layout::Counts;
-use crate::layout::is_small;
+use crate::layout::has_space;
 use crate::layout::places_of;
 use crate::lines::read_lines;
 use crate::lines::read_nodes_on;
@@ -58,8 +58,8 @@ fn plan_large(
     write_lines(out, row_of(answer), &plan)
 }
 
-// The same; few nodes are planned into space for 64 entries first, since clearing the larger takes longer than a small plan.
-fn plan_listed(
+// The same, planned into a smaller space first.
+fn plan_first(
     nodes: &[u32],
     children: &[u32],
     numbers: &[u64],
@@ -68,24 +68,12 @@ fn plan_listed(
     text: &[u8],
     scope: Scope,
     operation: Operation,
+    plan: &mut [u32],
     out: &mut [u8],
 ) -> usize
+    requires { ⌜ length (now plan) ≤ 6144 ⌝ }
     ensures { λ r. ⌜ Printed (linesBytes (linesOf (operated operation (tables (now (nodes .entry)) (now (children .entry)) (now (numbers .entry)) (now (names .entry)) (now (strings .entry)) (now (text .entry))) scope))) (now (out .entry)) (now (out .exit)) r ⌝ }
 {
-    if 320 < nodes.len() {
-        return plan_large(
-            nodes,
-            children,
-            numbers,
-            names,
-            strings,
-            text,
-            scope,
-            operation,
-            out,
-        );
-    }
-    let mut plan = [0u32; 256];
     let answer = operate(
         nodes,
         children,
@@ -95,7 +83,7 @@ fn plan_listed(
         text,
         scope,
         operation,
-        &mut plan,
+        plan,
     );
     let first = row_of(answer);
     if first.number == 6 {
@@ -111,7 +99,64 @@ fn plan_listed(
             out,
         );
     }
-    write_lines(out, first, &plan)
+    write_lines(out, first, plan)
+}
+
+// The same; few nodes are planned into space for 16 or 64 entries first, since clearing the larger takes longer than a small plan.
+fn plan_listed(
+    nodes: &[u32],
+    children: &[u32],
+    numbers: &[u64],
+    names: &[u32],
+    strings: &[u8],
+    text: &[u8],
+    scope: Scope,
+    operation: Operation,
+    out: &mut [u8],
+) -> usize
+    ensures { λ r. ⌜ Printed (linesBytes (linesOf (operated operation (tables (now (nodes .entry)) (now (children .entry)) (now (numbers .entry)) (now (names .entry)) (now (strings .entry)) (now (text .entry))) scope))) (now (out .entry)) (now (out .exit)) r ⌝ }
+{
+    if nodes.len() <= 80 {
+        let mut plan = [0u32; 64];
+        return plan_first(
+            nodes,
+            children,
+            numbers,
+            names,
+            strings,
+            text,
+            scope,
+            operation,
+            &mut plan,
+            out,
+        );
+    }
+    if nodes.len() <= 320 {
+        let mut plan = [0u32; 256];
+        return plan_first(
+            nodes,
+            children,
+            numbers,
+            names,
+            strings,
+            text,
+            scope,
+            operation,
+            &mut plan,
+            out,
+        );
+    }
+    plan_large(
+        nodes,
+        children,
+        numbers,
+        names,
+        strings,
+        text,
+        scope,
+        operation,
+        out,
+    )
 }
 
 // A sheet of good layout, whose tables and marks stand in arrays.
@@ -224,7 +269,7 @@ fn plan_sized(
     requires { ⌜ NodesRead (now sheet) counts operation (now nodes) ⌝ }
     ensures { λ r. ⌜ Printed (laidListing (now (sheet .entry)) counts) (now (out .entry)) (now (out .exit)) r ⌝ }
 {
-    if is_small(counts) {
+    if has_space(counts, 64, 32, 16) {
         let mut children = [0u32; 64];
         let mut numbers = [0u64; 64];
         let mut names = [0u32; 48];
@@ -271,6 +316,31 @@ fn plan_many(sheet: &[u8], counts: Counts, operation: Operation, out: &mut [u8])
     plan_sized(sheet, counts, operation, &nodes[..node_words], out)
 }
 
+// At most 16 nodes, and small arrays have space for the other tables.
+fn plan_few(sheet: &[u8], counts: Counts, operation: Operation, out: &mut [u8]) -> usize
+    requires { ⌜ Headed (now sheet) counts operation × (counts .nodes ≤ 16) × Space counts 16 8 8 ⌝ }
+    ensures { λ r. ⌜ Printed (laidListing (now (sheet .entry)) counts) (now (out .entry)) (now (out .exit)) r ⌝ }
+{
+    let node_words = counts.nodes * 5;
+    let mut nodes = [0u32; 80];
+    if !read_lines(sheet, 74, 5, counts.nodes, &mut nodes) {
+        return refuse(7, out);
+    }
+    let mut children = [0u32; 16];
+    let mut numbers = [0u64; 16];
+    let mut names = [0u32; 24];
+    plan_read(
+        sheet,
+        counts,
+        operation,
+        &nodes[..node_words],
+        &mut children,
+        &mut numbers,
+        &mut names,
+        out,
+    )
+}
+
 // A sheet with a good line 2.
 fn plan_nodes(sheet: &[u8], counts: Counts, operation: Operation, out: &mut [u8]) -> usize
     requires { ⌜ Headed (now sheet) counts operation ⌝ }
@@ -278,6 +348,11 @@ fn plan_nodes(sheet: &[u8], counts: Counts, operation: Operation, out: &mut [u8]
 {
     if 64 < counts.nodes {
         return plan_many(sheet, counts, operation, out);
+    }
+    if counts.nodes <= 16 {
+        if has_space(counts, 16, 8, 8) {
+            return plan_few(sheet, counts, operation, out);
+        }
     }
     let node_words = counts.nodes * 5;
     let mut nodes = [0u32; 320];

@@ -11,7 +11,7 @@ use Rattle.sheet.specs.declared.layout.Counts.{Counts}
 use Rattle.sheet.specs.declared.operation.Operation.{Operation}
 use Rattle.sheet.specs.Lines.{numberAt}
 use Rattle.sheet.specs.Sheet.{countsOf, withinLimits, operationOf, operationOk}
-use Rattle.sheet.specs.Post.{Limited, Small, countsIn}
+use Rattle.sheet.specs.Post.{Limited, Space, countsIn}
 
 -- limits
 module _ (c : Counts) where
@@ -57,12 +57,13 @@ module _ (c : Counts) where
         text-few = leb-true (c .text) 16384 (f .1);
       }
 
-  -- small tables
-  pub not-small : false ≡ true → Small c
-  not-small t = absurd (false≢true t)
+  -- space for the tables
+  module _ (children numbers names : ℕ) where
+    pub no-space : false ≡ true → Space c children numbers names
+    no-space t = absurd (false≢true t)
 
-  pub small : c .children ≤ 64 → c .numbers ≤ 32 → leb (c .names) 16 ≡ true → Small c
-  small k m t = record { children-fit = k; numbers-fit = m; names-fit = leb-true (c .names) 16 t }
+    pub space : c .children ≤ children → c .numbers ≤ numbers → leb (c .names) names ≡ true → Space c children numbers names
+    space k m t = record { children-fit = k; numbers-fit = m; names-fit = leb-true (c .names) names t }
 
 -- line 2
 module _ (o : Operation) where

@@ -20,7 +20,7 @@ use Rattle.sheet.specs.declared.operation.Operation.{Operation}
 use Rattle.sheet.specs.Lines.{numberAt, isLine, linesOk, numberLinesOk, wordAt, numberWord}
 use Rattle.sheet.specs.Sheet.{countsOf, withinLimits, namesPlace, stringsPlace, textPlace, endPlace, placesOf, operationOf, operationOk, markOk, marksOk, layoutOk, marksOf, sheetOf, unparsed, parsed, parse, parsedBy}
 use Rattle.sheet.specs.Listing.{operated, linesOf, linesBytes, listingOf, Printed}
-use Rattle.sheet.specs.Post.{Limited, Small, Filled, Read, LinesAsked, NodesAsked, NumbersAsked, nameWord, rowMark, rowMarkOk, NamesAsked, MarksAsked, Overlaid, MarksRead, countsIn, operationIn, refusalLine, laidListing, tablesLeft, Headed, NodesRead, TablesAsked, TablesRead, Tabled}
+use Rattle.sheet.specs.Post.{Limited, Space, Filled, Read, LinesAsked, NodesAsked, NumbersAsked, nameWord, rowMark, rowMarkOk, NamesAsked, MarksAsked, Overlaid, MarksRead, countsIn, operationIn, refusalLine, laidListing, tablesLeft, Headed, NodesRead, TablesAsked, TablesRead, Tabled}
 use Rattle.sheet.proofs.lines.LineTests.{filled-first, word-in-line, nodes-split}
 use Rattle.sheet.proofs.lines.LayoutTests.{counts-read, operation-read}
 
@@ -105,9 +105,6 @@ module _ {sheet : List ℕ} {c : Counts} {o : Operation} (h : Headed sheet c o) 
   few : Limited c
   few = h .sized .limited
 
-  pub nodes-asked : (array : List ℕ) → length array ≡ 320 → c .nodes ≤ 64 → LinesAsked 74 5 (c .nodes) array
-  nodes-asked array long le = record { lines = record { below = omega (arith, few) }; few = omega arith; room = omega arith }
-
   module _ {nodes : List ℕ} {n : Bool} (read : Read (wordAt sheet 74 31 5) (c .nodes * 5) (linesOk sheet 74 5 (c .nodes)) nodes n) where
     pub nodes-fail : not n ≡ true → false ≡ layoutOk sheet c
     nodes-fail t = rw (h .left, told-no (read .ok) t)
@@ -132,7 +129,7 @@ module _ {sheet : List ℕ} {c : Counts} {o : Operation} (h : Headed sheet c o) 
   pub nodes-inside : (array : List ℕ) → length array ≡ 2560 → c .nodes * 5 ≤ length array
   nodes-inside array long = omega (arith, few)
 
-pub few-inside : (c : Counts) (array : List ℕ) → c .nodes ≤ 64 → length array ≡ 320 → c .nodes * 5 ≤ length array
+pub few-inside : (c : Counts) {most : ℕ} (array : List ℕ) → c .nodes ≤ most → length array ≡ most * 5 → c .nodes * 5 ≤ length array
 few-inside c array le long = omega arith
 
 pub prefix-long : (n : ℕ) (array : List ℕ) → n ≤ length array → n ≡ length (take n array)
@@ -256,14 +253,12 @@ module _ (sheet : List ℕ) (c : Counts) {p : Places} (is : p ≡ placesOf c) {c
             }
 
 -- and their space
-pub small-asked : {c : Counts} → Limited c → {b : Bool} → (b ≡ true → Small c) → b ≡ true → (children numbers names : List ℕ) → length children ≡ 64 → length numbers ≡ 64 → length names ≡ 48 → TablesAsked c children numbers names
-small-asked limits small t children numbers names k m x =
-    let s = small t in
+pub space-asked : {c : Counts} → Limited c → {k m x : ℕ} → Space c k m x → (children numbers names : List ℕ) → length children ≡ k → length numbers ≡ m * 2 → length names ≡ x * 3 → TablesAsked c children numbers names
+space-asked limits s children numbers names e f g =
     record { limited = limits; children-room = omega (arith, s); numbers-room = omega (arith, s); names-room = omega (arith, s) }
 
-pub large-asked : {c : Counts} → Limited c → (children numbers names : List ℕ) → length children ≡ 512 → length numbers ≡ 512 → length names ≡ 384 → TablesAsked c children numbers names
-large-asked limits children numbers names k m x =
-    record { limited = limits; children-room = omega (arith, limits); numbers-room = omega (arith, limits); names-room = omega (arith, limits) }
+pub told-space : {c : Counts} {k m x : ℕ} {b : Bool} → (b ≡ true → Space c k m x) → b ≡ true → Space c k m x
+told-space told t = told t
 
 module _ {c : Counts} {children numbers names : List ℕ} (asked : TablesAsked c children numbers names) (after : List ℕ) where
   pub children-inside : length after ≡ length children → c .children ≤ length after

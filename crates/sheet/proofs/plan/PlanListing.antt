@@ -1,5 +1,5 @@
 -- The operation that was carried out, and the listing of its answer and plan.
-use Prim.Native.Nat.{ℕ, _+_, _-_, _*_, _≤_}
+use Prim.Native.Nat.{ℕ, _/_, _+_, _-_, _*_, _≤_}
 use mathlib.Core.Bool.{Bool, true, false, cond}
 use mathlib.Core.List.{List, _++_}
 use mathlib.Core.Path.{_≡_, refl, ap, _∙_}
@@ -113,23 +113,23 @@ module _ (o : Operation) (T : Tables) (s : Scope) {blank plan : List ℕ} {a : P
   operation-listed p = rw (← listed-as (operated o T s) long (one-line o T s) done .lines, ← is) p
 
 -- in a smaller space, where that suffices
-listed-small : (o : Outcome) {blank plan : List ℕ} {a : PlanAnswer} → length blank ≡ 256 → oneLine o ≡ true → Answered o blank plan a → (lineOf a .number ≡ 6 → ⊥) → Listed o (lineOf a) plan
+listed-small : (o : Outcome) {blank plan : List ℕ} {a : PlanAnswer} → length blank ≤ 6144 → oneLine o ≡ true → Answered o blank plan a → (lineOf a .number ≡ 6 → ⊥) → Listed o (lineOf a) plan
 unfolding answered written
-listed-small (refused b) {plan = plan} long one done other = rw (done .answer) (listed-refused b plan one)
-listed-small (planned form side es) {blank} {plan} {a} long one done other = go (leb (length es) 64) refl (rw long at (done .answer)) (rw long at (done .buffer))
+listed-small (refused b) {plan = plan} few one done other = rw (done .answer) (listed-refused b plan one)
+listed-small (planned form side es) {blank} {plan} {a} few one done other = go (leb (length es) (length blank / 4)) refl (done .answer) (done .buffer)
   where
-    go : (b : Bool) → leb (length es) 64 ≡ b → a ≡ cond b (Planned form side (length es)) (PlanTooLarge (length es))
-        → plan ≡ cond b (words es ++ drop (4 * length es) (replicate 256 0)) (replicate 256 0)
+    go : (b : Bool) → leb (length es) (length blank / 4) ≡ b → a ≡ cond b (Planned form side (length es)) (PlanTooLarge (length es))
+        → plan ≡ cond b (words es ++ drop (4 * length es) (replicate (length blank) 0)) (replicate (length blank) 0)
         → Listed (planned form side es) (lineOf a) plan
     go true p e f =
-        let few = leb-true (length es) 64 p in
-        rw e (listed-planned form side es 256 (le-leb (length es) 1536 (omega arith)) f)
+        let fits = leb-true (length es) (length blank / 4) p in
+        rw e (listed-planned form side es (length blank) (le-leb (length es) 1536 (omega arith)) f)
     go false p e f = absurd (other (ap (λ (x : PlanAnswer). lineOf x .number) e))
 
 module _ (o : Operation) (T : Tables) (s : Scope) {blank plan : List ℕ} {a : PlanAnswer} {first : Line}
-    (long : length blank ≡ 256) (done : Answered (operated o T s) blank plan a) (is : first ≡ lineOf a) (other : first .number ≡ 6 → ⊥) where
+    (few : length blank ≤ 6144) (done : Answered (operated o T s) blank plan a) (is : first ≡ lineOf a) (other : first .number ≡ 6 → ⊥) where
   small-listed : Listed (operated o T s) (lineOf a) plan
-  small-listed = listed-small (operated o T s) long (one-line o T s) done (λ e. other (ap (λ (l : Line). l .number) is ∙ e))
+  small-listed = listed-small (operated o T s) few (one-line o T s) done (λ e. other (ap (λ (l : Line). l .number) is ∙ e))
 
   pub small-held : entriesIn first * 4 ≤ length plan
   small-held = rw is (small-listed .held)

@@ -83,7 +83,7 @@ loop-less c = search needs
 
 -- src/buffer.rt:47:5
 loop-again : tie.Need-loop-again Inv-loop μ-loop
-loop-again c = copying-on (c .before .before .before .before .before .before .before .before .before .loop .inv) (c .before .before .before .before .before .before .before .before .loop-test .taken) (c .before .before .put-entry .ensures)
+loop-again c = copying-on (c .before .before .before .before .before .before .before .before .before .loop .inv) (c .before .before .before .before .before .before .before .before .loop-test .taken) (search needs)
 
 -- src/buffer.rt:59:5
 add-result : tie.Need-add-result Inv-loop μ-loop

@@ -1,4 +1,4 @@
-use Rattle.sheet.proofs.plan.Parsing.{laid-broken, nodes-asked, nodes-fail, nodes-read, few-inside, prefix-long}
+use Rattle.sheet.proofs.plan.Parsing.{laid-broken, nodes-fail, nodes-read, few-inside, prefix-long, told-space}
 use borrow.Author.Needs.{needs}
 use Rattle.sheet.proofs.plan.plan_nodes.Statement.{statement}
 use Rattle.sheet.proofs.plan.plan_nodes.Tie as tie
@@ -10,9 +10,13 @@ plan-nodes-spec =
     (λ c κs. search needs)
     (λ c. search needs)
     (λ c. search needs)
+    (λ c κs. search needs)
+    (λ c κs. (search needs, search needs, search (told-space, needs)))
     (λ c. search needs)
     (λ c. search needs)
-    (λ c κs. search (nodes-asked, needs))
+    (λ c. search needs)
+    (λ c. search needs)
+    (λ c κs. search needs)
     (λ c κs. search needs)
     (λ c. search needs)
     (λ c. search (laid-broken, nodes-fail, needs))

@@ -1,4 +1,5 @@
-use Rattle.sheet.proofs.plan.Parsing.{small-asked, large-asked}
+use mathlib.Core.Path.{refl}
+use Rattle.sheet.proofs.plan.Parsing.{space-asked, told-space}
 use borrow.Author.Needs.{needs}
 use Rattle.sheet.proofs.plan.plan_sized.Statement.{statement}
 use Rattle.sheet.proofs.plan.plan_sized.Tie as tie
@@ -11,12 +12,12 @@ plan-sized-spec =
     (λ c. search needs)
     (λ c. search needs)
     (λ c. search needs)
-    (λ c κs. search (small-asked, needs))
+    (λ c κs. (search needs, space-asked (search needs) {k = 64} {m = 32} {x = 16} (search (told-space, needs)) _ _ _ refl refl refl))
     (λ c. search needs)
     (λ c. search needs)
     (λ c. search needs)
     (λ c. search needs)
     (λ c. search needs)
-    (λ c κs. search (large-asked, needs))
+    (λ c κs. search needs)
     (λ c. search needs)
     (λ c. search needs))

@@ -1,16 +1,12 @@
 use Rattle.sheet.proofs.plan.PlanListing.{small-held, operation-small}
 use borrow.Author.Needs.{needs}
-use Rattle.sheet.proofs.plan.plan_listed.Statement.{statement}
-use Rattle.sheet.proofs.plan.plan_listed.Tie as tie
+use Rattle.sheet.proofs.plan.plan_first.Statement.{statement}
+use Rattle.sheet.proofs.plan.plan_first.Tie as tie
 
-pub plan-listed-spec : {M : Type 1} → statement M
-plan-listed-spec =
+pub plan-first-spec : {M : Type 1} → statement M
+plan-first-spec =
     tie.close
     (tie.spec
-    (λ c κs. search needs)
-    (λ c. search needs)
-    (λ c. search needs)
-    (λ c. search needs)
     (λ c κs. search needs)
     (λ c κs. search needs)
     (λ c κs. search needs)
@@ -18,5 +14,6 @@ plan-listed-spec =
     (λ c. search needs)
     (λ c. search needs)
     (λ c κs. search (small-held, needs))
+    (λ c. search needs)
     (λ c. search needs)
     (λ c. search (operation-small, needs)))
