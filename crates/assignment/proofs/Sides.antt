@@ -27,7 +27,7 @@ use Rattle.planner.specs.Layout.{Entry, entries, words, bindsAny, introducesBin
 use Rattle.planner.specs.Plan.{DestructuringPlan, plan}
 use Rattle.planner.specs.code.Passes.{stateBy, unboundIn}
 use Rattle.planner.specs.Operations.{planned, answered, written, Answered, isSound, planOf}
-use Rattle.planner.specs.code.Post.{StatesOf, Walks, GoodRoot, PatternAsks, PatternPlanned}
+use Rattle.planner.specs.code.Post.{StatesOf, GoodRoot, PatternAsks, PatternPlanned}
 use Rattle.planner.proofs.destructuring.NodeKinds.{Plain, plain-literal, plain-set, plain-other, plain-kind}
 use Rattle.planner.proofs.laws.SamePlan.{class-wild, states-wild, same-plan}
 use Rattle.planner.proofs.laws.Operations.{refuses, table-passes}
@@ -80,9 +80,6 @@ module _ (T : Tables) (a b : ℕ) (g : GoodPair T a b) where
 
   pub ask-right : GoodRoot T b
   ask-right = record { table = g .table; node = g .second }
-
-  turned : GoodPair T b a
-  turned = record { table = g .table; first = g .second; second = g .first }
 
   -- space for an entry of each node
   pub roomy-small : {scratch : List ℕ} → length scratch ≡ 256 → length (T .nodes) ≤ 320 → Roomy T scratch
@@ -180,9 +177,6 @@ module _ (T : Tables) (s : Scope) (left right : ℕ) (g : GoodPair T left right)
 
     right-is : bindsAny (entries (planOf T s RespectParent right) 0) ≡ other
     right-is = told-by (g .second) (told .right-told)
-
-    pub ask-bind-left : BindAsks T left right scratch count
-    ask-bind-left = record { pair = g; read = told .left-seen .asks }
 
     module _ {before later : List ℕ} {answer : PlanAnswer} where
       pub equals-both : one ≡ true → other ≡ true → Answered (pairsOutcome T s left right) before later answer → Answered (equalsSides T s left right) before later answer

@@ -1,5 +1,5 @@
 -- Two sides as they are: what becomes of them, and the pair of two sides one of which binds.
-use Prim.Native.Nat.{ℕ, _+_, _^_, _≤_}
+use Prim.Native.Nat.{ℕ, _+_, _≤_}
 use mathlib.Core.Path.{_≡_, refl, sym, ap, subst, _∙_}
 use mathlib.Core.Logic.{_⊎_, inl, inr}
 use mathlib.Core.Bool.{Bool, true, false, _||_, not, false≢true}
@@ -24,7 +24,7 @@ use Rattle.pairs.specs.declared.judge.Judgement.the-variants as Judged
 use Rattle.pairs.specs.declared.judge.Judgement.the-variants.{Compare, BindLeft, BindRight, Refuse}
 use Rattle.pairs.specs.Pairs.{pair, pairsEntries, Flat, binds}
 use Rattle.pairs.specs.Post.{ReadAsks, Roomy, Scoped, Previewed, Learnt, Came, Flattens, sideFlat, BindAsks, Compared, Bound, judgementOf}
-use Rattle.planner.specs.Entries.{readEntries, Wrote, CopyAsks}
+use Rattle.planner.specs.Entries.{readEntries, Wrote}
 use Rattle.pairs.proofs.PairShapes.{or-false}
 use Rattle.pairs.proofs.Seen.{plan-scoped, scoped-learnt}
 use Rattle.planner.proofs.buffer.ReadBack.{length-read}
@@ -78,9 +78,6 @@ module _ (T : Tables) (w : WellFormed T) {states : List ℕ} {n : ℕ} (v : Node
 pub side-wrote : {before mid after : List ℕ} {at value next : ℕ} {es : List Entry} → Wrote before at (entry 7 value 1 0 ∷ []) mid (at + 1) → Wrote mid (at + 1) es after next
     → {states binders known : List ℕ} → Learnt states binders known → Bound value es states binders before at known after (Next next)
 side-wrote {next = next} a b l = record { next = next; is = refl; wrote = wrote-append a b; learnt = l }
-
-pub ask-copy : {scratch : List ℕ} {count at : ℕ} → ReadAsks scratch count → at ≤ 2 ^ 32 → CopyAsks scratch (at + 1) count
-ask-copy r low = record { held = r .held; few = r .few; low = omega arith }
 
 pub side-bound : {T : Tables} {states : List ℕ} {pattern value at : ℕ} → BindAsks T states pattern value at → {binders scratch : List ℕ} {count : ℕ} {told : Bool} → Previewed T states pattern binders scratch count told
     → {before known later : List ℕ} {r : Flattened} → Bound value (readEntries scratch 0 count) states binders before at known later r → Flattens (sideFlat T pattern value) T 513 states before at known later r

@@ -102,7 +102,7 @@ fn plan_first(
     write_lines(out, first, plan)
 }
 
-// The same; few nodes are planned into space for 16 or 64 entries first, since clearing the larger takes longer than a small plan.
+// The same; up to 128 nodes are planned into a smaller space first, since clearing the larger takes longer than a small plan.
 fn plan_listed(
     nodes: &[u32],
     children: &[u32],
@@ -133,6 +133,21 @@ fn plan_listed(
     }
     if nodes.len() <= 320 {
         let mut plan = [0u32; 256];
+        return plan_first(
+            nodes,
+            children,
+            numbers,
+            names,
+            strings,
+            text,
+            scope,
+            operation,
+            &mut plan,
+            out,
+        );
+    }
+    if nodes.len() <= 640 {
+        let mut plan = [0u32; 1024];
         return plan_first(
             nodes,
             children,
@@ -269,10 +284,10 @@ fn plan_sized(
     requires { ⌜ NodesRead (now sheet) counts operation (now nodes) ⌝ }
     ensures { λ r. ⌜ Printed (laidListing (now (sheet .entry)) counts) (now (out .entry)) (now (out .exit)) r ⌝ }
 {
-    if has_space(counts, 64, 32, 16) {
-        let mut children = [0u32; 64];
-        let mut numbers = [0u64; 64];
-        let mut names = [0u32; 48];
+    if has_space(counts, 128, 64, 32) {
+        let mut children = [0u32; 128];
+        let mut numbers = [0u64; 128];
+        let mut names = [0u32; 96];
         return plan_read(
             sheet,
             counts,
@@ -299,7 +314,7 @@ fn plan_sized(
     )
 }
 
-// More than 64 nodes: the first are read before space for all is cleared.
+// More than 128 nodes: the first 64 are read before space for all is cleared.
 fn plan_many(sheet: &[u8], counts: Counts, operation: Operation, out: &mut [u8]) -> usize
     requires { ⌜ Headed (now sheet) counts operation × (64 < counts .nodes) ⌝ }
     ensures { λ r. ⌜ Printed (laidListing (now (sheet .entry)) counts) (now (out .entry)) (now (out .exit)) r ⌝ }
@@ -346,7 +361,7 @@ fn plan_nodes(sheet: &[u8], counts: Counts, operation: Operation, out: &mut [u8]
     requires { ⌜ Headed (now sheet) counts operation ⌝ }
     ensures { λ r. ⌜ Printed (laidListing (now (sheet .entry)) counts) (now (out .entry)) (now (out .exit)) r ⌝ }
 {
-    if 64 < counts.nodes {
+    if 128 < counts.nodes {
         return plan_many(sheet, counts, operation, out);
     }
     if counts.nodes <= 16 {
@@ -355,7 +370,7 @@ fn plan_nodes(sheet: &[u8], counts: Counts, operation: Operation, out: &mut [u8]
         }
     }
     let node_words = counts.nodes * 5;
-    let mut nodes = [0u32; 320];
+    let mut nodes = [0u32; 640];
     if !read_lines(sheet, 74, 5, counts.nodes, &mut nodes) {
         return refuse(7, out);
     }

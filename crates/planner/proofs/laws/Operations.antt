@@ -1,5 +1,5 @@
 -- The planning operations, answer by answer.
-use Prim.Native.Nat.{ℕ, _-_, _≤_}
+use Prim.Native.Nat.{ℕ, _-_}
 use mathlib.Core.Path.{_≡_, refl, sym, ap, subst, _∙_}
 use mathlib.Core.List.{List, []}
 use mathlib.Core.Bool.{Bool, true, false, not, false≢true}
@@ -23,7 +23,7 @@ use Rattle.planner.specs.Plan.{DestructuringPlan}
 use Rattle.planner.specs.Layout.{entries}
 use Rattle.planner.specs.code.Passes.{unboundIn}
 use Rattle.planner.specs.Entries.{Wrote}
-use Rattle.planner.specs.Operations.{Outcome, refused, planned, answered, written, Answered, tableFirst, isSound, rootInside, planOf, patternPlanned}
+use Rattle.planner.specs.Operations.{Outcome, refused, answered, written, Answered, tableFirst, isSound, rootInside, planOf, patternPlanned}
 use Rattle.planner.specs.code.Post.{StatesOf, PlanAsks, PlannedBy, PatternAsks, PatternPlanned, GoodRoot, Closed}
 use Rattle.planner.proofs.laws.Binders.{bound-agree-of}
 use Rattle.planner.proofs.laws.SamePlan.{states-wild, same-plan, same-after}

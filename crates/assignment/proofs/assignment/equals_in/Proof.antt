@@ -1,5 +1,5 @@
 use Rattle.pairs.proofs.PairSides.{roomy-kept}
-use Rattle.assignment.proofs.Sides.{ask-sides, ask-bind-left, equals-both, equals-left, equals-right, equals-none}
+use Rattle.assignment.proofs.Sides.{ask-sides, equals-both, equals-left, equals-right, equals-none}
 use borrow.Author.Needs.{needs}
 use Rattle.assignment.proofs.assignment.equals_in.Statement.{statement}
 use Rattle.assignment.proofs.assignment.equals_in.Tie as tie

@@ -1,5 +1,5 @@
 use Rattle.pairs.specs.Post.{ReadAsks}
-use Prim.Native.Nat.{_-_, _≤_}
+use Prim.Native.Nat.{_-_}
 use Rattle.assignment.specs.Assignment.{firstSameScope}
 use Rattle.pairs.proofs.Leaves.{Scanning, scanning-start}
 use Rattle.assignment.proofs.Reading.{first-found, first-on, first-ends}

@@ -12,7 +12,7 @@ plan-sized-spec =
     (λ c. search needs)
     (λ c. search needs)
     (λ c. search needs)
-    (λ c κs. (search needs, space-asked (search needs) {k = 64} {m = 32} {x = 16} (search (told-space, needs)) _ _ _ refl refl refl))
+    (λ c κs. (search needs, space-asked (search needs) {k = 128} {m = 64} {x = 32} (search (told-space, needs)) _ _ _ refl refl refl))
     (λ c. search needs)
     (λ c. search needs)
     (λ c. search needs)
