@@ -3,18 +3,19 @@
 
 An edit (crates/NAME/must-fail/*.edit) holds several mistakes, each under a line
 
-    mistake: NAME in FUNCTION[, FUNCTION ..]: what it would do
+    mistake: NAME in FUNCTION[ at NEED][, FUNCTION ..]: what it would do
 
 `rt must-fail` asks only that the crate with the whole edit is refused. This reads
 what the prover said of each function: its own proof must fail, whatever becomes of
 the functions that it calls, and for a fact: none is found, or another is given.
+Two mistakes in one function are told apart by the needs of its proof that fail.
 """
 
 import pathlib
 import re
 import sys
 
-MISTAKE = re.compile(r"^mistake: (\w+) in ([\w:, ]+?): ", re.MULTILINE)
+MISTAKE = re.compile(r"^mistake: (\w+) in ([\w:, -]+?): ", re.MULTILINE)
 # No proof is found, the goal does not follow, or the fact that is given is not the one asked for.
 NO_FACT = re.compile(
     r"`search`: no proof of|`omega`: the goal does not follow|the two types (first differ|differ only) where"
@@ -25,51 +26,64 @@ FOLLOWS = re.compile(r" was not admitted ")
 
 
 def mistakes(edit):
-    """The mistakes of an edit's text, as pairs of a name and its functions."""
-    return [(name, re.split(r", *", where)) for name, where in MISTAKE.findall(edit)]
+    """The mistakes of an edit's text: a name, and its functions, each with a need or ""."""
+    return [(name, [place(part) for part in re.split(r", *", where)]) for name, where in MISTAKE.findall(edit)]
+
+
+def place(text):
+    function, _, need = text.partition(" at ")
+    return function, need
 
 
 def kebab(name):
     return name.replace("_", "-")
 
 
-def is_of(need, name, folder):
-    """Is a need of a proof that functions share (a folder +a+b) one of this function's?"""
+def own_need(need, name, folder):
+    """A need's name in the proof of a function, or None if it is of another that shares the proof (a folder +a+b)."""
     members = [kebab(member) for member in folder.split("+")[1:]]
-    owners = [member for member in members if need.startswith(member + "-")]
-    return not members or max(owners, key=len, default="") == kebab(name)
+    if not members:
+        return need
+    owner = max((member for member in members if need.startswith(member + "-")), key=len, default="")
+    return need[len(owner) + 1 :] if owner == kebab(name) else None
 
 
 def own_errors(log, function):
-    """The errors in the proof of a function, those aside that follow from others."""
+    """The errors in the proof of a function, each with its need, those aside that follow from others."""
     *modules, name = function.split("::")
     proofs = "/".join(["proofs", *modules])
     own = rf"{proofs}/({name}|[\w+]*\+{name}(?:\+[\w+]*)?)/Proof\.antt"
     errors = []
     for folder, text in re.findall(rf"^\S*/{own}:\S*: error: (.*)$", log, re.MULTILINE):
-        need = re.match(r"`([^`]+)`: ", text)
-        if not FOLLOWS.search(text) and (not need or is_of(need.group(1), name, folder)):
-            errors.append(text)
+        said = re.match(r"`([^`]+)`: ", text)
+        need = own_need(said.group(1), name, folder) if said else ""
+        if need is not None and not FOLLOWS.search(text):
+            errors.append((need, text))
     return errors
 
 
-def fault(log, crate, function):
+def fault(log, crate, function, need=""):
     """Why a function doesn't count as refused for a fact, or None."""
     said = re.search(rf"^fn {crate}::{re.escape(function)}: (.*)$", log, re.MULTILINE)
     if not said:
         return "the prover says nothing of it"
-    if UNCLOSED.match(said.group(1)):
+    if not need and UNCLOSED.match(said.group(1)):
         return None
-    errors = own_errors(log, function)
+    errors = [text for of, text in own_errors(log, function) if need in ("", of)]
     if not errors:
-        return f"its own proof has no error: {said.group(1)}"
+        return f"its own proof has no error{need and ' at '}{need}: {said.group(1)}"
     return None if NO_FACT.search(errors[0]) else f"its first error: {errors[0][:200]}"
 
 
-def twice(listed):
-    """The functions that more than one mistake changes: an error could be of either."""
-    functions = [function for _, changed in listed for function in changed]
-    return sorted({function for function in functions if functions.count(function) > 1})
+def not_apart(listed):
+    """The functions that two mistakes change with nothing to tell their errors apart."""
+    needs = {}
+    for _, places in listed:
+        for function, need in places:
+            needs.setdefault(function, []).append(need)
+    return sorted(
+        function for function, of in needs.items() if len(of) > 1 and ("" in of or len(set(of)) < len(of))
+    )
 
 
 def faults(root, edit):
@@ -81,10 +95,10 @@ def faults(root, edit):
         return [f"{label}: it names no mistake"], 0
     log_file = root / "target" / "must-fail" / crate / edit.stem / ".log"
     log = log_file.read_text(errors="replace") if log_file.exists() else ""
-    lines = [f"{label}: two mistakes in {function}" for function in twice(listed)]
-    for name, functions in listed:
-        for function in functions:
-            why = fault(log, crate, function)
+    lines = [f"{label}: two mistakes in {function}" for function in not_apart(listed)]
+    for name, places in listed:
+        for function, need in places:
+            why = fault(log, crate, function, need)
             if why:
                 lines.append(f"{label}: {name} in {function}: {why}")
     return lines, len(listed)

@@ -20,7 +20,9 @@ AUTOMATIC = "fn c::same: no proof: expected `same-spec` in /x/proofs/same/Proof.
 
 class Mistakes(unittest.TestCase):
     def test_names_and_functions(self):
-        self.assertEqual(mistakes.mistakes(EDIT), [("swapped", ["keys::order", "same"])])
+        self.assertEqual(mistakes.mistakes(EDIT), [("swapped", [("keys::order", ""), ("same", "")])])
+        at_need = EDIT.replace("order,", "order at returns-2,")
+        self.assertEqual(mistakes.mistakes(at_need)[0][1][0], ("keys::order", "returns-2"))
 
     def test_refused_for_a_fact(self):
         for error in (FACT, CYCLE, OTHER, OMEGA):
@@ -41,8 +43,19 @@ class Mistakes(unittest.TestCase):
         self.assertIn("nothing", mistakes.fault("", "c", "same"))
 
     def test_two_mistakes_in_one_function(self):
-        listed = mistakes.mistakes(EDIT + EDIT.replace("swapped", "again").replace(", same", ""))
-        self.assertEqual(mistakes.twice(listed), ["keys::order"])
+        def listed(one, other):
+            return [("one", [("keys::order", one)]), ("other", [("keys::order", other)])]
+
+        for needs in (("", ""), ("", "asks"), ("asks", "asks")):
+            self.assertEqual(mistakes.not_apart(listed(*needs)), ["keys::order"])
+        self.assertEqual(mistakes.not_apart(listed("asks", "returns")), [])
+
+    def test_refused_at_a_need(self):
+        log = OTHER + "fn c::keys::order: not proved\n"
+        self.assertIsNone(mistakes.fault(log, "c", "keys::order", "asks"))
+        self.assertIn("at returns", mistakes.fault(log, "c", "keys::order", "returns"))
+        log = CYCLE + "fn c::keys::order: not proved\n"
+        self.assertIsNone(mistakes.fault(log, "c", "keys::order", "returns"))
 
     def test_refused_for_its_shape(self):
         log = SHAPE + FACT + "fn c::keys::order: not proved\n"

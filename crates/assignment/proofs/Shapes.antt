@@ -7,7 +7,7 @@ use lib.Dec.{eqb}
 use Rattle.table.specs.Tables.{Tables, kindOf}
 use Rattle.table.specs.Expr.{Exprs, Fields}
 use Rattle.table.specs.Decode.{expr}
-use Rattle.checks.specs.Post.{GoodPair}
+use Rattle.planner.specs.code.Post.{GoodPair}
 use Rattle.pairs.specs.Pairs.{Shape, items, fields, shapeOf}
 use Rattle.pairs.proofs.PairShapes.{shape-items, shape-fields, shape-single}
 use Rattle.assignment.specs.Assignment.{opposed}

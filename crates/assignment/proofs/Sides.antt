@@ -39,7 +39,7 @@ use Rattle.checks.specs.declared.LiteralStructureCheck.{LiteralStructureCheck}
 use Rattle.checks.specs.PatternStructure.{structureBy}
 use Rattle.planner.specs.Entries.{readEntries}
 use Rattle.assignment.specs.Assignment.{bindSide, firstSameScope, colonEqualsFrom, colonEqualsPlanned, isUnderscore, sideOf, pairsOutcome, equalsSides, equalsPlanned, byOperator, assignmentOutcome}
-use Rattle.checks.specs.Post.{GoodPair}
+use Rattle.planner.specs.code.Post.{GoodPair}
 use Rattle.assignment.specs.Post.{BindAsks}
 use Rattle.checks.proofs.Refused.{passes-undefined, refuses-defined}
 use Rattle.checks.proofs.PlanStructure.{structure-plan}

@@ -2,7 +2,7 @@
 use Prim.Native.Nat.{ℕ}
 use mathlib.Core.List.{List}
 use Rattle.table.specs.Tables.{Tables}
-use Rattle.checks.specs.Post.{GoodPair}
+use Rattle.planner.specs.code.Post.{GoodPair}
 use Rattle.pairs.specs.Post.{ReadAsks}
 
 -- a binding side with its plan in a scratch, and a value side

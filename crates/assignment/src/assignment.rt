@@ -12,7 +12,7 @@ ghost use Rattle.planner.specs.Entries.{readEntries};
 ghost use Rattle.checks.specs.PatternStructure.{structureBy};
 ghost use Rattle.pairs.specs.Pairs.{shapeOf};
 ghost use Rattle.assignment.specs.Assignment.{opposed, bindSide, isUnderscore, sideOf, colonEqualsFrom, colonEqualsPlanned, equalsSides, equalsPlanned, assignmentOutcome};
-ghost use Rattle.checks.specs.Post.{GoodPair};
+ghost use Rattle.planner.specs.code.Post.{GoodPair};
 ghost use Rattle.pairs.specs.Post.{Roomy, SidesAsks};
 ghost use Rattle.assignment.specs.Post.{BindAsks};
 use crate::AssignOp;

@@ -28,8 +28,9 @@ use Rattle.planner.proofs.fields.Objects.{key-literal}
 use Rattle.checks.specs.declared.LiteralStructureCheck.{LiteralStructureCheck}
 use Rattle.checks.specs.declared.LiteralStructureCheck.the-variants.{Match, Unknown, ArrayMismatch, ObjectMismatch}
 use Rattle.checks.proofs.LiteralStructureCheck.{the-type}
-use Rattle.checks.specs.Structure.{andThen, held, partner, objectStructure, slotText, keyTexts, sortTexts, sameTexts, isEmpty}
-use Rattle.checks.specs.Post.{GoodPair}
+use Rattle.checks.specs.Structure.{andThen, held, partner, objectStructure, slotText, keyTexts, sortTexts, sameTexts}
+use Rattle.planner.specs.Held.{isEmpty}
+use Rattle.planner.specs.code.Post.{GoodPair}
 use Rattle.checks.specs.PatternStructure.{structureBy, structureByAll, structureByFields, sameSize, ItemsAsk, ObjectsAsk, orderOfNode, patternsOf, KeysCompared, FieldsAsk, fieldsStructure, FieldAsks, fieldStructure, PartnerAsks, PartnerIs}
 use Rattle.checks.proofs.PatternObjects.{object-key, object-value, object-few, patterns-are}
 

@@ -31,7 +31,8 @@ use Rattle.planner.specs.code.Ordering.{Between, FindAsks, FoundBy}
 use Rattle.planner.proofs.fields.FieldOrder.{mapSlot, mapOrder, add-map, blank, Ordered, place-held, to-slot, same-before, literals-first, ordered-first}
 use Rattle.planner.proofs.fields.FieldLoops.{ref-above}
 use Rattle.planner.proofs.fields.Objects.{key-literal}
-use Rattle.checks.specs.Structure.{valueOrder, slotText, heldUnder, held}
+use Rattle.checks.specs.Structure.{slotText, held}
+use Rattle.planner.specs.Held.{valueOrder, heldUnder}
 use Rattle.checks.specs.Texts.{BothAsk, TextsCompared}
 use Rattle.checks.specs.PatternStructure.{ObjectsAsk, orderOfNode, patternsOf, KeysCompared, PartnerAsks, PartnerIs}
 use Rattle.checks.proofs.KeyTexts.{ordered-texts, field-below, written-texts}

@@ -13,7 +13,8 @@ use Rattle.planner.specs.Plan.{DestructuringPlan, var, equalityExpr, fresh, pla
 use Rattle.planner.specs.Layout.{literalKey, Slot, placed, insert, FieldOrder, noFields, addField, countPlans}
 use Rattle.checks.specs.declared.LiteralStructureCheck.{LiteralStructureCheck}
 use Rattle.checks.specs.declared.LiteralStructureCheck.the-variants.{Unknown}
-use Rattle.checks.specs.Structure.{valueOrder, planOrder, slotText, firstOr, heldUnder, held, partner, isEmpty, objectStructure, structure, structureAll, structureFields}
+use Rattle.checks.specs.Structure.{planOrder, slotText, held, partner, objectStructure, structure, structureAll, structureFields}
+use Rattle.planner.specs.Held.{valueOrder, firstOr, heldUnder, isEmpty}
 use Rattle.checks.specs.PatternStructure.{structureBy, structureByAll, structureByFields}
 
 empty-snoc : {A : Type 0} (l : List A) (a : A) → isEmpty (l ++ (a ∷ [])) ≡ false

@@ -15,8 +15,9 @@ use Rattle.checks.specs.declared.LiteralStructureCheck.the-variants.{Mat
 use Rattle.planner.specs.Layout.{literalKey, Slot, FieldOrder, noFields}
 use Rattle.planner.specs.code.Passes.{keyNode, valueNode, orderOf}
 use Rattle.planner.specs.code.Ordering.{FieldsIn}
-use Rattle.checks.specs.Post.{GoodPair}
-use Rattle.checks.specs.Structure.{valueOrder, andThen, objectStructure, held, partner, slotText, keyTexts, sortTexts, sameTexts, isEmpty}
+use Rattle.planner.specs.code.Post.{GoodPair}
+use Rattle.checks.specs.Structure.{andThen, objectStructure, held, partner, slotText, keyTexts, sortTexts, sameTexts}
+use Rattle.planner.specs.Held.{valueOrder, isEmpty}
 
 abbrev pub sameSize : ℕ → ℕ → ℕ → LiteralStructureCheck → LiteralStructureCheck
 sameSize n expected actual items = cond (eqb actual expected) items (ArrayMismatch n expected actual)

@@ -6,13 +6,14 @@ use mathlib.Core.Option.{Option}
 use mathlib.Core.Option as Option
 use lib.Dec.{eqb}
 use Rattle.literal.specs.Literal.{Literal}
-use Rattle.literal.specs.Order.{Order, less, same, more, bytesOrder, keyOrder}
+use Rattle.literal.specs.Order.{Order, less, same, more, bytesOrder}
 use Rattle.literal.specs.Text.{keyText}
-use Rattle.table.specs.Names.{isSame, sameBytes}
+use Rattle.table.specs.Names.{sameBytes}
 use Rattle.table.specs.Expr.{Expr, literal, name, wildcard, array, set, object, other, Exprs, none, item, Fields, done, field, count}
 use Rattle.checks.specs.declared.LiteralStructureCheck.{LiteralStructureCheck}
 use Rattle.checks.specs.declared.LiteralStructureCheck.the-variants.{Match, Unknown, ArrayMismatch, ObjectMismatch}
 use Rattle.planner.specs.Plan.{DestructuringPlan, var, ignore, equalityExpr, equalityValue, arrayPlan, objectPlan, Plans, noPlan, itemPlan, FieldPlans, noField, fieldPlan}
+use Rattle.planner.specs.Held.{heldUnder, isEmpty}
 use Rattle.planner.specs.Layout.{literalKey, Slot, FieldOrder, noFields, addField, countPlans}
 
 -- How items are joined: the first that doesn't match, be it unknown, ends an array or object.
@@ -26,11 +27,6 @@ andThen (ObjectMismatch n m) rest = ObjectMismatch n m
 unfoldable pub planOrder : FieldPlans → FieldOrder DestructuringPlan → FieldOrder DestructuringPlan
 planOrder noField o = o
 planOrder (fieldPlan k p fs) o = planOrder fs (addField (literalKey k) p o)
-
--- The values of an object's fields in order, the last alone under a repeated key.
-unfoldable pub valueOrder : Fields → FieldOrder Expr → FieldOrder Expr
-valueOrder done o = o
-valueOrder (field k v fs) o = valueOrder fs (addField (literalKey k) v o)
 
 abbrev pub slotText : {A : Type 0} → Slot A → List ℕ
 slotText s = keyText (s .at)
@@ -62,19 +58,6 @@ sameTexts [] [] = true
 sameTexts [] (u ∷ us) = false
 sameTexts (t ∷ ts) [] = false
 sameTexts (t ∷ ts) (u ∷ us) = sameBytes t u && sameTexts ts us
-
--- what is held under a key, if anything
-abbrev pub firstOr : {A : Type 0} → Bool → A → Option A → Option A
-firstOr true a rest = Option.some a
-firstOr false a rest = rest
-
-unfoldable pub heldUnder : {A : Type 0} → Literal → List (Slot A) → Option A
-heldUnder l [] = Option.none
-heldUnder l (s ∷ ss) = firstOr (isSame (keyOrder l (s .at))) (s .held) (heldUnder l ss)
-
-abbrev pub isEmpty : {A : Type 0} → List A → Bool
-isEmpty [] = true
-isEmpty (a ∷ rest) = false
 
 -- two objects whose literal keys were compared: with no field the pattern matches any, with computed ones alone it is unknown
 abbrev pub objectStructure : {A : Type 0} → ℕ → ℕ → FieldOrder A → Fields → LiteralStructureCheck → LiteralStructureCheck

@@ -3,7 +3,7 @@ ghost use mathlib.Core.Path.{_≡_};
 ghost use Rattle.table.specs.Tables.{tables};
 ghost use Rattle.table.specs.Decode.{expr, items, literalAt};
 ghost use Rattle.checks.specs.Structure.{held};
-ghost use Rattle.checks.specs.Post.{GoodPair};
+ghost use Rattle.planner.specs.code.Post.{GoodPair};
 ghost use Rattle.checks.specs.PatternStructure.{structureBy, structureByAll, ItemsAsk, ObjectsAsk, patternsOf, FieldsAsk, fieldsStructure, FieldAsks, fieldStructure, PartnerAsks, PartnerIs};
 use crate::LiteralStructureCheck;
 use crate::texts::compare_keys;

@@ -38,7 +38,7 @@ use Rattle.pairs.specs.declared.judge.Judgement.the-variants as Judged
 use Rattle.pairs.specs.declared.judge.Judgement.the-variants.{Compare, BindLeft, BindRight, Refuse}
 use Rattle.pairs.specs.Pairs.{pair, pairsEntries, Flat, failed, flatOutcome, single, shapeOf, allLiteral, distinctKeys, binds, side, flatten, flattenAll}
 use Rattle.pairs.specs.Post.{ReadAsks, Scoped, Bound, pairingOf, missingFrom, InOrder, LiteralNode, MissingAsks, Flattens, Came, sideFlat, nodesFlat, arraysFlat, objectsFlat, itemsFlat, fieldsFlat, mostOf, mostItems, BindAsks, SidesAsks, Judges, Compared, KeysAsks, KeysMatched, MatchedBy, ObjectFieldsAsks, FlattenAsks, ByKeyAsks, ArraysAsks, ItemsAsks}
-use Rattle.checks.specs.Post.{GoodPair}
+use Rattle.planner.specs.code.Post.{GoodPair}
 use Rattle.pairs.proofs.Seen.{scoped-start}
 use Rattle.planner.proofs.buffer.Copies.{wrote-closed}
 use Rattle.pairs.proofs.Partners.{object-child, object-listed, object-order, literal-each, check-missing, missing-none}

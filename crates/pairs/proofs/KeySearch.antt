@@ -24,7 +24,7 @@ use Rattle.planner.specs.Layout.{Slot, heldIn, FieldOrder, inOrder}
 use Rattle.planner.specs.code.Passes.{fieldKey, orderOf}
 use Rattle.planner.proofs.fields.FieldOrder.{all-at, Sorted, Keyed, Ordered, ordered-first, more-before, less-behind, same-before}
 use Rattle.planner.proofs.fields.Objects.{AllBelow, order-below}
-use Rattle.checks.specs.Structure.{heldUnder}
+use Rattle.planner.specs.Held.{heldUnder}
 use Rattle.pairs.specs.Pairs.{distinctKeys}
 use Rattle.pairs.specs.Post.{heldNode, partnerOf, InOrder, FindAsks}
 use Rattle.pairs.proofs.Partners.{empty-nil, computed-empty, distinct-count, object-listed, partner-held}

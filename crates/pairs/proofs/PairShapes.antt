@@ -14,7 +14,7 @@ use Rattle.table.proofs.trees.Trees.{expr-name, expr-array, expr-object}
 use Rattle.planner.specs.declared.PlanAnswer.the-variants.{ArraySizeMismatch, ObjectFieldCountMismatch, IncompatibleDestructuringPatterns}
 use Rattle.planner.specs.Plan.{equalityExpr}
 use Rattle.planner.proofs.destructuring.NodeKinds.{Plain, plain-literal, plain-set, plain-other, plain-kind}
-use Rattle.checks.specs.Post.{GoodPair}
+use Rattle.planner.specs.code.Post.{GoodPair}
 use Rattle.pairs.specs.declared.judge.Pairing.the-variants.{Whole, Items, ByKey, Opposed}
 use Rattle.pairs.specs.Pairs.{pair, Flat, failed, paired, Shape, items as itemsShape, fields as fieldsShape, single, shapeOf, allLiteral, distinctKeys, checkKeys, binds, whole, arrays, objects, flatten, flattenAll, flattenFields}
 use Rattle.pairs.specs.Post.{pairingOf, ObjectsAsks}

@@ -21,7 +21,7 @@ use Rattle.planner.specs.Layout.{literalKey, Slot, FieldOrder, noFields, addFie
 use Rattle.planner.specs.Simple.{differing, keysOf, isLiteral, simple, simpleAll, simpleFields, mentions}
 use Rattle.planner.proofs.fields.FieldOrder.{AllSlots, insert-all}
 use Rattle.planner.proofs.laws.PlanLaws.{elem-either, or-turn, or-left, or-right, after-bound, bound-new, bound-once}
-use Rattle.checks.specs.Structure.{firstOr, heldUnder, valueOrder}
+use Rattle.planner.specs.Held.{firstOr, heldUnder, valueOrder}
 use Rattle.pairs.specs.Pairs.{Pair, pair, Flat, failed, paired, before, further, Shape, items, fields, single, shapeOf, allLiteral, distinctKeys, lastUnder, hasPartner, checkKeys, onPartner, binds, side, whole, inParts, arrays, objects, flatten, flattenAll, flattenFields}
 use Rattle.pairs.specs.PairsPromise.{Settled, boundBy, PairsPromise}
 use Rattle.pairs.proofs.PairsSimple.{settled}

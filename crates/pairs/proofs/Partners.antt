@@ -27,9 +27,9 @@ use Rattle.planner.specs.code.Post.{OrderAsks}
 use Rattle.planner.proofs.fields.FieldOrder.{mapSlot, mapOrder, add-map}
 use Rattle.planner.specs.declared.PlanAnswer.the-variants.{ObjectKeyNotFound}
 use Rattle.planner.proofs.fields.Objects.{key-literal, node-of, AllBelow, order-below}
-use Rattle.checks.specs.Structure.{firstOr, heldUnder, isEmpty}
+use Rattle.planner.specs.Held.{firstOr, heldUnder, isEmpty}
 use Rattle.pairs.specs.Pairs.{Flat, failed, allLiteral, distinctKeys, lastUnder, hasPartner, checkKeys}
-use Rattle.checks.specs.Structure.{valueOrder}
+use Rattle.planner.specs.Held.{valueOrder}
 use Rattle.pairs.specs.Post.{heldNode, partnerOf, missingFrom, literalKind, ObjectAsks, LiteralNode}
 
 -- the child entries of an object

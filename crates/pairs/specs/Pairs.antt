@@ -13,7 +13,7 @@ use Rattle.planner.specs.declared.PlanAnswer.the-variants.{ArraySizeMismatch, O
 use Rattle.planner.specs.Plan.{DestructuringPlan, equalityExpr, plan, after}
 use Rattle.planner.specs.Layout.{Entry, entry, entries, introducesBinding, literalKey, noFields}
 use Rattle.planner.specs.Operations.{Outcome, refused, planned}
-use Rattle.checks.specs.Structure.{isEmpty, heldUnder, valueOrder}
+use Rattle.planner.specs.Held.{isEmpty, heldUnder, valueOrder}
 
 -- a value side, and the plan of the other side
 pub record Pair : Type 0 where

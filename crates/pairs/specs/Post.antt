@@ -27,8 +27,8 @@ use Rattle.pairs.specs.declared.keys.Keys.the-variants.{Matched}
 use Rattle.pairs.specs.declared.judge.Judgement.{Judgement}
 use Rattle.pairs.specs.declared.judge.Judgement.the-variants as Judged
 use Rattle.pairs.specs.declared.judge.Judgement.the-variants.{Compare, BindLeft, BindRight, Refuse}
-use Rattle.checks.specs.Structure.{heldUnder}
-use Rattle.checks.specs.Post.{GoodPair}
+use Rattle.planner.specs.Held.{heldUnder}
+use Rattle.planner.specs.code.Post.{GoodPair}
 use Rattle.planner.specs.Entries.{readEntries, Wrote}
 use Rattle.pairs.specs.Pairs.{Pair, pair, pairsEntries, Flat, failed, paired, Shape, shapeOf, items as itemsShape, fields as fieldsShape, single, allLiteral, distinctKeys, checkKeys, flatten, flattenAll, flattenFields}
 

@@ -7,7 +7,7 @@ ghost use Rattle.table.specs.Tables.{tables};
 ghost use Rattle.table.specs.Decode.{expr};
 ghost use Rattle.planner.specs.Entries.{readEntries};
 ghost use Rattle.planner.specs.Operations.{Answered};
-ghost use Rattle.checks.specs.Post.{GoodPair};
+ghost use Rattle.planner.specs.code.Post.{GoodPair};
 ghost use Rattle.pairs.specs.Pairs.{flatten, flatOutcome};
 ghost use Rattle.pairs.specs.Post.{ReadAsks, Roomy, Compared, Bound, BindAsks, FlattenAsks, ArraysAsks, ByKeyAsks, ItemsAsks, ObjectFieldsAsks, Flattens, sideFlat, nodesFlat, arraysFlat, objectsFlat, itemsFlat, mostOf, mostItems};
 use crate::judge::Judgement;

@@ -3,7 +3,7 @@ ghost use mathlib.Core.Path.{_≡_};
 ghost use mathlib.Core.Bool.{_||_};
 ghost use Rattle.table.specs.Tables.{tables};
 ghost use Rattle.table.specs.Decode.{expr};
-ghost use Rattle.checks.specs.Post.{GoodPair};
+ghost use Rattle.planner.specs.code.Post.{GoodPair};
 ghost use Rattle.pairs.specs.declared.judge.Pairing.the-variants.{Whole};
 ghost use Rattle.pairs.specs.Pairs.{shapeOf};
 ghost use Rattle.pairs.specs.Post.{pairingOf, judgementOf, ObjectsAsks, Roomy, SidesAsks, Judges};

@@ -1,5 +1,6 @@
 pub mod Plan
 pub mod Layout
+pub mod Held
 pub mod Answer
 pub mod Simple
 pub mod Parameters

@@ -17,7 +17,7 @@ use Rattle.planner.proofs.destructuring.NodeKinds.{Plain, plain-literal, plain-
 use Rattle.checks.specs.declared.LiteralStructureCheck.{LiteralStructureCheck}
 use Rattle.checks.specs.declared.LiteralStructureCheck.the-variants.{Match, Unknown, ArrayMismatch, ObjectMismatch}
 use Rattle.checks.specs.PatternStructure.{structureBy}
-use Rattle.checks.specs.Post.{GoodPair}
+use Rattle.planner.specs.code.Post.{GoodPair}
 use Rattle.checks.proofs.PlanStructure.{checked-plan}
 use Rattle.some_in.specs.SomeIn.{isMismatch, anyFits, firstMismatch, collectionStructure}
 use Rattle.some_in.specs.Post.{ItemsAsk, AnyFits, ItemsChecked, CollectionChecked}

@@ -15,7 +15,7 @@ use Rattle.planner.specs.Entries.{Wrote}
 use Rattle.planner.specs.Operations.{planOf, planned, validated, Answered}
 use Rattle.checks.specs.declared.LiteralStructureCheck.{LiteralStructureCheck}
 use Rattle.checks.specs.Refusals.{unlessMismatch}
-use Rattle.checks.specs.Post.{GoodPair}
+use Rattle.planner.specs.code.Post.{GoodPair}
 use Rattle.some_in.specs.SomeIn.{anyFits, itemsStructure, collectionStructure, valuePlanned}
 
 -- a pattern, and `left` items from child entry `at` on

@@ -1,7 +1,7 @@
 // A pattern held against the items of a collection.
 ghost use mathlib.Core.Path.{_≡_};
 ghost use Rattle.table.specs.Tables.{tables};
-ghost use Rattle.checks.specs.Post.{GoodPair};
+ghost use Rattle.planner.specs.code.Post.{GoodPair};
 ghost use Rattle.some_in.specs.SomeIn.{isMismatch};
 ghost use Rattle.some_in.specs.Post.{ItemsAsk, AnyFits, ItemsChecked, CollectionChecked};
 use checks::LiteralStructureCheck;

@@ -3,7 +3,7 @@ mod collection;
 
 ghost use Rattle.table.specs.Tables.{tables};
 ghost use Rattle.planner.specs.Operations.{Answered};
-ghost use Rattle.checks.specs.Post.{GoodPair};
+ghost use Rattle.planner.specs.code.Post.{GoodPair};
 ghost use Rattle.some_in.specs.SomeIn.{someInPlanned, someInOutcome};
 ghost use Rattle.some_in.specs.Post.{PlaceAsks, Validated, SomeInClosed, ValueAsks, ValueAnswered, KeyAsks};
 use crate::collection::check_collection;

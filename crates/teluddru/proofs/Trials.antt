@@ -15,7 +15,8 @@ use Rattle.table.specs.Check.{checked}
 use Rattle.planner.specs.Plan.{plan}
 use Rattle.planner.specs.Layout.{insert, concat, entries, words, bindsAny}
 use Rattle.planner.specs.Operations.{answered, written}
-use Rattle.checks.specs.Structure.{planOrder, keyTexts, insertText, sortTexts, sameTexts, heldUnder, structure}
+use Rattle.checks.specs.Structure.{planOrder, keyTexts, insertText, sortTexts, sameTexts, structure}
+use Rattle.planner.specs.Held.{heldUnder}
 use Rattle.pairs.specs.Pairs.{pairsEntries, flatten}
 use Rattle.assignment.specs.Assignment.{firstSameScope}
 use Rattle.planner.specs.code.Post.{tabulate}

@@ -115,6 +115,12 @@ pub record GoodRoot (T : Tables) (root : ℕ) : Type 0 where
   pub table : WellFormed T
   pub node : Node T root
 
+-- two roots in a good table
+pub record GoodPair (T : Tables) (a b : ℕ) : Type 0 where
+  pub table : WellFormed T
+  pub first : Node T a
+  pub second : Node T b
+
 -- a pattern of a good table, with no name bound yet
 pub record PatternAsks (T : Tables) (root : ℕ) (binders : List ℕ) (at : ℕ) : Type 0 where
   pub table : WellFormed T
