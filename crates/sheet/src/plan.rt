@@ -147,7 +147,7 @@ fn plan_listed(
         );
     }
     if nodes.len() <= 640 {
-        let mut plan = [0u32; 1024];
+        let mut plan = [0u32; 2048];
         return plan_first(
             nodes,
             children,
