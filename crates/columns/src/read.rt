@@ -9,7 +9,7 @@ ghost use mathlib.Core.Path.{_≡_};
 ghost use mathlib.Core.List.{[], _∷_};
 ghost use Prim.Native.Nat.{_≤_};
 ghost use lib.ListN.{length};
-ghost use Rattle.columns.specs.Columns.{readColumn, columnBytes, columnAt, signedColumnAt, signedNumber};
+ghost use Rattle.columns.specs.Columns.{afterBlanks, readColumn, columnBytes, columnAt, signedColumnAt, signedNumber};
 ghost use Rattle.columns.specs.Decimals.{areBlank, columnWord};
 
 // Empty for a column that is not all there.
@@ -65,30 +65,59 @@ fn read_six(bytes: &[u8]) -> u32
     }
 }
 
-fn column_word(bytes: &[u8], at: usize) -> u32
-    ensures { λ r. ⌜ r ≡ columnWord (columnAt (now (bytes .entry)) at) ⌝ }
+fn column_word(a: u8, b: u8, c: u8, d: u8, e: u8, f: u8) -> u32
+    ensures { λ r. ⌜ r ≡ columnWord (readColumn (a ∷ b ∷ c ∷ d ∷ e ∷ f ∷ [])) ⌝ }
 {
-    if bytes.len() < 6 {
-        return 1000000;
+    if are_blank(a, b, c, d) {
+        return read_two(e, f);
     }
-    if bytes.len() - 6 < at {
-        return 1000000;
+    let bytes = [a, b, c, d, e, f];
+    read_six(&bytes)
+}
+
+// The number that six bytes say.
+pub fn column_of(a: u8, b: u8, c: u8, d: u8, e: u8, f: u8) -> Column
+    ensures { λ r. ⌜ r ≡ readColumn (a ∷ b ∷ c ∷ d ∷ e ∷ f ∷ []) ⌝ }
+{
+    let word = column_word(a, b, c, d, e, f);
+    if word < 1000000 {
+        return Column::Number(word);
     }
-    if are_blank(bytes[at], bytes[at + 1], bytes[at + 2], bytes[at + 3]) {
-        return read_two(bytes[at + 4], bytes[at + 5]);
-    }
-    read_six(&bytes[at..at + 6])
+    Column::Unreadable
 }
 
 // The column of six bytes at a place.
 pub fn read_column(bytes: &[u8], at: usize) -> Column
     ensures { λ r. ⌜ r ≡ columnAt (now (bytes .entry)) at ⌝ }
 {
-    let word = column_word(bytes, at);
-    if word < 1000000 {
-        return Column::Number(word);
+    if bytes.len() < 6 {
+        return Column::Unreadable;
     }
-    Column::Unreadable
+    if bytes.len() - 6 < at {
+        return Column::Unreadable;
+    }
+    column_of(
+        bytes[at],
+        bytes[at + 1],
+        bytes[at + 2],
+        bytes[at + 3],
+        bytes[at + 4],
+        bytes[at + 5],
+    )
+}
+
+// The bytes after the blanks in front, as far as these are whole fours.
+fn after_fours(bytes: &[u8]) -> &[u8]
+    ensures { λ r. ⌜ afterBlanks (now r) ≡ afterBlanks (now (bytes .entry)) ⌝ }
+{
+    let mut i: usize = 0;
+    while 4 <= bytes.len() - i {
+        if !are_blank(bytes[i], bytes[i + 1], bytes[i + 2], bytes[i + 3]) {
+            return &bytes[i..];
+        }
+        i += 4;
+    }
+    &bytes[i..]
 }
 
 fn signed_number(below: u64, digits: &[u8]) -> SignedColumn
@@ -109,7 +138,7 @@ fn signed_number(below: u64, digits: &[u8]) -> SignedColumn
 pub fn read_signed_column(bytes: &[u8], at: usize) -> SignedColumn
     ensures { λ r. ⌜ r ≡ signedColumnAt (now (bytes .entry)) at ⌝ }
 {
-    let number = after_blanks(column_bytes(bytes, at, 20));
+    let number = after_blanks(after_fours(column_bytes(bytes, at, 20)));
     if number.len() == 0 {
         return SignedColumn::Unreadable;
     }

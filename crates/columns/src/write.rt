@@ -29,6 +29,18 @@ fn write_rest(out: &mut [u8], at: usize, above: u64)
     }
 }
 
+// Nothing is left of a number of one digit.
+fn write_blanks(out: &mut [u8], at: usize)
+    requires { ⌜ at + 5 ≤ length (now out) ⌝ }
+    ensures { λ _. ⌜ now (out .exit) ≡ writeRest (now (out .entry)) at 5 0 ⌝ }
+{
+    let mut left: usize = 5;
+    while 0 < left {
+        left -= 1;
+        out[at + left] = 32;
+    }
+}
+
 // The number as a column of six at a place, if there is space for it.
 pub fn write_column(out: &mut [u8], at: usize, n: u64)
     ensures { λ _. ⌜ now (out .exit) ≡ columnStored (now (out .entry)) at n ⌝ }
@@ -40,5 +52,9 @@ pub fn write_column(out: &mut [u8], at: usize, n: u64)
         return;
     }
     out[at + 5] = 48 + (n % 10) as u8;
+    if n < 10 {
+        write_blanks(out, at);
+        return;
+    }
     write_rest(out, at, n / 10);
 }

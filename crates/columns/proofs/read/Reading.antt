@@ -27,7 +27,7 @@ use Rattle.columns.specs.Decimals.{digitsNumber, readDecimal}
 pub drop-here : (bytes : List ℕ) (i : ℕ) → i < length bytes → drop i bytes ≡ getD bytes i 0 ∷ drop (i + 1) bytes
 drop-here bytes i lt = rw (add-one i, drop-cons bytes i 0 lt)
 
-rest-whole : (bytes : List ℕ) (i : ℕ) → take (length bytes - i) (drop i bytes) ≡ drop i bytes
+pub rest-whole : (bytes : List ℕ) (i : ℕ) → take (length bytes - i) (drop i bytes) ≡ drop i bytes
 rest-whole bytes i = take-all (length bytes - i) (drop i bytes) (omega (arith, length-drop i bytes))
 
 -- Blanks: what is left has the same bytes after its blanks as all.
@@ -243,9 +243,9 @@ module _ (below : ℕ) (ds : List ℕ) {d : Decimal} (is : d ≡ readDecimal ds)
       go true false t missing = refl
       go false b t missing = refl
 
-module _ (bytes : List ℕ) (at : ℕ) {column number : List ℕ} (there : column ≡ columnBytes bytes at 20) (skipped : number ≡ afterBlanks column) where
+module _ (bytes : List ℕ) (at : ℕ) {column number : List ℕ} (fours : List ℕ) (there : column ≡ columnBytes bytes at 20) (same : afterBlanks fours ≡ afterBlanks column) (skipped : number ≡ afterBlanks fours) where
   is-number : number ≡ afterBlanks (columnBytes bytes at 20)
-  is-number = rw there at skipped
+  is-number = rw there at (skipped ∙ same)
 
   pub twenty-empty : length number ≡ 0 → SignedColumn.Unreadable ≡ signedColumnAt bytes at
   unfolding readSigned signedNumber isDecimal

@@ -4,7 +4,7 @@ use mathlib.Core.Bool.{Bool, true, false, cond, not, _&&_, and-false}
 use mathlib.Core.List.{List, [], _∷_}
 use mathlib.Core.Path.{_≡_, refl, sym, ap, _∙_}
 use native.Mathlib.Omega.{arith}
-use borrow.Author.Tests.{le-leb, lt-leb, leb-false, eq-eqb, ne-eqb, eqb-true, eqb-false}
+use borrow.Author.Tests.{le-leb, lt-leb, leb-false, eq-eqb, ne-eqb, eqb-true, eqb-false, not-false}
 use lib.Dec.{eqb, leb}
 use lib.ListN.{length, getD, take, drop}
 use mir.Syntax.{w8, w32}
@@ -17,7 +17,7 @@ use Rattle.columns.specs.declared.Column.{Column}
 use Rattle.columns.specs.declared.Column.the-variants as Column
 use Rattle.columns.specs.Columns.{afterBlanks, isDigit, allDigits, isDecimal, decimalNumber, readColumn, columnBytes, columnAt}
 use Rattle.columns.specs.Decimals.{readDecimal, areBlank, columnWord}
-use Rattle.columns.proofs.read.Reading.{drop-here, read-as, read-not, column-short, column-past, column-there, column-few, blanks-few, decimal-below}
+use Rattle.columns.proofs.read.Reading.{Skipping, skip-on, drop-here, rest-whole, read-as, read-not, column-short, column-past, blanks-few, decimal-below}
 
 -- four blanks as one number
 module _ (a b c d : ℕ) where
@@ -36,6 +36,30 @@ module _ (a b c d : ℕ) where
       go true true false s e f g h = ne-eqb (a + b * 256 + c * 65536 + d * 16777216) 538976288 (λ z. eqb-false c 32 g (omega (arith, fa, fb, fc, fd, z)))
       go true false r s e f g h = ne-eqb (a + b * 256 + c * 65536 + d * 16777216) 538976288 (λ z. eqb-false b 32 f (omega (arith, fa, fb, fc, fd, z)))
       go false q r s e f g h = ne-eqb (a + b * 256 + c * 65536 + d * 16777216) 538976288 (λ z. eqb-false a 32 e (omega (arith, fa, fb, fc, fd, z)))
+
+blanks-all : (a b c d : ℕ) {t : Bool} → t ≡ areBlank a b c d → t ≡ true → (eqb a 32 ≡ true) × (eqb b 32 ≡ true) × (eqb c 32 ≡ true) × (eqb d 32 ≡ true)
+blanks-all a b c d told blank =
+    let x = and-true (eqb a 32) (eqb b 32 && (eqb c 32 && eqb d 32)) (sym told ∙ blank) in
+    let y = and-true (eqb b 32) (eqb c 32 && eqb d 32) (x .1) in
+    let z = and-true (eqb c 32) (eqb d 32) (y .1) in
+    (x .0, y .0, z .0, z .1)
+
+-- Blanks by fours.
+module _ {bytes : List ℕ} {i : ℕ} (s : Skipping bytes i) where
+  pub fours-on : {t : Bool} → 4 ≤ length bytes - i → t ≡ areBlank (getD bytes i 0) (getD bytes (i + 1) 0) (getD bytes (i + 2) 0) (getD bytes (i + 3) 0) → not t ≡ false → Skipping bytes (i + 4)
+  fours-on {t} room told blank =
+      let all = blanks-all (getD bytes i 0) (getD bytes (i + 1) 0) (getD bytes (i + 2) 0) (getD bytes (i + 3) 0) told (not-false t blank) in
+      let one = skip-on s (omega arith) (eqb-true (getD bytes i 0) 32 (all .0)) in
+      let two = skip-on one (omega arith) (eqb-true (getD bytes (i + 1) 0) 32 (all .1)) in
+      let e : i + 1 + 1 ≡ i + 2 = omega arith in
+      let three = skip-on (rw e at two) (omega arith) (eqb-true (getD bytes (i + 2) 0) 32 (all .2)) in
+      let f : i + 2 + 1 ≡ i + 3 = omega arith in
+      let four = skip-on (rw f at three) (omega arith) (eqb-true (getD bytes (i + 3) 0) 32 (all .3)) in
+      let g : i + 3 + 1 ≡ i + 4 = omega arith in
+      rw g at four
+
+  pub fours-rest : afterBlanks (take (length bytes - i) (drop i bytes)) ≡ afterBlanks bytes
+  fours-rest = rw (rest-whole bytes i) (s .same)
 
 -- two digits, or a blank and one
 module _ (t u : ℕ) where
@@ -113,63 +137,67 @@ module _ (bytes : List ℕ) {ds : List ℕ} {d : Decimal} (few : length bytes �
           absurd (omega (arith, leb-false (value 0 (afterBlanks bytes)) (2 ^ 63) missing))
       go false form missing = refl
 
+-- four blanks, then two bytes
+pub column-two : (a b c d e f : ℕ) {t : Bool} {r : ℕ} → t ≡ areBlank a b c d → t ≡ true → r ≡ columnWord (readColumn (e ∷ f ∷ [])) → r ≡ columnWord (readColumn (a ∷ b ∷ c ∷ d ∷ e ∷ f ∷ []))
+unfolding readColumn afterBlanks
+column-two a b c d e f told blank read =
+    let all = blanks-all a b c d told blank in
+    rw (all .0, all .1, all .2, all .3) read
+
+-- the word of a column
+module _ (a b c d e f : ℕ) {word : ℕ} (is : word ≡ columnWord (readColumn (a ∷ b ∷ c ∷ d ∷ e ∷ f ∷ []))) where
+  six : Column
+  six = readColumn (a ∷ b ∷ c ∷ d ∷ e ∷ f ∷ [])
+
+  six-below : (n : ℕ) → six ≡ Column.Number n → n < 1000000
+  unfolding six readColumn
+  six-below n said = go (isDecimal (afterBlanks (a ∷ b ∷ c ∷ d ∷ e ∷ f ∷ []))) refl said
+    where
+      ds : List ℕ
+      ds = afterBlanks (a ∷ b ∷ c ∷ d ∷ e ∷ f ∷ [])
+
+      go : (form : Bool) → isDecimal ds ≡ form → cond form (Column.Number (value 0 ds)) Column.Unreadable ≡ Column.Number n → n < 1000000
+      go true form q =
+          let same : value 0 ds ≡ n = cc in
+          let below = decimal-below 6 ds form (omega (arith, blanks-few (a ∷ b ∷ c ∷ d ∷ e ∷ f ∷ []))) in
+          omega arith
+      go false form q = let z : _≡_ {A = ℕ} 0 1 = cc in absurd (omega arith)
+
+  pub word-number : word < 1000000 → Column.Number word ≡ readColumn (a ∷ b ∷ c ∷ d ∷ e ∷ f ∷ [])
+  word-number lt = go (readColumn (a ∷ b ∷ c ∷ d ∷ e ∷ f ∷ [])) is
+    where
+      go : (column : Column) → word ≡ columnWord column → Column.Number word ≡ column
+      go (Column.Number n) p = ap Column.Number p
+      go Column.Unreadable p = absurd (omega arith)
+
+  pub word-none : 1000000 ≤ word → Column.Unreadable ≡ readColumn (a ∷ b ∷ c ∷ d ∷ e ∷ f ∷ [])
+  unfolding six
+  word-none le = go (readColumn (a ∷ b ∷ c ∷ d ∷ e ∷ f ∷ [])) is refl
+    where
+      go : (column : Column) → word ≡ columnWord column → six ≡ column → Column.Unreadable ≡ column
+      go (Column.Number n) p q = absurd (omega (arith, six-below n q))
+      go Column.Unreadable p q = refl
+
 -- the column at a place
 module _ (bytes : List ℕ) (at : ℕ) where
-  pub column-short-unread : length bytes < 6 → 1000000 ≡ columnWord (columnAt bytes at)
+  pub column-short-unread : length bytes < 6 → Column.Unreadable ≡ columnAt bytes at
   unfolding readColumn afterBlanks isDecimal
   column-short-unread lt = rw (← column-short bytes at 6 lt)
 
-  module _ (some : 6 ≤ length bytes) where
-    pub column-past-unread : length bytes - 6 < at → 1000000 ≡ columnWord (columnAt bytes at)
-    unfolding readColumn afterBlanks isDecimal
-    column-past-unread lt = rw (← column-past bytes at 6 some lt)
+  pub column-past-unread : 6 ≤ length bytes → length bytes - 6 < at → Column.Unreadable ≡ columnAt bytes at
+  unfolding readColumn afterBlanks isDecimal
+  column-past-unread some lt = rw (← column-past bytes at 6 some lt)
 
-    module _ (inside : at ≤ length bytes - 6) where
-      pub column-six : {r : ℕ} → r ≡ columnWord (readColumn (take ((at + 6) - at) (drop at bytes))) → r ≡ columnWord (columnAt bytes at)
-      column-six e = rw (column-there bytes at 6 some inside) at e
+  pub column-inside : at + 6 ≤ length bytes → {r : Column}
+      → r ≡ readColumn (getD bytes at 0 ∷ getD bytes (at + 1) 0 ∷ getD bytes (at + 2) 0 ∷ getD bytes (at + 3) 0 ∷ getD bytes (at + 4) 0 ∷ getD bytes (at + 5) 0 ∷ []) → r ≡ columnAt bytes at
+  unfolding columnBytes
+  column-inside inside is =
+      let b : at + 1 + 1 ≡ at + 2 = omega arith in
+      let c : at + 2 + 1 ≡ at + 3 = omega arith in
+      let d : at + 3 + 1 ≡ at + 4 = omega arith in
+      let e : at + 4 + 1 ≡ at + 5 = omega arith in
+      rw (le-leb (at + 6) (length bytes) inside, drop-here bytes at (omega arith), drop-here bytes (at + 1) (omega arith), b, drop-here bytes (at + 2) (omega arith), c, drop-here bytes (at + 3) (omega arith), d, drop-here bytes (at + 4) (omega arith), e, drop-here bytes (at + 5) (omega arith)) is
 
-      six-bytes : columnBytes bytes at 6 ≡ getD bytes at 0 ∷ getD bytes (at + 1) 0 ∷ getD bytes (at + 2) 0 ∷ getD bytes (at + 3) 0 ∷ getD bytes (at + 4) 0 ∷ getD bytes (at + 5) 0 ∷ []
-      unfolding columnBytes
-      six-bytes =
-          let b : at + 1 + 1 ≡ at + 2 = omega arith in
-          let c : at + 2 + 1 ≡ at + 3 = omega arith in
-          let d : at + 3 + 1 ≡ at + 4 = omega arith in
-          let e : at + 4 + 1 ≡ at + 5 = omega arith in
-          rw (le-leb (at + 6) (length bytes) (omega arith), drop-here bytes at (omega arith), drop-here bytes (at + 1) (omega arith), b, drop-here bytes (at + 2) (omega arith), c, drop-here bytes (at + 3) (omega arith), d, drop-here bytes (at + 4) (omega arith), e, drop-here bytes (at + 5) (omega arith))
-
-      pub column-two : {t : Bool} {r : ℕ} → t ≡ areBlank (getD bytes at 0) (getD bytes (at + 1) 0) (getD bytes (at + 2) 0) (getD bytes (at + 3) 0) → t ≡ true
-          → r ≡ columnWord (readColumn (getD bytes (at + 4) 0 ∷ getD bytes (at + 5) 0 ∷ [])) → r ≡ columnWord (columnAt bytes at)
-      unfolding readColumn afterBlanks
-      column-two told blank e =
-          let all = sym told ∙ blank in
-          let a = and-true (eqb (getD bytes at 0) 32) (eqb (getD bytes (at + 1) 0) 32 && (eqb (getD bytes (at + 2) 0) 32 && eqb (getD bytes (at + 3) 0) 32)) all in
-          let b = and-true (eqb (getD bytes (at + 1) 0) 32) (eqb (getD bytes (at + 2) 0) 32 && eqb (getD bytes (at + 3) 0) 32) (a .1) in
-          let c = and-true (eqb (getD bytes (at + 2) 0) 32) (eqb (getD bytes (at + 3) 0) 32) (b .1) in
-          rw (six-bytes, a .0, b .0, c .0, c .1) e
-
--- the word of a column
-column-below : (bytes : List ℕ) (n : ℕ) → length bytes ≤ 6 → readColumn bytes ≡ Column.Number n → n < 1000000
-unfolding readColumn
-column-below bytes n few e = go (isDecimal (afterBlanks bytes)) refl e
-  where
-    go : (b : Bool) → isDecimal (afterBlanks bytes) ≡ b → cond b (Column.Number (value 0 (afterBlanks bytes))) Column.Unreadable ≡ Column.Number n → n < 1000000
-    go true form f =
-        let same : value 0 (afterBlanks bytes) ≡ n = cc in
-        let b = decimal-below 6 (afterBlanks bytes) form (omega (arith, blanks-few bytes)) in
-        omega arith
-    go false form f = let z : _≡_ {A = ℕ} 0 1 = cc in absurd (omega arith)
-
-module _ (bytes : List ℕ) (at : ℕ) {word : ℕ} (is : word ≡ columnWord (columnAt bytes at)) where
-  pub word-number : word < 1000000 → Column.Number word ≡ columnAt bytes at
-  word-number lt = go (columnAt bytes at) is
-    where
-      go : (c : Column) → word ≡ columnWord c → Column.Number word ≡ c
-      go (Column.Number n) e = ap Column.Number e
-      go Column.Unreadable e = absurd (omega arith)
-
-  pub word-none : 1000000 ≤ word → Column.Unreadable ≡ columnAt bytes at
-  word-none le = go (columnAt bytes at) is refl
-    where
-      go : (c : Column) → word ≡ columnWord c → columnAt bytes at ≡ c → Column.Unreadable ≡ c
-      go (Column.Number n) e f = absurd (omega (arith, column-below (columnBytes bytes at 6) n (column-few bytes at 6) f))
-      go Column.Unreadable e f = refl
+  pub column-found : 6 ≤ length bytes → at ≤ length bytes - 6 → {r : Column}
+      → r ≡ readColumn (getD bytes at 0 ∷ getD bytes (at + 1) 0 ∷ getD bytes (at + 2) 0 ∷ getD bytes (at + 3) 0 ∷ getD bytes (at + 4) 0 ∷ getD bytes (at + 5) 0 ∷ []) → r ≡ columnAt bytes at
+  column-found some inside is = column-inside (omega arith) is

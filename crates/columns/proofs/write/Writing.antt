@@ -123,6 +123,9 @@ module _ {out₀ : List ℕ} {at above : ℕ} {out : List ℕ} {left rest : ℕ}
   unfolding writeRest
   writing-ends h = let e : left ≡ 0 = omega arith in rw e at (w .same)
 
+pub blank-on : {out₀ : List ℕ} {at : ℕ} {out : List ℕ} {left : ℕ} → Writing out₀ at 0 out left 0 → 0 < left → Writing out₀ at 0 (set out (at + (left - 1)) 32) (left - 1) 0
+blank-on w h = writing-on w h refl
+
 -- the last digit first, then what is left
 module _ (out : List ℕ) (at n : ℕ) where
   pub column-short : length out < 6 → out ≡ columnStored out at n
@@ -158,6 +161,9 @@ module _ (out : List ℕ) (at n : ℕ) where
           ∙ (rw (front, back)
           (ap (λ (l : List ℕ). take at out ++ l) (sym (append-assoc (padded 5 (n / 10)) (x ∷ []) (drop (at + 6) out)))
           ∙ rw (digits, l, le-leb (at + 6) (length out) fits))))
+
+      pub digit-written : {after : List ℕ} → n < 2 ^ 64 → n < 10 → after ≡ writeRest (set out (at + 5) (48 + n % 10)) at 5 0 → after ≡ columnStored out at n
+      digit-written small few e = let z : n / 10 ≡ 0 = omega arith in column-written small (rw z e)
 
 pub set-kept : (out after : List ℕ) (i b : ℕ) → length after ≡ length (set out i b) → length after ≡ length out
 set-kept out after i b e = e ∙ length-set out i b

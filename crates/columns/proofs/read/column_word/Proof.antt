@@ -1,4 +1,4 @@
-use Rattle.columns.proofs.read.Six.{column-short-unread, column-past-unread, column-two, column-six}
+use Rattle.columns.proofs.read.Six.{column-two}
 use borrow.Author.Needs.{needs}
 use Rattle.columns.proofs.read.column_word.Statement.{statement}
 use Rattle.columns.proofs.read.column_word.Tie as tie
@@ -7,26 +7,9 @@ pub column-word-spec : {M : Type 1} → statement M
 column-word-spec =
     tie.close
     (tie.spec
-    (λ c. search (column-short-unread, needs))
-    (λ c. search needs)
-    (λ c. search (column-past-unread, needs))
-    (λ c. search needs)
-    (λ c. search needs)
-    (λ c. search needs)
-    (λ c. search needs)
-    (λ c. search needs)
-    (λ c. search needs)
-    (λ c. search needs)
     (λ c κs. search needs)
-    (λ c. search needs)
-    (λ c. search needs)
-    (λ c. search needs)
-    (λ c. search needs)
     (λ c κs. search needs)
     (λ c. search (column-two, needs))
     (λ c. search needs)
-    (λ c. search needs)
-    (λ c. search needs)
-    (λ c. search needs)
     (λ c κs. search needs)
-    (λ c. search (column-six, needs)))
+    (λ c. search needs))

@@ -9,6 +9,7 @@ read-signed-column-spec =
     (tie.spec
     (λ c κs. search needs)
     (λ c κs. search needs)
+    (λ c κs. search needs)
     (λ c. search (twenty-empty, needs))
     (λ c. search needs)
     (λ c. search needs)

@@ -1,4 +1,4 @@
-use Rattle.columns.proofs.write.Writing.{column-short, column-past, rest-room, column-written, set-kept}
+use Rattle.columns.proofs.write.Writing.{column-short, column-past, rest-room, column-written, digit-written, set-kept}
 use borrow.Author.Needs.{needs}
 use Rattle.columns.proofs.write.write_column.Statement.{statement}
 use Rattle.columns.proofs.write.write_column.Tie as tie
@@ -14,6 +14,9 @@ write-column-spec =
     (λ c. search needs)
     (λ c. search needs)
     (λ c. search needs)
+    (λ c κs. search (rest-room, needs))
+    (λ c. search (set-kept, needs))
+    (λ c. search (digit-written, needs))
     (λ c κs. search (rest-room, needs))
     (λ c. search (set-kept, needs))
     (λ c. search (column-written, needs)))
