@@ -51,10 +51,11 @@ pub fn write_column(out: &mut [u8], at: usize, n: u64)
     if out.len() - 6 < at {
         return;
     }
-    out[at + 5] = 48 + (n % 10) as u8;
     if n < 10 {
+        out[at + 5] = 48 + n as u8;
         write_blanks(out, at);
         return;
     }
+    out[at + 5] = 48 + (n % 10) as u8;
     write_rest(out, at, n / 10);
 }

@@ -162,8 +162,11 @@ module _ (out : List ℕ) (at n : ℕ) where
           (ap (λ (l : List ℕ). take at out ++ l) (sym (append-assoc (padded 5 (n / 10)) (x ∷ []) (drop (at + 6) out)))
           ∙ rw (digits, l, le-leb (at + 6) (length out) fits))))
 
-      pub digit-written : {after : List ℕ} → n < 2 ^ 64 → n < 10 → after ≡ writeRest (set out (at + 5) (48 + n % 10)) at 5 0 → after ≡ columnStored out at n
-      digit-written small few e = let z : n / 10 ≡ 0 = omega arith in column-written small (rw z e)
+      pub digit-written : {after : List ℕ} → n < 2 ^ 64 → n < 10 → after ≡ writeRest (set out (at + 5) (48 + n)) at 5 0 → after ≡ columnStored out at n
+      digit-written small few e =
+          let z : n / 10 ≡ 0 = omega arith in
+          let m : n % 10 ≡ n = omega arith in
+          column-written small (rw (z, m) e)
 
 pub set-kept : (out after : List ℕ) (i b : ℕ) → length after ≡ length (set out i b) → length after ≡ length out
 set-kept out after i b e = e ∙ length-set out i b
