@@ -1,3 +1,2 @@
 pub mod OneLine
 pub mod PlanListing
-pub mod Parsing

@@ -5,6 +5,7 @@ use mathlib.Core.List.{List, [], _∷_, _++_, map}
 use mathlib.Core.Path.{_≡_}
 use lib.Dec.{eqb, leb}
 use lib.ListN.{length, getD, set, replicate}
+use Rattle.scope.specs.declared.Scope.{Scope}
 use Rattle.table.specs.Rules.{allFrom}
 use Rattle.columns.specs.Columns.{columnAt, writeColumn}
 use Rattle.planner.specs.Answer.{Line, line}
@@ -12,9 +13,11 @@ use Rattle.planner.specs.Entries.{readEntries}
 use Rattle.sheet.specs.declared.layout.Counts.{Counts}
 use Rattle.sheet.specs.declared.listing.Row.{Row}
 use Rattle.sheet.specs.declared.operation.Operation.{Operation}
+use Rattle.sheet.specs.declared.plan.Tried.{Tried}
+use Rattle.sheet.specs.declared.plan.Tried.the-variants as Tried
 use Rattle.sheet.specs.Lines.{isReadable, numberAt, lineLength, linesOk, numberLinesOk, wordAt, numberWord}
 use Rattle.sheet.specs.Sheet.{childrenPlace, numbersPlace, namesPlace, endPlace, operationOf, marksOk, layoutOk, nodesOf, childrenOf, numbersOf, namesOf, marksOf, sheetOf, unparsed, parsed}
-use Rattle.sheet.specs.Listing.{entryLine, linesBytes, linesOfSheet}
+use Rattle.sheet.specs.Listing.{entryLine, linesBytes, linesOfSheet, Printed}
 
 -- so many parts of `line` bytes each, below 2^32
 pub record Inside (at line count : ℕ) : Type 0 where
@@ -62,13 +65,13 @@ pub record LineAsked (sheet : List ℕ) (at columns i : ℕ) (out : List ℕ) : 
   pub asked : LinesAsked at columns (i + 1) out
   pub before : Filled (wordAt sheet at (lineLength columns) columns) (i * columns) out
 
--- more than 64 lines of nodes, of which the first are good and their words held
+-- more than 16 lines of nodes, of which the first are good and their words held
 pub record NodesAsked (sheet : List ℕ) (count : ℕ) (first out : List ℕ) : Type 0 where
-  pub many : 64 < count
+  pub many : 16 < count
   pub few : count ≤ 512
-  pub room : length out ≡ 2560
-  pub good : linesOk sheet 74 5 64 ≡ true
-  pub held : Filled (wordAt sheet 74 31 5) 320 first
+  pub room : count * 5 ≤ length out
+  pub good : linesOk sheet 74 5 16 ≡ true
+  pub held : Filled (wordAt sheet 74 31 5) 80 first
 
 pub record NumbersAsked (at count : ℕ) (out : List ℕ) : Type 0 where
   pub lines : Inside at 21 count
@@ -106,6 +109,18 @@ pub record Overlaid (f : ℕ → ℕ) (count : ℕ) (before after : List ℕ) : 
 pub record MarksRead (rows : List ℕ) (count : ℕ) (before after : List ℕ) (r : Bool) : Type 0 where
   pub ok : r ≡ allFrom (rowMarkOk rows) 0 count
   pub marked : r ≡ true → Overlaid (rowMark rows) count before after
+
+-- the lines of names: their words without the marks, and the marks
+pub record NamesHeld (sheet : List ℕ) (at count : ℕ) (names before marks : List ℕ) : Type 0 where
+  pub words : Filled (wordAt sheet at 19 2) (count * 2) names
+  pub marked : Overlaid (wordAt sheet (at + 12) 19 1) count before marks
+
+abbrev pub namesOk : List ℕ → ℕ → ℕ → Bool
+namesOk sheet at count = linesOk sheet at 3 count && marksOk sheet at count
+
+pub record NamesRead (sheet : List ℕ) (at count : ℕ) (names before marks : List ℕ) (r : Bool) : Type 0 where
+  pub ok : r ≡ namesOk sheet at count
+  pub held : r ≡ true → NamesHeld sheet at count names before marks
 
 -- line 1 and line 2, by their words
 abbrev pub countsIn : List ℕ → Counts
@@ -152,6 +167,16 @@ pub record EntriesAsked (out plan : List ℕ) (count : ℕ) : Type 0 where
   pub space : count * 25 + 25 ≤ length out
   pub held : count * 4 ≤ length plan
 
+-- the scope of a sheet, by its marks
+abbrev pub scopeIn : Operation → List ℕ → Scope
+scopeIn o marks = record { marks = marks; underscore = 0; scheduler = eqb (o .scheduler) 1 }
+
+-- what became of an operation in space of so many words: it is listed, or it needs more and nothing was written
+pub record TriedBy (listing : List ℕ) (space : ℕ) (before after : List ℕ) (r : Tried) : Type 0 where
+  pub listed : (bytes : ℕ) → r ≡ Tried.Listed bytes → Printed listing before after bytes
+  pub more : r ≡ Tried.TooLarge → space < 6144
+  pub kept : r ≡ Tried.TooLarge → after ≡ before
+
 -- a refusal that has no place and no counts
 abbrev pub refusalLine : ℕ → List ℕ
 refusalLine number = linesBytes (line number 0 0 0 ∷ [])
@@ -160,16 +185,18 @@ refusalLine number = linesBytes (line number 0 0 0 ∷ [])
 abbrev pub laidListing : List ℕ → Counts → List ℕ
 laidListing sheet c = linesBytes (linesOfSheet (cond (layoutOk sheet c) (parsed (sheetOf sheet c)) (unparsed 7)))
 
--- the tests of the layout that are left after the nodes, and after line 2
-abbrev pub tablesLeft : List ℕ → Counts → Bool
-tablesLeft sheet c =
-    linesOk sheet (childrenPlace c) 1 (c .children)
-    && (numberLinesOk sheet (numbersPlace c) (c .numbers)
-    && (linesOk sheet (namesPlace c) 3 (c .names)
-    && marksOk sheet (namesPlace c) (c .names)))
+-- the tests of the layout that are left after the numbers, the children, the nodes, and line 2
+abbrev pub namesLeft : List ℕ → Counts → Bool
+namesLeft sheet c = namesOk sheet (namesPlace c) (c .names)
+
+abbrev pub numbersLeft : List ℕ → Counts → Bool
+numbersLeft sheet c = numberLinesOk sheet (numbersPlace c) (c .numbers) && namesLeft sheet c
+
+abbrev pub childrenLeft : List ℕ → Counts → Bool
+childrenLeft sheet c = linesOk sheet (childrenPlace c) 1 (c .children) && numbersLeft sheet c
 
 abbrev pub nodesLeft : List ℕ → Counts → Bool
-nodesLeft sheet c = linesOk sheet 74 5 (c .nodes) && tablesLeft sheet c
+nodesLeft sheet c = linesOk sheet 74 5 (c .nodes) && childrenLeft sheet c
 
 -- a sheet of the length that line 1 says, with a good line 2
 pub record Sized (sheet : List ℕ) (c : Counts) (o : Operation) : Type 0 where
@@ -181,13 +208,33 @@ pub record Headed (sheet : List ℕ) (c : Counts) (o : Operation) : Type 0 where
   pub sized : Sized sheet c o
   pub left : layoutOk sheet c ≡ nodesLeft sheet c
 
--- and the nodes in an array
+-- and the first 16 of more nodes in an array
+pub record FirstRead (sheet : List ℕ) (c : Counts) (o : Operation) (first : List ℕ) : Type 0 where
+  pub headed : Headed sheet c o
+  pub many : 16 < c .nodes
+  pub good : linesOk sheet 74 5 16 ≡ true
+  pub held : Filled (wordAt sheet 74 31 5) 80 first
+
+-- the nodes, then the children, then the numbers in an array
 pub record NodesRead (sheet : List ℕ) (c : Counts) (o : Operation) (nodes : List ℕ) : Type 0 where
   pub sized : Sized sheet c o
-  pub left : layoutOk sheet c ≡ tablesLeft sheet c
+  pub left : layoutOk sheet c ≡ childrenLeft sheet c
   pub nodes-are : nodes ≡ nodesOf sheet c
 
--- the other tables: the space for them, and what was read into it
+pub record ChildrenRead (sheet : List ℕ) (c : Counts) (o : Operation) (nodes children : List ℕ) : Type 0 where
+  pub sized : Sized sheet c o
+  pub left : layoutOk sheet c ≡ numbersLeft sheet c
+  pub nodes-are : nodes ≡ nodesOf sheet c
+  pub children-are : children ≡ childrenOf sheet c
+
+pub record NumbersRead (sheet : List ℕ) (c : Counts) (o : Operation) (nodes children numbers : List ℕ) : Type 0 where
+  pub sized : Sized sheet c o
+  pub left : layoutOk sheet c ≡ namesLeft sheet c
+  pub nodes-are : nodes ≡ nodesOf sheet c
+  pub children-are : children ≡ childrenOf sheet c
+  pub numbers-are : numbers ≡ numbersOf sheet c
+
+-- or all tables after the nodes at once: the space for them, and what was read into it
 pub record TablesAsked (c : Counts) (children numbers names : List ℕ) : Type 0 where
   pub limited : Limited c
   pub children-room : c .children ≤ length children
@@ -197,11 +244,10 @@ pub record TablesAsked (c : Counts) (children numbers names : List ℕ) : Type 0
 pub record TablesHeld (sheet : List ℕ) (c : Counts) (children numbers names before marks : List ℕ) : Type 0 where
   pub children-filled : Filled (wordAt sheet (childrenPlace c) 7 1) (c .children) children
   pub numbers-filled : Filled (numberWord sheet (numbersPlace c)) (c .numbers * 2) numbers
-  pub names-filled : Filled (wordAt sheet (namesPlace c) 19 2) (c .names * 2) names
-  pub marked : Overlaid (wordAt sheet (namesPlace c + 12) 19 1) (c .names) before marks
+  pub names-held : NamesHeld sheet (namesPlace c) (c .names) names before marks
 
 pub record TablesRead (sheet : List ℕ) (c : Counts) (children numbers names before marks : List ℕ) (r : Bool) : Type 0 where
-  pub ok : r ≡ tablesLeft sheet c
+  pub ok : r ≡ childrenLeft sheet c
   pub held : r ≡ true → TablesHeld sheet c children numbers names before marks
 
 -- and all tables, with the marks

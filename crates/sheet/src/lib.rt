@@ -5,6 +5,7 @@ mod listing;
 mod names;
 mod operation;
 mod plan;
+mod tables;
 
 ghost use mathlib.Core.Path.{_≡_};
 ghost use Rattle.sheet.specs.Listing.{listingOf, Printed};
@@ -12,7 +13,7 @@ use layout::counts_of;
 use layout::within_limits;
 use lines::read_lines;
 use listing::refuse;
-use plan::plan_counted;
+use tables::plan_counted;
 
 // Plans a sheet and lists the plan in `out`. The bytes written, or 0 if the listing doesn't fit.
 #[no_mangle]

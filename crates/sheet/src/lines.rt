@@ -6,15 +6,23 @@ ghost use Rattle.sheet.specs.Lines.{isLineFeed, lineLength, lineOk, line
 ghost use Rattle.sheet.specs.Post.{Filled, wordIn, WordRead, LineAsked, LinesAsked, NodesAsked, NumberAsked, NumbersAsked, Read};
 use columns::Column;
 use columns::SignedColumn;
-use columns::read::read_column;
+use columns::read::column_of;
 use columns::read::read_signed_column;
 
 // Whether the column has a number, which is then word w.
 fn read_word(sheet: &[u8], at: usize, w: usize, out: &mut [u32]) -> bool
-    requires { ⌜ w < length (now out) ⌝ }
+    requires { ⌜ (at + 6 ≤ length (now sheet)) × (w < length (now out)) ⌝ }
     ensures { λ r. ⌜ WordRead (now (sheet .entry)) at w (now (out .entry)) (now (out .exit)) r ⌝ }
 {
-    match read_column(sheet, at) {
+    let column = column_of(
+        sheet[at],
+        sheet[at + 1],
+        sheet[at + 2],
+        sheet[at + 3],
+        sheet[at + 4],
+        sheet[at + 5],
+    );
+    match column {
         Column::Number(n) => {
             out[w] = n;
             true
@@ -38,6 +46,10 @@ fn read_line(sheet: &[u8], at: usize, columns: usize, i: usize, out: &mut [u32])
     ensures { λ r. ⌜ Read (wordAt (now (sheet .entry)) at (lineLength columns) columns) (i * columns + columns) (lineOk (now (sheet .entry)) at columns i) (now (out .exit)) r ⌝ }
 {
     let place = at + i * (columns * 6 + 1);
+    let end = place + columns * 6;
+    if sheet.len() <= end {
+        return false;
+    }
     let first = i * columns;
     let mut j: usize = 0;
     while j < columns {
@@ -46,7 +58,7 @@ fn read_line(sheet: &[u8], at: usize, columns: usize, i: usize, out: &mut [u32])
         }
         j += 1;
     }
-    is_line_feed(sheet, place + columns * 6)
+    sheet[end] == 10
 }
 
 pub(crate) fn read_lines(
@@ -69,24 +81,24 @@ pub(crate) fn read_lines(
     true
 }
 
-fn copy_words(from: &[u32; 320], out: &mut [u32])
-    requires { ⌜ 320 ≤ length (now out) ⌝ }
-    ensures { λ _. ⌜ Filled (wordIn (now (from .entry))) 320 (now (out .exit)) ⌝ }
+fn copy_words(from: &[u32; 80], out: &mut [u32])
+    requires { ⌜ 80 ≤ length (now out) ⌝ }
+    ensures { λ _. ⌜ Filled (wordIn (now (from .entry))) 80 (now (out .exit)) ⌝ }
 {
     let mut w: usize = 0;
-    while w < 320 {
+    while w < 80 {
         out[w] = from[w];
         w += 1;
     }
 }
 
-// The nodes' lines after the first 64, whose words are copied.
-pub(crate) fn read_nodes_on(sheet: &[u8], count: usize, first: &[u32; 320], out: &mut [u32]) -> bool
+// The nodes' lines after the first 16, whose words are copied.
+pub(crate) fn read_nodes_on(sheet: &[u8], count: usize, first: &[u32; 80], out: &mut [u32]) -> bool
     requires { ⌜ NodesAsked (now sheet) count (now first) (now out) ⌝ }
     ensures { λ r. ⌜ Read (wordAt (now (sheet .entry)) 74 31 5) (count * 5) (linesOk (now (sheet .entry)) 74 5 count) (now (out .exit)) r ⌝ }
 {
     copy_words(first, out);
-    read_lines(sheet, 2058, 5, count - 64, &mut out[320..])
+    read_lines(sheet, 570, 5, count - 16, &mut out[80..])
 }
 
 // Line i: a column of twenty, then LF. Its words are 1 for below zero or 0, and the size.

@@ -1,9 +1,10 @@
 // Names and their marks, from the words of their lines: start, length, marks.
-ghost use Prim.Native.Nat.{_*_};
-ghost use Rattle.sheet.specs.Post.{Filled, nameWord, NamesAsked, MarksAsked, MarksRead};
+ghost use Prim.Native.Nat.{_*_, _≤_};
+ghost use Rattle.sheet.specs.Post.{Filled, nameWord, LinesAsked, NamesAsked, MarksAsked, MarksRead, NamesRead};
+use crate::lines::read_lines;
 
 // Starts and lengths, with the marks between them left out.
-pub(crate) fn close_up(rows: &mut [u32], count: usize)
+fn close_up(rows: &mut [u32], count: usize)
     requires { ⌜ NamesAsked (now rows) count ⌝ }
     ensures { λ _. ⌜ Filled (nameWord (now (rows .entry))) (count * 2) (now (rows .exit)) ⌝ }
 {
@@ -16,7 +17,7 @@ pub(crate) fn close_up(rows: &mut [u32], count: usize)
 }
 
 // Whether all marks are 0 to 31.
-pub(crate) fn fill_marks(rows: &[u32], count: usize, marks: &mut [u8]) -> bool
+fn fill_marks(rows: &[u32], count: usize, marks: &mut [u8]) -> bool
     requires { ⌜ MarksAsked (now rows) count (now marks) ⌝ }
     ensures { λ r. ⌜ MarksRead (now (rows .entry)) count (now (marks .entry)) (now (marks .exit)) r ⌝ }
 {
@@ -29,5 +30,26 @@ pub(crate) fn fill_marks(rows: &[u32], count: usize, marks: &mut [u8]) -> bool
         marks[x] = mark as u8;
         x += 1;
     }
+    true
+}
+
+// The lines of names, into words and marks. Whether they are good.
+pub(crate) fn read_names(
+    sheet: &[u8],
+    at: usize,
+    count: usize,
+    names: &mut [u32],
+    marks: &mut [u8; 128],
+) -> bool
+    requires { ⌜ LinesAsked at 3 count (now names) × (count ≤ 128) ⌝ }
+    ensures { λ r. ⌜ NamesRead (now (sheet .entry)) at count (now (names .exit)) (now (marks .entry)) (now (marks .exit)) r ⌝ }
+{
+    if !read_lines(sheet, at, 3, count, names) {
+        return false;
+    }
+    if !fill_marks(names, count, marks) {
+        return false;
+    }
+    close_up(names, count);
     true
 }

@@ -16,7 +16,7 @@ use Rattle.sheet.specs.Sheet.{countsOf, withinLimits, layoutOk, sheetOf,
 use Rattle.sheet.specs.Listing.{linesBytes, linesOfSheet, listingOf}
 use Rattle.sheet.specs.Laws.{CutShort}
 use Rattle.sheet.proofs.lines.LayoutTests.{limited, counts-read}
-use Rattle.sheet.proofs.plan.Parsing.{length-differs}
+use Rattle.sheet.proofs.tables.Parsing.{length-differs}
 
 -- line 1, of bytes that have it and of more bytes
 module _ (xs ys : List ℕ) (long : 37 ≤ length xs) where

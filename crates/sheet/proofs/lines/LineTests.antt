@@ -1,7 +1,7 @@
 -- Lines, as the code reads them.
 use Prim.Native.Nat.{ℕ, zero, suc, _+_, _-_, _*_, _/_, _%_, _^_, _<_, _≤_}
-use mathlib.Core.Bool.{Bool, true, false, not, _&&_, false≢true}
-use mathlib.Core.List.{List, _++_}
+use mathlib.Core.Bool.{Bool, true, false, not, _&&_, and-false, false≢true}
+use mathlib.Core.List.{List, [], _∷_, _++_}
 use mathlib.Core.Path.{_≡_, refl, sym, ap, _∙_}
 use native.Mathlib.Omega.{arith}
 use native.Mathlib.Nat.{mul-le-mul-right, mul-add-div-right, mul-add-mod-self-right, div-eq-of-lt, mod-eq-of-lt}
@@ -15,7 +15,8 @@ use Rattle.columns.specs.declared.Column.{Column}
 use Rattle.columns.specs.declared.Column.the-variants as Column
 use Rattle.columns.specs.declared.SignedColumn.{SignedColumn}
 use Rattle.columns.specs.declared.SignedColumn.the-variants as SignedColumn
-use Rattle.columns.specs.Columns.{columnAt, signedColumnAt}
+use Rattle.columns.specs.Columns.{readColumn, columnAt, signedColumnAt}
+use Rattle.columns.proofs.read.Six.{column-inside}
 use Rattle.table.specs.Rules.{allFrom}
 use Rattle.table.proofs.tests.Scan.{Scan, scan-start, scan-ends, all-on, all-fails}
 use Rattle.planner.specs.code.Post.{tabulate}
@@ -24,7 +25,11 @@ use Rattle.sheet.specs.Lines.{numberAt, isLineFeed, columnOk, isLine, li
 use Rattle.sheet.specs.Post.{Inside, WordRead, wordIn, Filled, Read, LinesAsked, LineAsked, NodesAsked, NumbersAsked, NumberAsked}
 
 -- a column, by what was read
-module _ (sheet : List ℕ) (at w : ℕ) (before : List ℕ) {column : Column} (is : column ≡ columnAt sheet at) where
+module _ (sheet : List ℕ) (at w : ℕ) (before : List ℕ) (inside : at + 6 ≤ length sheet) {column : Column}
+    (said : column ≡ readColumn (getD sheet at 0 ∷ getD sheet (at + 1) 0 ∷ getD sheet (at + 2) 0 ∷ getD sheet (at + 3) 0 ∷ getD sheet (at + 4) 0 ∷ getD sheet (at + 5) 0 ∷ [])) where
+  is : column ≡ columnAt sheet at
+  is = column-inside sheet at inside said
+
   pub word-read : {n : ℕ} → column ≡ Column.Number n → WordRead sheet at w before (set before w n) true
   unfolding numberAt
   word-read e = record { ok = rw (← is, e); stored = λ _. rw (← is, e) }
@@ -132,6 +137,10 @@ module _ {sheet : List ℕ} {at columns i : ℕ} {before : List ℕ} (asked : Li
   pub line-end-place : Fits w64 (at + i * (columns * 6 + 1) + columns * 6)
   line-end-place = record { fits = omega (arith, below) }
 
+  pub line-cut : length sheet ≤ at + i * (columns * 6 + 1) + columns * 6 → Read (wordAt sheet at (lineLength columns) columns) (i * columns + columns) (lineOk sheet at columns i) before false
+  unfolding isLine
+  line-cut cut = no-words before (rw (← feed-past sheet (at + i * lineLength columns + columns * 6) cut) (sym (and-false (allFrom (columnOk sheet (at + i * lineLength columns)) 0 columns))))
+
   pub line-start : Going (columnOk sheet (at + i * lineLength columns)) (wordAt sheet at (lineLength columns) columns) columns 0 (i * columns + 0) before before
   line-start =
       let z : i * columns + 0 ≡ i * columns = omega arith in
@@ -147,6 +156,9 @@ module _ {sheet : List ℕ} {at columns i : ℕ} {before : List ℕ} (asked : Li
 
       pub word-room : i * columns + j < length here
       word-room = omega (arith, asked .asked .room, go .long)
+
+      pub column-there : at + i * (columns * 6 + 1) + columns * 6 < length sheet → at + i * (columns * 6 + 1) + j * 6 + 6 ≤ length sheet
+      column-there there = omega arith
 
       module _ {after : List ℕ} {r : Bool} (read : WordRead sheet (at + i * lineLength columns + j * 6) (i * columns + j) here after r) where
         pub line-on : not r ≡ false → Going (columnOk sheet (at + i * lineLength columns)) (wordAt sheet at (lineLength columns) columns) columns (j + 1) (i * columns + (j + 1)) before after
@@ -201,7 +213,7 @@ module _ (sheet : List ℕ) {at columns count : ℕ} {before : List ℕ} (asked 
         let n : i ≡ count = omega (arith, go .scan .inside) in
         record { ok = scan-ends (go .scan) le; filled = λ _. rw n at (go .filled) }
 
--- 64 lines of nodes, and those after them
+-- 16 lines of nodes, and those after them
 all-shift : (p q : ℕ → Bool) (d : ℕ) → ((j : ℕ) → p (d + j) ≡ q j) → (i k : ℕ) → allFrom p (d + i) k ≡ allFrom q i k
 unfolding allFrom
 all-shift p q d same i zero = refl
@@ -222,27 +234,27 @@ all-split p i (suc a) b =
     and-assoc true y z = refl
     and-assoc false y z = refl
 
-pub nodes-split : (sheet : List ℕ) (m : ℕ) → linesOk sheet 74 5 (64 + m) ≡ (linesOk sheet 74 5 64 && linesOk sheet 2058 5 m)
+pub nodes-split : (sheet : List ℕ) (m : ℕ) → linesOk sheet 74 5 (16 + m) ≡ (linesOk sheet 74 5 16 && linesOk sheet 570 5 m)
 nodes-split sheet m =
-    let after = all-shift (lineOk sheet 74 5) (lineOk sheet 2058 5) 64 (λ j. let e : 74 + (64 + j) * 31 ≡ 2058 + j * 31 = omega arith in ap (λ (at : ℕ). isLine sheet at 5) e) 0 m in
-    all-split (lineOk sheet 74 5) 0 64 m ∙ ap (λ (b : Bool). linesOk sheet 74 5 64 && b) after
+    let after = all-shift (lineOk sheet 74 5) (lineOk sheet 570 5) 16 (λ j. let e : 74 + (16 + j) * 31 ≡ 570 + j * 31 = omega arith in ap (λ (at : ℕ). isLine sheet at 5) e) 0 m in
+    all-split (lineOk sheet 74 5) 0 16 m ∙ ap (λ (b : Bool). linesOk sheet 74 5 16 && b) after
 
-nodes-after : (sheet : List ℕ) {count : ℕ} {part : List ℕ} → Filled (wordAt sheet 2058 31 5) count part → Filled (λ k. wordAt sheet 74 31 5 (320 + k)) count part
+nodes-after : (sheet : List ℕ) {count : ℕ} {part : List ℕ} → Filled (wordAt sheet 570 31 5) count part → Filled (λ k. wordAt sheet 74 31 5 (80 + k)) count part
 unfolding wordAt
 nodes-after sheet go = record {
   each = λ k lt.
-      let e : 2058 + k / 5 * 31 + k % 5 * 6 ≡ 74 + (320 + k) / 5 * 31 + (320 + k) % 5 * 6 = omega arith in
+      let e : 570 + k / 5 * 31 + k % 5 * 6 ≡ 74 + (80 + k) / 5 * 31 + (80 + k) % 5 * 6 = omega arith in
       go .each k lt ∙ ap (numberAt sheet) e;
 }
 
-pub rest-read : {sheet : List ℕ} {count : ℕ} {first out : List ℕ} → NodesAsked sheet count first out → {here part : List ℕ} (tail : List ℕ) {r : Bool} → length here ≡ length out → Filled (wordIn first) 320 here → length part ≡ length here - 320
-    → Read (wordAt sheet 2058 31 5) ((count - 64) * 5) (linesOk sheet 2058 5 (count - 64)) part r → Read (wordAt sheet 74 31 5) (count * 5) (linesOk sheet 74 5 count) (take 320 here ++ (part ++ tail)) r
+pub rest-read : {sheet : List ℕ} {count : ℕ} {first out : List ℕ} → NodesAsked sheet count first out → {here part : List ℕ} (tail : List ℕ) {r : Bool} → length here ≡ length out → Filled (wordIn first) 80 here → length part ≡ length here - 80
+    → Read (wordAt sheet 570 31 5) ((count - 16) * 5) (linesOk sheet 570 5 (count - 16)) part r → Read (wordAt sheet 74 31 5) (count * 5) (linesOk sheet 74 5 count) (take 80 here ++ (part ++ tail)) r
 rest-read {sheet} {count} asked tail long copied size read =
-    let n : 64 + (count - 64) ≡ count = omega (arith, asked .many) in
-    let m : 320 + (count - 64) * 5 ≡ count * 5 = omega (arith, asked .many) in
+    let n : 16 + (count - 16) ≡ count = omega (arith, asked .many) in
+    let m : 80 + (count - 16) * 5 ≡ count * 5 = omega (arith, asked .many) in
     record {
-      ok = read .ok ∙ rw (asked .good) at (sym (rw n at (nodes-split sheet (count - 64))));
-      filled = λ t. rw m at (filled-both (wordAt sheet 74 31 5) 320 ((count - 64) * 5) tail (asked .held) copied (omega (arith, asked)) (nodes-after sheet (read .filled t)) (omega (arith, asked)));
+      ok = read .ok ∙ rw (asked .good) at (sym (rw n at (nodes-split sheet (count - 16))));
+      filled = λ t. rw m at (filled-both (wordAt sheet 74 31 5) 80 ((count - 16) * 5) tail (asked .held) copied (omega (arith, asked)) (nodes-after sheet (read .filled t)) (omega (arith, asked)));
     }
 
 -- a number's line

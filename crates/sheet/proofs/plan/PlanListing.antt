@@ -1,12 +1,13 @@
 -- The operation that was carried out, and the listing of its answer and plan.
 use Prim.Native.Nat.{ℕ, _/_, _+_, _-_, _*_, _≤_}
-use mathlib.Core.Bool.{Bool, true, false, cond}
+use mathlib.Core.Bool.{Bool, true, false, cond, _&&_, false≢true}
 use mathlib.Core.List.{List, _++_}
-use mathlib.Core.Path.{_≡_, refl, ap, _∙_}
+use mathlib.Core.Path.{_≡_, refl, sym, ap, _∙_}
 use native.Mathlib.Omega.{arith}
-use borrow.Author.Tests.{eq-eqb, ne-eqb, eqb-true, leb-true, le-leb}
-use lib.Dec.{eqb, leb}
+use borrow.Author.Tests.{eq-eqb, ne-eqb, eqb-true, eqb-false, leb-true, le-leb, ltb-true, ltb-false}
+use lib.Dec.{eqb, leb, ltb}
 use lib.ListN.{length, drop, replicate, length-append, List·getD-append}
+use Rattle.literal.proofs.Numbers.{and-true}
 use Rattle.scope.specs.declared.Scope.{Scope}
 use Rattle.scope.specs.declared.ScopingMode.{ScopingMode}
 use Rattle.scope.specs.declared.ScopingMode.the-variants.{RespectParent, AllowShadowing}
@@ -25,7 +26,9 @@ use Rattle.some_in.specs.SomeIn.{someInOutcome}
 use Rattle.sheet.specs.declared.operation.Operation.{Operation}
 use Rattle.sheet.specs.Sheet.{scopingOf}
 use Rattle.sheet.specs.Listing.{operated, linesOf, linesBytes, Printed}
-use Rattle.sheet.specs.Post.{entriesIn, answerLines}
+use Rattle.sheet.specs.declared.plan.Tried.{Tried}
+use Rattle.sheet.specs.declared.plan.Tried.the-variants as Tried
+use Rattle.sheet.specs.Post.{entriesIn, answerLines, TriedBy}
 use Rattle.sheet.proofs.plan.OneLine.{oneLine, one-line}
 
 -- the scoping
@@ -104,14 +107,6 @@ listed-as (planned form side es) {blank} {plan} {a} long one done = go (leb (len
     go true p e f = rw e (listed-planned form side es 6144 p f)
     go false p e f = rw e (listed-large form side es p)
 
-module _ (o : Operation) (T : Tables) (s : Scope) {blank plan : List ℕ} {a : PlanAnswer} {first : Line}
-    (long : length blank ≡ 6144) (done : Answered (operated o T s) blank plan a) (is : first ≡ lineOf a) where
-  pub entries-held : entriesIn first * 4 ≤ length plan
-  entries-held = rw is (listed-as (operated o T s) long (one-line o T s) done .held)
-
-  pub operation-listed : {before after : List ℕ} {r : ℕ} → Printed (linesBytes (answerLines first plan)) before after r → Printed (linesBytes (linesOf (operated o T s))) before after r
-  operation-listed p = rw (← listed-as (operated o T s) long (one-line o T s) done .lines, ← is) p
-
 -- in a smaller space, where that suffices
 listed-small : (o : Outcome) {blank plan : List ℕ} {a : PlanAnswer} → length blank ≤ 6144 → oneLine o ≡ true → Answered o blank plan a → (lineOf a .number ≡ 6 → ⊥) → Listed o (lineOf a) plan
 unfolding answered written
@@ -126,13 +121,53 @@ listed-small (planned form side es) {blank} {plan} {a} few one done other = go (
         rw e (listed-planned form side es (length blank) (le-leb (length es) 1536 (omega arith)) f)
     go false p e f = absurd (other (ap (λ (x : PlanAnswer). lineOf x .number) e))
 
+-- is an answer 6, and the space small?
+module _ (number words : ℕ) where
+  pub six-in : number ≡ 6 → ltb words 6144 ≡ (eqb number 6 && ltb words 6144)
+  six-in e = simp (eq-eqb number 6 e)
+
+  pub not-six : (number ≡ 6 → ⊥) → false ≡ (eqb number 6 && ltb words 6144)
+  not-six h = simp (ne-eqb number 6 h)
+
+-- in any space, unless the answer is 6 for want of space for 1,536 entries
+listed-in : (o : Outcome) {blank plan : List ℕ} {a : PlanAnswer} → length blank ≤ 6144 → oneLine o ≡ true → Answered o blank plan a → (eqb (lineOf a .number) 6 && ltb (length blank) 6144) ≡ false → Listed o (lineOf a) plan
+listed-in o {blank} {plan} {a} few one done other = go (eqb (lineOf a .number) 6) (ltb (length blank) 6144) refl refl other
+  where
+    go : (six small : Bool) → eqb (lineOf a .number) 6 ≡ six → ltb (length blank) 6144 ≡ small → (six && small) ≡ false → Listed o (lineOf a) plan
+    go true false p q e = listed-as o (omega (arith, ltb-false (length blank) 6144 q)) one done
+    go true true p q e = absurd (false≢true (sym e))
+    go false small p q e = listed-small o few one done (eqb-false (lineOf a .number) 6 p)
+
 module _ (o : Operation) (T : Tables) (s : Scope) {blank plan : List ℕ} {a : PlanAnswer} {first : Line}
-    (few : length blank ≤ 6144) (done : Answered (operated o T s) blank plan a) (is : first ≡ lineOf a) (other : first .number ≡ 6 → ⊥) where
-  small-listed : Listed (operated o T s) (lineOf a) plan
-  small-listed = listed-small (operated o T s) few (one-line o T s) done (λ e. other (ap (λ (l : Line). l .number) is ∙ e))
+    (few : length blank ≤ 6144) (done : Answered (operated o T s) blank plan a) (is : first ≡ lineOf a) {m : Bool} (told : m ≡ (eqb (first .number) 6 && ltb (length plan) 6144)) (kept : length plan ≡ length blank) where
+  module _ (fits : m ≡ false) where
+    listed : Listed (operated o T s) (lineOf a) plan
+    listed = listed-in (operated o T s) few (one-line o T s) done (rw (is, kept) at (sym told ∙ fits))
 
-  pub small-held : entriesIn first * 4 ≤ length plan
-  small-held = rw is (small-listed .held)
+    pub tried-held : entriesIn first * 4 ≤ length plan
+    tried-held = rw is (listed .held)
 
-  pub operation-small : {before after : List ℕ} {r : ℕ} → Printed (linesBytes (answerLines first plan)) before after r → Printed (linesBytes (linesOf (operated o T s))) before after r
-  operation-small p = rw (← small-listed .lines, ← is) p
+    pub tried-listed : {before after : List ℕ} {bytes : ℕ} → Printed (linesBytes (answerLines first plan)) before after bytes → TriedBy (linesBytes (linesOf (operated o T s))) (length blank) before after (Tried.Listed bytes)
+    tried-listed {bytes = bytes} p = record {
+      listed = λ n e. let same : bytes ≡ n = cc in rw (← listed .lines, ← is, ← same) p;
+      more = λ e. let z : _≡_ {A = ℕ} 0 1 = cc in absurd (omega arith);
+      kept = λ e. let z : _≡_ {A = ℕ} 0 1 = cc in absurd (omega arith);
+    }
+
+  pub tried-large : (out : List ℕ) → m ≡ true → TriedBy (linesBytes (linesOf (operated o T s))) (length blank) out out Tried.TooLarge
+  tried-large out large = record {
+    listed = λ n e. let z : _≡_ {A = ℕ} 0 1 = cc in absurd (omega arith);
+    more = λ _. omega (arith, ltb-true (length plan) 6144 (and-true (eqb (first .number) 6) (ltb (length plan) 6144) (sym told ∙ large) .1));
+    kept = λ _. refl;
+  }
+
+-- and what is made of it
+module _ {listing : List ℕ} {space : ℕ} {before after : List ℕ} {r : Tried} (tried : TriedBy listing space before after r) where
+  pub was-listed : {bytes : ℕ} → r ≡ Tried.Listed bytes → Printed listing before after bytes
+  was-listed {bytes} e = tried .listed bytes e
+
+  pub then-listed : {last : List ℕ} {bytes : ℕ} → r ≡ Tried.TooLarge → Printed listing after last bytes → Printed listing before last bytes
+  then-listed e p = rw (tried .kept e) at p
+
+  pub never-large : {bytes : ℕ} → space ≡ 6144 → r ≡ Tried.TooLarge → Printed listing before after bytes
+  never-large s e = absurd (omega (arith, tried .more e))

@@ -1,5 +1,5 @@
 use Rattle.sheet.proofs.lines.LayoutTests.{limited}
-use Rattle.sheet.proofs.plan.Parsing.{sheet-unread, sheet-large, sheet-counted}
+use Rattle.sheet.proofs.tables.Parsing.{sheet-unread, sheet-large, sheet-counted}
 use borrow.Author.Needs.{needs}
 use Rattle.sheet.proofs.plan_sheet.Statement.{statement}
 use Rattle.sheet.proofs.plan_sheet.Tie as tie

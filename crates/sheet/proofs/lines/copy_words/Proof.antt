@@ -9,7 +9,7 @@ abbrev Inv-loop : tie.InvT-loop
 Inv-loop from out₀ w₀ out w = Overlaid (wordIn from) w out₀ out
 
 abbrev μ-loop : tie.MeasureT-loop
-μ-loop from out₀ w₀ out w = 320 - w
+μ-loop from out₀ w₀ out w = 80 - w
 
 pub copy-words-spec : {M : Type 1} → statement M
 copy-words-spec =

@@ -1,4 +1,4 @@
-use Rattle.sheet.proofs.plan.PlanListing.{entries-held, operation-listed}
+use Rattle.sheet.proofs.plan.PlanListing.{was-listed, never-large}
 use borrow.Author.Needs.{needs}
 use Rattle.sheet.proofs.plan.plan_large.Statement.{statement}
 use Rattle.sheet.proofs.plan.plan_large.Tie as tie
@@ -10,8 +10,9 @@ plan-large-spec =
     (λ c κs. search needs)
     (λ c. search needs)
     (λ c κs. search needs)
-    (λ c κs. search needs)
     (λ c. search needs)
-    (λ c κs. search (entries-held, needs))
     (λ c. search needs)
-    (λ c. search (operation-listed, needs)))
+    (λ c. search needs)
+    (λ c. search (was-listed, needs))
+    (λ c. search needs)
+    (λ c. search (never-large, needs)))

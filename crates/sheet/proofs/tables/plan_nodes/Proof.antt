@@ -1,7 +1,7 @@
-use Rattle.sheet.proofs.plan.Parsing.{laid-broken, nodes-fail, nodes-read, few-inside, prefix-long, told-space}
+use Rattle.sheet.proofs.tables.Parsing.{laid-broken, nodes-fail, nodes-read, space-inside, prefix-long, told-space}
 use borrow.Author.Needs.{needs}
-use Rattle.sheet.proofs.plan.plan_nodes.Statement.{statement}
-use Rattle.sheet.proofs.plan.plan_nodes.Tie as tie
+use Rattle.sheet.proofs.tables.plan_nodes.Statement.{statement}
+use Rattle.sheet.proofs.tables.plan_nodes.Tie as tie
 
 pub plan-nodes-spec : {M : Type 1} → statement M
 plan-nodes-spec =
@@ -20,8 +20,8 @@ plan-nodes-spec =
     (λ c κs. search needs)
     (λ c. search needs)
     (λ c. search (laid-broken, nodes-fail, needs))
-    (λ c. search needs)
-    (λ c. search (prefix-long, few-inside, needs))
-    (λ c κs. nodes-read (search needs) (c .before .before .before .before .read-lines .ensures) (search needs) (search (few-inside, needs)))
+    (λ c. search (space-inside, needs))
+    (λ c. search (prefix-long, space-inside, needs))
+    (λ c κs. nodes-read (search needs) (c .before .before .before .before .read-lines .ensures) (search needs) (search (space-inside, needs)))
     (λ c. search needs)
     (λ c. search needs))

@@ -4,7 +4,7 @@ use mathlib.Core.Bool.{Bool, true, false, cond, not, _&&_, and-false, false≢tr
 use mathlib.Core.List.{List, _++_}
 use mathlib.Core.Path.{_≡_, refl, sym, ap, _∙_}
 use native.Mathlib.Omega.{arith}
-use native.Mathlib.Nat.{div-one, mod-one}
+use native.Mathlib.Nat.{div-one, mod-one, mul-le-mul-right}
 use borrow.Author.Tests.{eq-eqb, ne-eqb, ltb-true, ltb-false, not-false}
 use lib.Dec.{eqb, ltb}
 use lib.ListN.{length, getD, take, drop, replicate, length-append, length-replicate, getD-replicate, List·getD-append}
@@ -20,7 +20,7 @@ use Rattle.sheet.specs.declared.operation.Operation.{Operation}
 use Rattle.sheet.specs.Lines.{numberAt, isLine, linesOk, numberLinesOk, wordAt, numberWord}
 use Rattle.sheet.specs.Sheet.{countsOf, withinLimits, namesPlace, stringsPlace, textPlace, endPlace, placesOf, operationOf, operationOk, markOk, marksOk, layoutOk, marksOf, sheetOf, unparsed, parsed, parse, parsedBy}
 use Rattle.sheet.specs.Listing.{operated, linesOf, linesBytes, listingOf, Printed}
-use Rattle.sheet.specs.Post.{Limited, Space, Filled, Read, LinesAsked, NodesAsked, NumbersAsked, nameWord, rowMark, rowMarkOk, NamesAsked, MarksAsked, Overlaid, MarksRead, countsIn, operationIn, refusalLine, laidListing, tablesLeft, Headed, NodesRead, TablesAsked, TablesRead, Tabled}
+use Rattle.sheet.specs.Post.{Limited, Space, Filled, Read, LinesAsked, NodesAsked, NumbersAsked, nameWord, rowMark, rowMarkOk, NamesAsked, MarksAsked, Overlaid, MarksRead, countsIn, operationIn, refusalLine, laidListing, scopeIn, namesOk, NamesHeld, NamesRead, Headed, FirstRead, NodesRead, ChildrenRead, NumbersRead, childrenLeft, TablesAsked, TablesRead, Tabled}
 use Rattle.sheet.proofs.lines.LineTests.{filled-first, word-in-line, nodes-split}
 use Rattle.sheet.proofs.lines.LayoutTests.{counts-read, operation-read}
 
@@ -116,21 +116,29 @@ module _ {sheet : List ℕ} {c : Counts} {o : Operation} (h : Headed sheet c o) 
       nodes-are = filled-first (read .filled (not-false n good)) room;
     }
 
-  -- the first 64
-  module _ (many : 64 < c .nodes) {first : List ℕ} {b : Bool} (read : Read (wordAt sheet 74 31 5) (64 * 5) (linesOk sheet 74 5 64) first b) where
+  -- the first 16
+  module _ (many : 16 < c .nodes) {first : List ℕ} {b : Bool} (read : Read (wordAt sheet 74 31 5) (16 * 5) (linesOk sheet 74 5 16) first b) where
     pub first-fail : not b ≡ true → false ≡ layoutOk sheet c
     first-fail t =
-        let n : 64 + (c .nodes - 64) ≡ c .nodes = omega arith in
-        rw (h .left, rw n at (nodes-split sheet (c .nodes - 64)), told-no (read .ok) t)
+        let n : 16 + (c .nodes - 16) ≡ c .nodes = omega arith in
+        rw (h .left, rw n at (nodes-split sheet (c .nodes - 16)), told-no (read .ok) t)
 
-    pub more-asked : not b ≡ false → (nodes : List ℕ) → length nodes ≡ 2560 → NodesAsked sheet (c .nodes) first nodes
-    more-asked good nodes long = record { many = many; few = few .nodes-few; room = long; good = told-yes (read .ok) good; held = read .filled (not-false b good) }
+    pub first-read : not b ≡ false → FirstRead sheet c o first
+    first-read good = record { headed = h; many = many; good = told-yes (read .ok) good; held = read .filled (not-false b good) }
 
-  pub nodes-inside : (array : List ℕ) → length array ≡ 2560 → c .nodes * 5 ≤ length array
-  nodes-inside array long = omega (arith, few)
+pub rest-read : {sheet : List ℕ} {c : Counts} {o : Operation} {first : List ℕ} → FirstRead sheet c o first → {nodes : List ℕ} {n : Bool} → Read (wordAt sheet 74 31 5) (c .nodes * 5) (linesOk sheet 74 5 (c .nodes)) nodes n
+    → not n ≡ false → c .nodes * 5 ≤ length nodes → NodesRead sheet c o (take (c .nodes * 5) nodes)
+rest-read f read good room = nodes-read (f .headed) read good room
 
-pub few-inside : (c : Counts) {most : ℕ} (array : List ℕ) → c .nodes ≤ most → length array ≡ most * 5 → c .nodes * 5 ≤ length array
-few-inside c array le long = omega arith
+pub rest-asked : {sheet : List ℕ} {c : Counts} {o : Operation} {first : List ℕ} → FirstRead sheet c o first → (nodes : List ℕ) → c .nodes * 5 ≤ length nodes → NodesAsked sheet (c .nodes) first nodes
+rest-asked f nodes room = record { many = f .many; few = f .headed .sized .limited .nodes-few; room = room; good = f .good; held = f .held }
+
+-- space that suffices for a table
+pub space-inside : (n most per : ℕ) (array : List ℕ) → n ≤ most → length array ≡ most * per → n * per ≤ length array
+space-inside n most per array le long = let m = mul-le-mul-right per le in omega arith
+
+pub kept-inside : {n : ℕ} (before after : List ℕ) → length after ≡ length before → n ≤ length before → n ≤ length after
+kept-inside before after kept le = omega arith
 
 pub prefix-long : (n : ℕ) (array : List ℕ) → n ≤ length array → n ≡ length (take n array)
 prefix-long n array le = sym (length-take-le n array le)
@@ -196,63 +204,125 @@ marks-all f count few {marks} m = ext-getD 0 marks (first ++ rest) long each
     each : (k : ℕ) → k < length marks → getD marks k 0 ≡ getD (first ++ rest) k 0
     each k lt = at-k k (omega (arith, m .long, length-replicate {A = ℕ} 128 0)) (ltb k count) refl
 
--- the tables after the nodes
-module _ {c : Counts} {children numbers names : List ℕ} (asked : TablesAsked c children numbers names) {p : Places} (is : p ≡ placesOf c) where
-  pub children-asked : LinesAsked (p .children) 1 (c .children) children
-  children-asked = rw is (record { lines = record { below = omega (arith, asked) }; few = omega arith; room = omega (arith, asked) })
+-- the lines of names
+module _ {at count : ℕ} {names : List ℕ} (asked : LinesAsked at 3 count names) (few : count ≤ 128) {rows : List ℕ} (long : length rows ≡ length names) where
+  pub marks-asked : (marks : List ℕ) → length marks ≡ 128 → MarksAsked rows count marks
+  marks-asked marks long-2 = record { few = few; there = omega (arith, asked .room); room = omega arith }
 
-  pub numbers-asked : NumbersAsked (p .numbers) (c .numbers) numbers
-  numbers-asked = rw is (record { lines = record { below = omega (arith, asked) }; room = asked .numbers-room })
+  pub words-asked : NamesAsked rows count
+  words-asked = record { few = few; there = omega (arith, asked .room) }
 
-  pub rows-asked : LinesAsked (p .names) 3 (c .names) names
-  rows-asked = rw is (record { lines = record { below = omega (arith, asked) }; few = omega arith; room = asked .names-room })
+names-unread : {sheet : List ℕ} {at count : ℕ} (names before marks : List ℕ) → false ≡ namesOk sheet at count → NamesRead sheet at count names before marks false
+names-unread names before marks e = record { ok = e; held = λ t. absurd (false≢true t) }
 
-  module _ {rows : List ℕ} (long : length rows ≡ length names) where
-    pub marks-asked : (marks : List ℕ) → length marks ≡ 128 → MarksAsked rows (c .names) marks
-    marks-asked marks long-2 = record { few = asked .limited .names-few; there = omega (arith, asked); room = omega (arith, asked) }
+module _ (sheet : List ℕ) (at count : ℕ) {rows : List ℕ} {l : Bool} (read : Read (wordAt sheet at 19 3) (count * 3) (linesOk sheet at 3 count) rows l) where
+  pub rows-fail : (before marks : List ℕ) → not l ≡ true → NamesRead sheet at count rows before marks false
+  rows-fail before marks t = names-unread rows before marks (rw (told-no (read .ok) t))
 
-    pub names-asked : NamesAsked rows (c .names)
-    names-asked = record { few = asked .limited .names-few; there = omega (arith, asked) }
+  module _ (good : not l ≡ false) {before marks : List ℕ} {m : Bool} (read-2 : MarksRead rows count before marks m) where
+    rows-are : Filled (wordAt sheet at 19 3) (count * 3) rows
+    rows-are = read .filled (not-false l good)
 
-pub tables-unread : {sheet : List ℕ} {c : Counts} (children numbers names before marks : List ℕ) → false ≡ tablesLeft sheet c → TablesRead sheet c children numbers names before marks false
+    marks-say : m ≡ marksOk sheet at count
+    marks-say = read-2 .ok ∙ marks-tested sheet at count rows-are
+
+    pub marks-fail : not m ≡ true → NamesRead sheet at count rows before marks false
+    marks-fail t = names-unread rows before marks (rw (told-yes (read .ok) good, told-no marks-say t))
+
+    pub names-read : not m ≡ false → {names : List ℕ} → Filled (nameWord rows) (count * 2) names → NamesRead sheet at count names before marks true
+    names-read t words = record {
+      ok = rw (told-yes (read .ok) good, told-yes marks-say t);
+      held = λ _. record {
+        words = names-words sheet at count rows-are words;
+        marked = marks-words sheet at count rows-are (read-2 .marked (not-false m t));
+      };
+    }
+
+pub names-room : (count : ℕ) (rows : List ℕ) → count * 3 ≤ length rows → count * 2 ≤ length rows
+names-room count rows room = omega arith
+
+-- the tables after the nodes, one after the other
+module _ {c : Counts} (few : Limited c) {p : Places} (is : p ≡ placesOf c) where
+  pub children-asked : (children : List ℕ) → c .children ≤ length children → LinesAsked (p .children) 1 (c .children) children
+  children-asked children room = rw is (record { lines = record { below = omega (arith, few) }; few = omega arith; room = omega arith })
+
+  pub numbers-asked : (numbers : List ℕ) → c .numbers * 2 ≤ length numbers → NumbersAsked (p .numbers) (c .numbers) numbers
+  numbers-asked numbers room = rw is (record { lines = record { below = omega (arith, few) }; room = room })
+
+  pub names-asked : (names : List ℕ) → c .names * 3 ≤ length names → LinesAsked (p .names) 3 (c .names) names
+  names-asked names room = rw is (record { lines = record { below = omega (arith, few) }; few = omega arith; room = room })
+
+module _ {sheet : List ℕ} {c : Counts} {o : Operation} {nodes : List ℕ} (h : NodesRead sheet c o nodes) {p : Places} (is : p ≡ placesOf c)
+    {children : List ℕ} {k : Bool} (read : Read (wordAt sheet (p .children) 7 1) (c .children * 1) (linesOk sheet (p .children) 1 (c .children)) children k) where
+  pub children-fail : not k ≡ true → false ≡ layoutOk sheet c
+  children-fail t = rw (h .left, told-no (rw is at (read .ok)) t)
+
+  pub children-read : not k ≡ false → c .children ≤ length children → ChildrenRead sheet c o nodes (take (c .children) children)
+  children-read good room =
+      let e : c .children * 1 ≡ c .children = omega arith in
+      record {
+        sized = h .sized;
+        left = h .left ∙ rw (told-yes (rw is at (read .ok)) good);
+        nodes-are = h .nodes-are;
+        children-are = filled-first (rw (is, e) at (read .filled (not-false k good))) room;
+      }
+
+module _ {sheet : List ℕ} {c : Counts} {o : Operation} {nodes children : List ℕ} (h : ChildrenRead sheet c o nodes children) {p : Places} (is : p ≡ placesOf c)
+    {numbers : List ℕ} {n : Bool} (read : Read (numberWord sheet (p .numbers)) (c .numbers * 2) (numberLinesOk sheet (p .numbers) (c .numbers)) numbers n) where
+  pub numbers-fail : not n ≡ true → false ≡ layoutOk sheet c
+  numbers-fail t = rw (h .left, told-no (rw is at (read .ok)) t)
+
+  pub numbers-read : not n ≡ false → c .numbers * 2 ≤ length numbers → NumbersRead sheet c o nodes children (take (c .numbers * 2) numbers)
+  numbers-read good room = record {
+    sized = h .sized;
+    left = h .left ∙ rw (told-yes (rw is at (read .ok)) good);
+    nodes-are = h .nodes-are;
+    children-are = h .children-are;
+    numbers-are = filled-first (rw is at (read .filled (not-false n good))) room;
+  }
+
+module _ {sheet : List ℕ} {c : Counts} {o : Operation} {nodes children numbers : List ℕ} (h : NumbersRead sheet c o nodes children numbers) {p : Places} (is : p ≡ placesOf c)
+    {names marks : List ℕ} {r : Bool} (read : NamesRead sheet (p .names) (c .names) names (replicate 128 0) marks r) where
+  pub names-fail : not r ≡ true → false ≡ layoutOk sheet c
+  names-fail t = rw (h .left, told-no (rw is at (read .ok)) t)
+
+  pub tabled : not r ≡ false → c .names * 2 ≤ length names → Tabled sheet c o nodes children numbers (take (c .names * 2) names) marks
+  tabled t room =
+      let held : NamesHeld sheet (namesPlace c) (c .names) names (replicate 128 0) marks = rw is at (read .held (not-false r t)) in
+      record {
+        sized = h .sized;
+        layout = h .left ∙ told-yes (rw is at (read .ok)) t;
+        nodes-are = h .nodes-are;
+        children-are = h .children-are;
+        numbers-are = h .numbers-are;
+        names-are = filled-first (held .words) room;
+        marks-are = marks-all (wordAt sheet (namesPlace c + 12) 19 1) (c .names) (h .sized .limited .names-few) (held .marked);
+      }
+
+-- all tables after the nodes at once
+pub tables-unread : {sheet : List ℕ} {c : Counts} (children numbers names before marks : List ℕ) → false ≡ childrenLeft sheet c → TablesRead sheet c children numbers names before marks false
 tables-unread children numbers names before marks e = record { ok = e; held = λ t. absurd (false≢true t) }
 
 module _ (sheet : List ℕ) (c : Counts) {p : Places} (is : p ≡ placesOf c) {children : List ℕ} {k : Bool} (read : Read (wordAt sheet (p .children) 7 1) (c .children * 1) (linesOk sheet (p .children) 1 (c .children)) children k) where
-  pub children-fail : not k ≡ true → false ≡ tablesLeft sheet c
-  children-fail t = rw (told-no (rw is at (read .ok)) t)
+  pub no-children : not k ≡ true → false ≡ childrenLeft sheet c
+  no-children t = rw (told-no (rw is at (read .ok)) t)
 
   module _ (good : not k ≡ false) {numbers : List ℕ} {n : Bool} (read-2 : Read (numberWord sheet (p .numbers)) (c .numbers * 2) (numberLinesOk sheet (p .numbers) (c .numbers)) numbers n) where
-    pub numbers-fail : not n ≡ true → false ≡ tablesLeft sheet c
-    numbers-fail t = rw (told-yes (rw is at (read .ok)) good, told-no (rw is at (read-2 .ok)) t)
+    pub no-numbers : not n ≡ true → false ≡ childrenLeft sheet c
+    no-numbers t = rw (told-yes (rw is at (read .ok)) good, told-no (rw is at (read-2 .ok)) t)
 
-    module _ (good-2 : not n ≡ false) {rows : List ℕ} {l : Bool} (read-3 : Read (wordAt sheet (p .names) 19 3) (c .names * 3) (linesOk sheet (p .names) 3 (c .names)) rows l) where
-      pub rows-fail : not l ≡ true → false ≡ tablesLeft sheet c
-      rows-fail t = rw (told-yes (rw is at (read .ok)) good, told-yes (rw is at (read-2 .ok)) good-2, told-no (rw is at (read-3 .ok)) t)
+    pub tables-read : not n ≡ false → {names before marks : List ℕ} {r : Bool} → NamesRead sheet (p .names) (c .names) names before marks r → TablesRead sheet c children numbers names before marks r
+    tables-read good-2 read-3 =
+        let e : c .children * 1 ≡ c .children = omega arith in
+        record {
+          ok = rw (told-yes (rw is at (read .ok)) good, told-yes (rw is at (read-2 .ok)) good-2) (rw is at (read-3 .ok));
+          held = λ t. record {
+            children-filled = rw (is, e) at (read .filled (not-false k good));
+            numbers-filled = rw is at (read-2 .filled (not-false n good-2));
+            names-held = rw is at (read-3 .held t);
+          };
+        }
 
-      module _ (good-3 : not l ≡ false) {before marks : List ℕ} {m : Bool} (read-4 : MarksRead rows (c .names) before marks m) where
-        rows-are : Filled (wordAt sheet (namesPlace c) 19 3) (c .names * 3) rows
-        rows-are = rw is at (read-3 .filled (not-false l good-3))
-
-        marks-say : m ≡ marksOk sheet (namesPlace c) (c .names)
-        marks-say = read-4 .ok ∙ marks-tested sheet (namesPlace c) (c .names) rows-are
-
-        pub marks-fail : not m ≡ true → false ≡ tablesLeft sheet c
-        marks-fail t = rw (told-yes (rw is at (read .ok)) good, told-yes (rw is at (read-2 .ok)) good-2, told-yes (rw is at (read-3 .ok)) good-3, told-no marks-say t)
-
-        pub tables-read : not m ≡ false → {names : List ℕ} → Filled (nameWord rows) (c .names * 2) names → TablesRead sheet c children numbers names before marks true
-        tables-read t {names} words =
-            let e : c .children * 1 ≡ c .children = omega arith in
-            record {
-              ok = rw (told-yes (rw is at (read .ok)) good, told-yes (rw is at (read-2 .ok)) good-2, told-yes (rw is at (read-3 .ok)) good-3, told-yes marks-say t);
-              held = λ _. record {
-                children-filled = rw (is, e) at (read .filled (not-false k good));
-                numbers-filled = rw is at (read-2 .filled (not-false n good-2));
-                names-filled = names-words sheet (namesPlace c) (c .names) rows-are words;
-                marked = marks-words sheet (namesPlace c) (c .names) rows-are (read-4 .marked (not-false m t));
-              };
-            }
-
--- and their space
 pub space-asked : {c : Counts} → Limited c → {k m x : ℕ} → Space c k m x → (children numbers names : List ℕ) → length children ≡ k → length numbers ≡ m * 2 → length names ≡ x * 3 → TablesAsked c children numbers names
 space-asked limits s children numbers names e f g =
     record { limited = limits; children-room = omega (arith, s); numbers-room = omega (arith, s); names-room = omega (arith, s) }
@@ -274,9 +344,9 @@ module _ {sheet : List ℕ} {c : Counts} {o : Operation} {nodes : List ℕ} (h :
   pub tables-fail : not r ≡ true → false ≡ layoutOk sheet c
   tables-fail t = rw (h .left, told-no (read .ok) t)
 
-  pub tabled : not r ≡ false → c .children ≤ length children → c .numbers * 2 ≤ length numbers → c .names * 2 ≤ length names
+  pub all-tabled : not r ≡ false → c .children ≤ length children → c .numbers * 2 ≤ length numbers → c .names * 2 ≤ length names
       → Tabled sheet c o nodes (take (c .children) children) (take (c .numbers * 2) numbers) (take (c .names * 2) names) marks
-  tabled t k m x =
+  all-tabled t k m x =
       let held = read .held (not-false r t) in
       record {
         sized = h .sized;
@@ -284,8 +354,8 @@ module _ {sheet : List ℕ} {c : Counts} {o : Operation} {nodes : List ℕ} (h :
         nodes-are = h .nodes-are;
         children-are = filled-first (held .children-filled) k;
         numbers-are = filled-first (held .numbers-filled) m;
-        names-are = filled-first (held .names-filled) x;
-        marks-are = marks-all (wordAt sheet (namesPlace c + 12) 19 1) (c .names) (h .sized .limited .names-few) (held .marked);
+        names-are = filled-first (held .names-held .words) x;
+        marks-are = marks-all (wordAt sheet (namesPlace c + 12) 19 1) (c .names) (h .sized .limited .names-few) (held .names-held .marked);
       }
 
 -- the strings, the text and the scope
@@ -303,7 +373,7 @@ module _ {sheet : List ℕ} {c : Counts} {o : Operation} {nodes children numbers
   end-inside = rw is (omega (arith, t .sized .size))
 
   pub tables-listed : {before after : List ℕ} {r : ℕ}
-      → Printed (linesBytes (linesOf (operated o (tables nodes children numbers names (take (p .text - p .strings) (drop (p .strings) sheet)) (take (p .end - p .text) (drop (p .text) sheet))) (record { marks = marks; underscore = 0; scheduler = eqb (o .scheduler) 1 })))) before after r
+      → Printed (linesBytes (linesOf (operated o (tables nodes children numbers names (take (p .text - p .strings) (drop (p .strings) sheet)) (take (p .end - p .text) (drop (p .text) sheet))) (scopeIn o marks)))) before after r
       → Printed (laidListing sheet c) before after r
   tables-listed e =
       let strings : textPlace c - stringsPlace c ≡ c .strings = omega arith in

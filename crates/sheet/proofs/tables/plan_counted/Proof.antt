@@ -1,7 +1,7 @@
-use Rattle.sheet.proofs.plan.Parsing.{laid-broken, length-differs, line-2-fails, operation-fails, headed}
+use Rattle.sheet.proofs.tables.Parsing.{laid-broken, length-differs, line-2-fails, operation-fails, headed}
 use borrow.Author.Needs.{needs}
-use Rattle.sheet.proofs.plan.plan_counted.Statement.{statement}
-use Rattle.sheet.proofs.plan.plan_counted.Tie as tie
+use Rattle.sheet.proofs.tables.plan_counted.Statement.{statement}
+use Rattle.sheet.proofs.tables.plan_counted.Tie as tie
 
 pub plan-counted-spec : {M : Type 1} → statement M
 plan-counted-spec =

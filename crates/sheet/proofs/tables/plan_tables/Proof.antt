@@ -1,7 +1,7 @@
-use Rattle.sheet.proofs.plan.Parsing.{strings-before, text-before, text-inside, end-inside, tables-listed}
+use Rattle.sheet.proofs.tables.Parsing.{strings-before, text-before, text-inside, end-inside, tables-listed}
 use borrow.Author.Needs.{needs}
-use Rattle.sheet.proofs.plan.plan_tables.Statement.{statement}
-use Rattle.sheet.proofs.plan.plan_tables.Tie as tie
+use Rattle.sheet.proofs.tables.plan_tables.Statement.{statement}
+use Rattle.sheet.proofs.tables.plan_tables.Tie as tie
 
 pub plan-tables-spec : {M : Type 1} → statement M
 plan-tables-spec =

@@ -1,0 +1,17 @@
+use Rattle.sheet.proofs.tables.Parsing.{space-inside}
+use borrow.Author.Needs.{needs}
+use Rattle.sheet.proofs.tables.plan_names.Statement.{statement}
+use Rattle.sheet.proofs.tables.plan_names.Tie as tie
+
+pub plan-names-spec : {M : Type 1} → statement M
+plan-names-spec =
+    tie.close
+    (tie.spec
+    (λ c. search needs)
+    (λ c κs. (search needs, search (space-inside, needs)))
+    (λ c. search needs)
+    (λ c. search needs)
+    (λ c. search needs)
+    (λ c κs. (search needs, search (space-inside, needs)))
+    (λ c. search needs)
+    (λ c. search needs))
