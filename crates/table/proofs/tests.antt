@@ -3,6 +3,6 @@ pub mod Bools
 pub mod Scan
 pub mod Fresh
 pub mod Bytes
-pub mod Prints
 pub mod Clauses
+pub mod NameOrder
 pub mod Answers

@@ -2,6 +2,7 @@ pub mod Tables
 pub mod Expr
 pub mod Decode
 pub mod Names
+pub mod NameOrder
 pub mod Rules
 pub mod Marks
 pub mod Depths

@@ -1,11 +1,8 @@
 -- Equality of bytes, and the names that are told by their bytes.
-use Prim.Native.Nat.{ℕ, _+_, _*_, _%_, _^_, _<_}
-use mathlib.Core.Path.{_≡_}
+use Prim.Native.Nat.{ℕ}
 use mathlib.Core.Bool.{Bool, true, false, cond, _||_}
 use mathlib.Core.List.{List, [], _∷_}
-use lib.ListN.{length, getD}
 use Rattle.literal.specs.Order.{Order, less, same, more, bytesOrder}
-use Rattle.table.specs.Tables.{nameBytes}
 use Rattle.table.specs.declared.NameClass.{NameClass}
 use Rattle.table.specs.declared.NameClass.the-variants.{Underscore, InputOrData, Ordinary}
 
@@ -31,15 +28,3 @@ dataBytes = 100 ∷ 97 ∷ 116 ∷ 97 ∷ []
 
 unfoldable pub classOf : List ℕ → NameClass
 classOf bs = cond (sameBytes bs underscoreBytes) Underscore (cond (sameBytes bs inputBytes || sameBytes bs dataBytes) InputOrData Ordinary)
-
--- A number of the bytes, which few others share: so that most names are told apart by one comparison.
-unfoldable pub printed : ℕ → List ℕ → ℕ
-printed print [] = print
-printed print (b ∷ bs) = printed (print % 2 ^ 32 * 16777619 + b) bs
-
-unfoldable pub fingerprintOf : List ℕ → ℕ
-fingerprintOf bs = printed (length bs) bs
-
--- the fingerprints of the first k names
-pub record Printed (names text prints : List ℕ) (k : ℕ) : Type 0 where
-  pub each : (j : ℕ) → j < k → getD prints j 0 ≡ fingerprintOf (nameBytes names text (j + 1))

@@ -1,67 +1,64 @@
 // That the names' bytes tell names apart.
 use crate::reading::name_bytes;
-use crate::reading::same_bytes;
+use literal::Comparison;
+use literal::order::compare_bytes;
 use literal::order::wide;
 ghost use mathlib.Core.Path.{_≡_};
 ghost use mathlib.Core.List.{[]};
-ghost use Prim.Native.Nat.{_+_, _/_, _<_, _≤_};
+ghost use Prim.Native.Nat.{_/_, _<_, _≤_};
 ghost use lib.ListN.{length};
 ghost use Rattle.table.specs.Tables.{tables, nameBytes};
-ghost use Rattle.table.specs.Names.{sameBytes, fingerprintOf, Printed};
-ghost use Rattle.table.specs.Rules.{newNameAt, namesDiffer};
+ghost use Rattle.table.specs.NameOrder.{Ascending, FoundName, Inserted};
+ghost use Rattle.table.specs.Rules.{namesDiffer};
 
-// A number of the bytes, which few others share.
-fn fingerprint(bytes: &[u8]) -> u64
-    ensures { λ r. ⌜ r ≡ fingerprintOf (now (bytes .entry)) ⌝ }
+// The place of bytes among `count` names in order, by binary search; 128 if a name has the same.
+fn find_name(names: &[u32], text: &[u8], order: &[u8; 128], count: usize, bytes: &[u8]) -> usize
+    requires { ⌜ Ascending (nameBytes (now names) (now text)) (now order) count × (count < 128) ⌝ }
+    ensures { λ r. ⌜ FoundName (nameBytes (now (names .entry)) (now (text .entry))) (now (bytes .entry)) (now (order .entry)) count r ⌝ }
 {
-    let mut print = bytes.len() as u64;
-    let mut i: usize = 0;
-    while i < bytes.len() {
-        print = (print % 4294967296) * 16777619 + wide(bytes[i]);
-        i += 1;
-    }
-    print
-}
-
-// Have names j + 1 and i + 1 the same bytes? Only where their fingerprints are the same.
-fn same_name(names: &[u32], text: &[u8], prints: &[u64; 128], j: usize, i: usize) -> bool
-    requires { ⌜ Printed (now names) (now text) (now prints) (i + 1) × (j < i) × (i < 128) ⌝ }
-    ensures { λ r. ⌜ r ≡ sameBytes (nameBytes (now (names .entry)) (now (text .entry)) (j + 1)) (nameBytes (now (names .entry)) (now (text .entry)) (i + 1)) ⌝ }
-{
-    if prints[j] != prints[i] {
-        return false;
-    }
-    let earlier = name_bytes(names, text, (j + 1) as u32);
-    same_bytes(earlier, name_bytes(names, text, (i + 1) as u32))
-}
-
-// Does name i + 1 differ from each before it?
-fn new_name(names: &[u32], text: &[u8], prints: &[u64; 128], i: usize) -> bool
-    requires { ⌜ Printed (now names) (now text) (now prints) (i + 1) × (i < 128) ⌝ }
-    ensures { λ r. ⌜ r ≡ newNameAt (tables [] [] [] (now (names .entry)) [] (now (text .entry))) i ⌝ }
-{
-    let mut j: usize = 0;
-    while j < i {
-        if same_name(names, text, prints, j, i) {
-            return false;
+    let mut low: usize = 0;
+    let mut high = count;
+    while low < high {
+        let middle = low + (high - low) / 2;
+        let other = name_bytes(names, text, wide(order[middle]) as u32);
+        match compare_bytes(bytes, other) {
+            Comparison::Less => high = middle,
+            Comparison::Greater => low = middle + 1,
+            Comparison::Equal => return 128,
+            Comparison::NoLiteral => return 128,
         }
-        j += 1;
     }
-    true
+    low
+}
+
+// Moves the numbers from `place` to `count` up by one, and puts `name` there.
+fn insert_name(order: &mut [u8; 128], count: usize, place: usize, name: u8)
+    requires { ⌜ (place ≤ count) × (count < 128) × (length (now order) ≡ 128) ⌝ }
+    ensures { λ _. ⌜ Inserted (now (order .entry)) count place name (now (order .exit)) ⌝ }
+{
+    let mut q = count;
+    while place < q {
+        let below = order[q - 1];
+        order[q] = below;
+        q -= 1;
+    }
+    order[place] = name;
 }
 
 pub(crate) fn names_differ(names: &[u32], text: &[u8]) -> bool
     requires { ⌜ length (now names) / 2 ≤ 128 ⌝ }
     ensures { λ r. ⌜ r ≡ namesDiffer (tables [] [] [] (now (names .entry)) [] (now (text .entry))) ⌝ }
 {
-    let mut prints = [0u64; 128];
+    let mut order = [0u8; 128];
     let total = names.len() / 2;
     let mut i: usize = 0;
     while i < total {
-        prints[i] = fingerprint(name_bytes(names, text, (i + 1) as u32));
-        if !new_name(names, text, &prints, i) {
+        let bytes = name_bytes(names, text, (i + 1) as u32);
+        let place = find_name(names, text, &order, i, bytes);
+        if 127 < place {
             return false;
         }
+        insert_name(&mut order, i, place, (i + 1) as u8);
         i += 1;
     }
     true

@@ -1,7 +1,7 @@
 -- Loops that test the numbers of a range in turn.
 use Prim.Native.Nat.{ℕ, zero, suc, _+_, _-_, _≤_, _<_}
-use mathlib.Core.Path.{_≡_, refl, sym, _∙_}
-use mathlib.Core.Bool.{Bool, true, false, not, _&&_}
+use mathlib.Core.Path.{_≡_, refl, sym, ap, _∙_}
+use mathlib.Core.Bool.{Bool, true, false, not, _&&_, false≢true}
 use native.Mathlib.Omega.{arith}
 use borrow.Author.Tests.{not-true, not-false}
 use Rattle.table.specs.Rules.{allFrom}
@@ -44,6 +44,22 @@ all-at p from (suc k) e zero lt = let a : from + 0 ≡ from = omega arith in rw 
 all-at p from (suc k) e (suc j) lt =
     let a : from + suc j ≡ from + 1 + j = omega arith in
     rw a (all-at p (from + 1) k (and-true (p from) (allFrom p (from + 1) k) e .1) j (omega arith))
+
+pub all-of : (p : ℕ → Bool) (from k : ℕ) → ((j : ℕ) → j < k → p (from + j) ≡ true) → allFrom p from k ≡ true
+unfolding allFrom
+all-of p from zero each = refl
+all-of p from (suc k) each =
+    let here : from + 0 ≡ from = omega arith in
+    rw (rw here at (each 0 (omega arith)))
+    (all-of p (from + 1) k (λ j lt. let e : from + 1 + j ≡ from + suc j = omega arith in ap p e ∙ each (suc j) (omega arith)))
+
+-- a number at which the test fails
+pub all-not : (p : ℕ → Bool) (k j : ℕ) → j < k → p j ≡ false → allFrom p 0 k ≡ false
+all-not p k j lt no-here = go (allFrom p 0 k) refl
+  where
+    go : (b : Bool) → allFrom p 0 k ≡ b → allFrom p 0 k ≡ false
+    go true e = let z : 0 + j ≡ j = omega arith in absurd (false≢true (sym no-here ∙ (rw z at (all-at p 0 k e j lt))))
+    go false e = e
 
 -- a range from 0, tested by a callee
 module _ {p : ℕ → Bool} {k i : ℕ} {r : Bool} (s : Scan p 0 k i) (lt : i < k) (is : r ≡ p i) where

@@ -1,15 +1,15 @@
-use Rattle.table.proofs.tests.Prints.{Naming, naming-start, naming-on, printed-on}
-use Rattle.table.proofs.tests.Clauses.{names-fail, names-end}
+use Rattle.table.proofs.tests.NameOrder.{Naming, naming-start, naming-fails, naming-room, naming-on}
+use Rattle.table.proofs.tests.Clauses.{names-end}
 use Prim.Native.Nat.{_-_}
 use borrow.Author.Needs.{needs}
 use Rattle.table.proofs.names.names_differ.Statement.{statement}
 use Rattle.table.proofs.names.names_differ.Tie as tie
 
 abbrev Inv-loop : tie.InvT-loop
-Inv-loop names text prints₀ total i₀ prints i = Naming names text prints i
+Inv-loop names text order₀ total i₀ order i = Naming names text order i
 
 abbrev μ-loop : tie.MeasureT-loop
-μ-loop names text prints₀ total i₀ prints i = total - i
+μ-loop names text order₀ total i₀ order i = total - i
 
 pub names-differ-spec : {M : Type 1} → statement M
 names-differ-spec =
@@ -22,10 +22,10 @@ names-differ-spec =
     (λ c. search needs)
     (λ c κs. search needs)
     (λ c κs. search needs)
+    (λ c. search (naming-fails, needs))
     (λ c. search needs)
     (λ c. search needs)
-    (λ c κs. (search (printed-on, needs), search needs))
-    (λ c. search (names-fail, needs))
+    (λ c κs. (search (naming-room, needs), search needs, search needs))
     (λ c. search needs)
     (λ c. search needs)
     (λ c. search (naming-on, needs))
