@@ -70,7 +70,7 @@ in-bounds below size inside s n e = go (inside && isNumber below size) refl e
         omega arith
     go false h f = never (cc)
 
-small-number : (numbers strings text : List ℕ) (l : LiteralRef) (s : Bool) (n : ℕ) → literalOf numbers strings text l ≡ some (number s n) → n ≤ 2 ^ 63
+pub small-number : (numbers strings text : List ℕ) (l : LiteralRef) (s : Bool) (n : ℕ) → literalOf numbers strings text l ≡ some (number s n) → n ≤ 2 ^ 63
 unfolding literalOf
 small-number numbers strings text Null s n e = never (cc)
 small-number numbers strings text False s n e = never (cc)

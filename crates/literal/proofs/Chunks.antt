@@ -10,10 +10,10 @@ use borrow.Author.Tests.{eqb-true, ltb-true, ltb-false, not-false}
 use lib.Dec.{eqb, ltb}
 use lib.ListN.{length, getD, drop, drop-of-length-le}
 use lib.Seq.{drop-cons}
-use Rattle.literal.specs.Order.{Order, less, same, more, then, natOrder, bytesOrder, told}
+use Rattle.literal.specs.Order.{Order, then, natOrder, bytesOrder, told}
 use Rattle.literal.specs.Chunks.{Prefix, sameFrom, said, Said}
 use Rattle.literal.specs.declared.Comparison.{Comparison}
-use Rattle.literal.proofs.Orders.{three-ways, nat-less, nat-same, nat-more}
+use Rattle.literal.proofs.Orders.{three-ways, nat-less, nat-same, nat-more, nat-like, nat-pairs, then-assoc}
 
 -- one byte of both
 front : (a b : List ℕ) (i : ℕ) → i < length a → i < length b
@@ -63,25 +63,12 @@ prefix-same {a} {b} {at} (suc k) p h l e =
 pub chunk-on : {a b : List ℕ} {i shorter : ℕ} {r : Bool} → Prefix a b i → shorter ≡ min (length a) (length b) → 64 ≤ shorter - i → r ≡ sameFrom a b i 64 → not r ≡ false → Prefix a b (i + 64)
 chunk-on {a} {b} {i} {r = r} p s le is t = prefix-same 64 p (omega arith) (omega arith) (sym is ∙ not-false r t)
 
--- words
-then-assoc : (o p q : Order) → then (then o p) q ≡ then o (then p q)
-then-assoc less p q = refl
-then-assoc same p q = refl
-then-assoc more p q = refl
-
--- a number of two digits, the second below 256
+-- words: a number of two digits, the second below 256
 digit : (h g x y : ℕ) → x < 2 ^ 8 → y < 2 ^ 8 → natOrder (h * 256 + x) (g * 256 + y) ≡ then (natOrder h g) (natOrder x y)
-digit h g x y p q = high (three-ways h g)
-  where
-    low : h ≡ g → (x < y) ⊎ ((x ≡ y) ⊎ (y < x)) → natOrder (h * 256 + x) (g * 256 + y) ≡ natOrder x y
-    low e (inl lt) = nat-less (h * 256 + x) (g * 256 + y) (omega arith) ∙ sym (nat-less x y lt)
-    low e (inr (inl i)) = nat-same (h * 256 + x) (g * 256 + y) (omega arith) ∙ sym (nat-same x y i)
-    low e (inr (inr gt)) = nat-more (h * 256 + x) (g * 256 + y) (omega arith) ∙ sym (nat-more x y gt)
-
-    high : (h < g) ⊎ ((h ≡ g) ⊎ (g < h)) → natOrder (h * 256 + x) (g * 256 + y) ≡ then (natOrder h g) (natOrder x y)
-    high (inl lt) = nat-less (h * 256 + x) (g * 256 + y) (omega arith) ∙ sym (ap (λ (o : Order). then o (natOrder x y)) (nat-less h g lt))
-    high (inr (inl e)) = low e (three-ways x y) ∙ sym (ap (λ (o : Order). then o (natOrder x y)) (nat-same h g e))
-    high (inr (inr gt)) = nat-more (h * 256 + x) (g * 256 + y) (omega arith) ∙ sym (ap (λ (o : Order). then o (natOrder x y)) (nat-more h g gt))
+digit h g x y p q =
+    nat-pairs (h * 256 + x) (g * 256 + y) h g x y (λ lt. omega arith)
+    (λ e. nat-like (h * 256 + x) (g * 256 + y) x y (λ lt. omega arith) (λ i. omega arith) (λ gt. omega arith))
+    (λ gt. omega arith)
 
 -- the order of what k bytes say, and then of the rest
 said-order : (a b : List ℕ) (h g at k : ℕ) → at + k ≤ length a → at + k ≤ length b

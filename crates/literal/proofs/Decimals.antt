@@ -32,8 +32,12 @@ few-or-more n = go (ltb n 10) refl
 pub below-tenth : (k n : ℕ) → n < 10 ^ suc k → n / 10 < 10 ^ k
 below-tenth k n h = let m = rw (pow-suc 10 k) at h in omega arith
 
-below-one : (n : ℕ) → n < 10 ^ 0 → n ≡ 0
+pub below-one : (n : ℕ) → n < 10 ^ 0 → n ≡ 0
 below-one n h = let m = rw (pow-zero 10) at h in omega arith
+
+pub more-room : (k n : ℕ) → n < 10 ^ suc k → 10 ≤ n → 1 ≤ k
+more-room zero n h m = absurd (omega arith)
+more-room (suc k) n h m = omega arith
 
 -- how many
 pub length-more : (k n : ℕ) → 10 ≤ n → length (digits (suc k) n) ≡ length (digits k (n / 10)) + 1
@@ -48,7 +52,7 @@ digits-length (suc m) (suc k) n h =
     (λ more. omega (arith, length-more m n more, digits-length m k (n / 10) (below-tenth (suc k) n h)))
     (few-or-more n)
 
-some-digits : (k n : ℕ) → 0 < length (digits (suc k) n)
+pub some-digits : (k n : ℕ) → 0 < length (digits (suc k) n)
 some-digits k n =
     ⊎-elim (λ few. omega (arith, ap length (digits-one k n few))) (λ more. omega (arith, length-more k n more)) (few-or-more n)
 

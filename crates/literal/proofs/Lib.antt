@@ -6,4 +6,5 @@ pub mod Strings
 pub mod Chunks
 pub mod Texts
 pub mod Answers
+mod TextOrder
 mod Ranges

@@ -49,6 +49,23 @@ nat-same a b h = simp (le-ltb a b (omega arith), eq-eqb a b h)
 pub nat-more : (a b : ℕ) → b < a → natOrder a b ≡ more
 nat-more a b h = simp (le-ltb a b (omega arith), ne-eqb a b (λ e. omega arith))
 
+-- the order of two numbers is that of two others, or of two pairs
+pub nat-like : (a b x y : ℕ) → (x < y → a < b) → (x ≡ y → a ≡ b) → (y < x → b < a) → natOrder a b ≡ natOrder x y
+nat-like a b x y l s m = go (three-ways x y)
+  where
+    go : (x < y) ⊎ ((x ≡ y) ⊎ (y < x)) → natOrder a b ≡ natOrder x y
+    go (inl h) = nat-less a b (l h) ∙ sym (nat-less x y h)
+    go (inr (inl h)) = nat-same a b (s h) ∙ sym (nat-same x y h)
+    go (inr (inr h)) = nat-more a b (m h) ∙ sym (nat-more x y h)
+
+pub nat-pairs : (a b h g x y : ℕ) → (h < g → a < b) → (h ≡ g → natOrder a b ≡ natOrder x y) → (g < h → b < a) → natOrder a b ≡ then (natOrder h g) (natOrder x y)
+nat-pairs a b h g x y l s m = go (three-ways h g)
+  where
+    go : (h < g) ⊎ ((h ≡ g) ⊎ (g < h)) → natOrder a b ≡ then (natOrder h g) (natOrder x y)
+    go (inl lt) = nat-less a b (l lt) ∙ rw (nat-less h g lt)
+    go (inr (inl e)) = s e ∙ rw (nat-same h g e)
+    go (inr (inr gt)) = nat-more a b (m gt) ∙ rw (nat-more h g gt)
+
 nat-antisymmetric : (a b : ℕ) → natOrder b a ≡ opposite (natOrder a b)
 nat-antisymmetric a b = go (three-ways a b)
   where
@@ -77,6 +94,16 @@ nat-transitive : (a b c : ℕ) → natOrder a b ≡ less → natOrder b c ≡ le
 nat-transitive a b c h k = nat-less a c (omega (arith, less-nat a b h, less-nat b c k))
 
 -- one order after another
+pub then-assoc : (o p q : Order) → then (then o p) q ≡ then o (then p q)
+then-assoc less p q = refl
+then-assoc same p q = refl
+then-assoc more p q = refl
+
+pub then-end : (o : Order) → then o same ≡ o
+then-end less = refl
+then-end same = refl
+then-end more = refl
+
 then-same : (o p : Order) → then o p ≡ same → (o ≡ same) × (p ≡ same)
 then-same less p h = never (cc)
 then-same same p h = (refl, h)

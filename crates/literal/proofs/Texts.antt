@@ -13,7 +13,7 @@ use mir.Val.{Fits}
 use Rattle.literal.specs.Text.{digit, digits, decimal, signed}
 use Rattle.literal.specs.Written.{writeDigits, Written}
 use Rattle.literal.specs.declared.KeyText.{KeyText}
-use Rattle.literal.proofs.Decimals.{digits-one, digits-more, few-or-more, below-tenth, length-more}
+use Rattle.literal.proofs.Decimals.{digits-one, digits-more, few-or-more, below-tenth, more-room, length-more}
 
 -- Counting: what was counted, and the digits that are left.
 pub record Counting (size count rest : ℕ) : Type 0 where
@@ -24,10 +24,6 @@ pub record Counting (size count rest : ℕ) : Type 0 where
 
 pub counting-start : (size : ℕ) → Fits w64 size → Counting size 1 size
 counting-start size f = record { low = omega arith; high = omega arith; small = omega arith; same = omega arith }
-
-more-room : (k n : ℕ) → n < 10 ^ suc k → 10 ≤ n → 1 ≤ k
-more-room zero n h m = absurd (omega arith)
-more-room (suc k) n h m = omega arith
 
 module _ {size count rest : ℕ} (c : Counting size count rest) where
   pub counting-on : 9 < rest → Counting size (count + 1) (rest / 10)

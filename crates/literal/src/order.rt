@@ -11,7 +11,7 @@ ghost use Rattle.literal.specs.Order.{natOrder, numberOrder, bytesOrder,
 ghost use Rattle.literal.specs.Reading.{literalOf, bytesOf, stringAt};
 ghost use Rattle.literal.specs.Chunks.{Prefix, sameFrom, Said};
 
-fn compare_sizes(a: u64, b: u64) -> Comparison
+pub(crate) fn compare_sizes(a: u64, b: u64) -> Comparison
     ensures { λ r. ⌜ r ≡ told (natOrder a b) ⌝ }
 {
     if a < b {

@@ -2,16 +2,20 @@
 use super::Comparison;
 use super::KeyText;
 use super::LiteralRef;
+use super::key::Key;
 use super::key::key_of;
 use super::key::part;
 use super::order::compare_bytes;
+use super::order::compare_sizes;
 use super::order::compare_to_string;
 ghost use mathlib.Core.Path.{_≡_};
 ghost use Prim.Native.Nat.{_+_, _≤_};
+ghost use lib.Dec.{eqb};
 ghost use lib.ListN.{length};
 ghost use Rattle.literal.specs.Text.{decimal, signed, textCompared, textsCompared};
 ghost use Rattle.literal.specs.Reading.{literalOf, bytesOf, TextDone};
 ghost use Rattle.literal.specs.Written.{writeDigits, Written};
+ghost use Rattle.literal.specs.Key.{sameForm};
 
 // A part of whichever of the two holds the string; empty for every other reference.
 pub fn string_bytes<'a>(strings: &'a [u8], text: &'a [u8], l: LiteralRef) -> &'a [u8]
@@ -143,6 +147,34 @@ fn compare_string_text(
     }
 }
 
+fn same_digits(a: u64, b: u64) -> bool
+    ensures { λ r. ⌜ r ≡ eqb (length (decimal a)) (length (decimal b)) ⌝ }
+{
+    let mut x = a;
+    let mut y = b;
+    while 9 < x {
+        if y < 10 {
+            return false;
+        }
+        x = x / 10;
+        y = y / 10;
+    }
+    y < 10
+}
+
+// The same rank and sign, and sizes with equally many digits.
+fn same_form(x: Key, y: Key) -> bool
+    ensures { λ r. ⌜ r ≡ sameForm x y ⌝ }
+{
+    if x.rank != y.rank {
+        return false;
+    }
+    if x.below != y.below {
+        return false;
+    }
+    same_digits(x.size, y.size)
+}
+
 pub fn compare_key_texts(
     numbers: &[u64],
     strings: &[u8],
@@ -152,6 +184,14 @@ pub fn compare_key_texts(
 ) -> Comparison
     ensures { λ r. ⌜ r ≡ textsCompared (literalOf (now (numbers .entry)) (now (strings .entry)) (now (text .entry)) a) (literalOf (now (numbers .entry)) (now (strings .entry)) (now (text .entry)) b) ⌝ }
 {
+    let x = key_of(numbers, strings, text, a);
+    if x.rank == 3 {
+        let y = key_of(numbers, strings, text, b);
+        // Their texts are in the order of their sizes, below zero too.
+        if same_form(x, y) {
+            return compare_sizes(x.size, y.size);
+        }
+    }
     let mut out = [0u8; 20];
     match key_text(numbers, strings, text, a, &mut out) {
         KeyText::Lent => compare_string_text(numbers, strings, text, a, b),
