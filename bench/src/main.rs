@@ -2,16 +2,16 @@
 //!
 //!     bench time [--write]            medians, as a table; --write puts it into docs/PERFORMANCE.md
 //!     bench growth FILE               medians against size, as the data of bench/plot
-//!     bench drawn N                   the ratio over N drawn sheets
+//!     bench lowest N                  the lowest ratios among edges, N drawn sheets and N changed ones
 //!     bench count                     every job once, for callgrind
 //!     bench counted FOLDER [--write]  the table of what callgrind counted
 
 mod callgrind;
 mod counts;
-mod drawn;
 mod growth;
 mod inputs;
 mod jobs;
+mod lowest;
 mod report;
 mod times;
 
@@ -25,15 +25,15 @@ fn main() -> ExitCode {
         ["time"] => times::run(false),
         ["time", "--write"] => times::run(true),
         ["growth", file] => growth::run(Path::new(file)),
-        ["drawn", count] => match count.parse() {
-            Ok(count) if count > 0 => drawn::run(count),
+        ["lowest", count] => match count.parse() {
+            Ok(count) if count > 0 => lowest::run(count),
             _ => Err(format!("{count} is no number of sheets")),
         },
         ["count"] => counts::run(),
         ["counted", folder] => counts::report(Path::new(folder), false),
         ["counted", folder, "--write"] => counts::report(Path::new(folder), true),
         _ => {
-            eprintln!("usage: bench time [--write] | growth FILE | drawn N | count | counted FOLDER [--write]");
+            eprintln!("usage: bench time [--write] | growth FILE | lowest N | count | counted FOLDER [--write]");
             return ExitCode::from(2);
         }
     };

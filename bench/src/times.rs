@@ -55,6 +55,22 @@ pub fn medians(input: &Input, samples: usize) -> Result<[Option<f64>; 3], String
     Ok([medians.next(), medians.next(), medians.next()])
 }
 
+/// The Rust's time over ours: the median of samples taken side by side, each side first in turn, so
+/// that what slows the machine for a while slows both.
+pub fn side_by_side(input: &Input, samples: usize) -> Result<f64, String> {
+    let mut jobs = Jobs::new(input)?;
+    let sides = [Side::Ours, Side::Rust];
+    let repeats = sides.map(|side| repeats(&mut jobs, side));
+    let ratios = (0..samples).map(|turn| {
+        let mut times = [0.0; 2];
+        for place in [turn % 2, 1 - turn % 2] {
+            times[place] = sample(&mut jobs, sides[place], repeats[place]);
+        }
+        times[1] / times[0]
+    });
+    Ok(median(ratios.collect()))
+}
+
 /// Seconds of one run.
 fn sample(jobs: &mut Jobs, side: Side, repeats: u32) -> f64 {
     let start = Instant::now();

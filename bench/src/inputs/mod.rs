@@ -1,9 +1,11 @@
 //! The inputs: a kitchen, rules of limit size, refused sheets.
 
+mod edges;
 mod kitchen;
 mod refused;
 mod shapes;
 
+pub use edges::inputs as edges;
 pub use shapes::{shapes, Shape};
 
 pub struct Input {

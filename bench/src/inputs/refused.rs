@@ -1,6 +1,6 @@
 //! Sheets of limit size that are refused, early and late.
 
-use super::shapes::{array, equals, name, pattern};
+use super::shapes::{array, assigned, equals, name, pattern};
 use super::Input;
 use oracle::sheets::{encode, limits, Draft, Operation, Rule, Tree};
 
@@ -72,10 +72,6 @@ fn root_outside() -> Vec<u8> {
     let mut draft = names();
     draft.roots[0] = 502;
     draft.bytes()
-}
-
-fn assigned(left: Tree, right: Tree) -> Draft {
-    encode(&Rule::two_sided(Operation::ColonEquals, left, right))
 }
 
 /// Arrays of arrays that agree up to the last.

@@ -65,6 +65,10 @@ pub fn equals(left: Tree, right: Tree) -> Draft {
     encode(&Rule::two_sided(Operation::Equals, left, right))
 }
 
+pub fn assigned(left: Tree, right: Tree) -> Draft {
+    encode(&Rule::two_sided(Operation::ColonEquals, left, right))
+}
+
 pub fn array(size: usize, item: impl Fn(usize) -> Tree) -> Tree {
     Tree::Array((0..size).map(item).collect())
 }
@@ -195,7 +199,7 @@ fn colon_equals(size: usize) -> Draft {
     let right = |field| (long(shuffled(field + 7, size)), Tree::Number(field as i64));
     let sides = [(0..size).map(left).collect(), (0..size).map(right).collect()].map(Tree::Object);
     let [left, right] = sides;
-    encode(&Rule::two_sided(Operation::ColonEquals, left, right))
+    assigned(left, right)
 }
 
 /// A pattern of three fields held against each item.

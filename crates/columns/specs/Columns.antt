@@ -35,6 +35,10 @@ decimalNumber ds = cond (isDecimal ds) (Column.Number (value 0 ds)) Column.Unrea
 unfoldable pub readColumn : List ℕ → Column
 readColumn bytes = decimalNumber (afterBlanks bytes)
 
+-- the same of six bytes alone
+abbrev pub sixColumn : List ℕ → Column
+sixColumn bytes = cond (eqb (length bytes) 6) (readColumn bytes) Column.Unreadable
+
 -- the bytes of a column, if it is all there; no bytes are no number
 unfoldable pub columnBytes : List ℕ → ℕ → ℕ → List ℕ
 columnBytes bytes at width = cond (leb (at + width) (length bytes)) (part bytes at width) []

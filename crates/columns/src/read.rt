@@ -9,7 +9,7 @@ ghost use mathlib.Core.Path.{_≡_};
 ghost use mathlib.Core.List.{[], _∷_};
 ghost use Prim.Native.Nat.{_≤_};
 ghost use lib.ListN.{length};
-ghost use Rattle.columns.specs.Columns.{afterBlanks, readColumn, columnBytes, columnAt, signedColumnAt, signedNumber};
+ghost use Rattle.columns.specs.Columns.{afterBlanks, readColumn, sixColumn, columnBytes, columnAt, signedColumnAt, signedNumber};
 ghost use Rattle.columns.specs.Decimals.{areBlank, columnWord};
 
 // Empty for a column that is not all there.
@@ -65,21 +65,24 @@ fn read_six(bytes: &[u8]) -> u32
     }
 }
 
-fn column_word(a: u8, b: u8, c: u8, d: u8, e: u8, f: u8) -> u32
-    ensures { λ r. ⌜ r ≡ columnWord (readColumn (a ∷ b ∷ c ∷ d ∷ e ∷ f ∷ [])) ⌝ }
+fn column_word(bytes: &[u8]) -> u32
+    requires { ⌜ length (now bytes) ≡ 6 ⌝ }
+    ensures { λ r. ⌜ r ≡ columnWord (readColumn (now (bytes .entry))) ⌝ }
 {
-    if are_blank(a, b, c, d) {
-        return read_two(e, f);
+    if are_blank(bytes[0], bytes[1], bytes[2], bytes[3]) {
+        return read_two(bytes[4], bytes[5]);
     }
-    let bytes = [a, b, c, d, e, f];
-    read_six(&bytes)
+    read_six(bytes)
 }
 
-// The number that six bytes say.
-pub fn column_of(a: u8, b: u8, c: u8, d: u8, e: u8, f: u8) -> Column
-    ensures { λ r. ⌜ r ≡ readColumn (a ∷ b ∷ c ∷ d ∷ e ∷ f ∷ []) ⌝ }
+// The number that six bytes say; of more or fewer, none.
+pub fn column_of(bytes: &[u8]) -> Column
+    ensures { λ r. ⌜ r ≡ sixColumn (now (bytes .entry)) ⌝ }
 {
-    let word = column_word(a, b, c, d, e, f);
+    if bytes.len() != 6 {
+        return Column::Unreadable;
+    }
+    let word = column_word(bytes);
     if word < 1000000 {
         return Column::Number(word);
     }
@@ -96,14 +99,7 @@ pub fn read_column(bytes: &[u8], at: usize) -> Column
     if bytes.len() - 6 < at {
         return Column::Unreadable;
     }
-    column_of(
-        bytes[at],
-        bytes[at + 1],
-        bytes[at + 2],
-        bytes[at + 3],
-        bytes[at + 4],
-        bytes[at + 5],
-    )
+    column_of(&bytes[at..at + 6])
 }
 
 // The bytes after the blanks in front, as far as these are whole fours.

@@ -14,15 +14,7 @@ fn read_word(sheet: &[u8], at: usize, w: usize, out: &mut [u32]) -> bool
     requires { ⌜ (at + 6 ≤ length (now sheet)) × (w < length (now out)) ⌝ }
     ensures { λ r. ⌜ WordRead (now (sheet .entry)) at w (now (out .entry)) (now (out .exit)) r ⌝ }
 {
-    let column = column_of(
-        sheet[at],
-        sheet[at + 1],
-        sheet[at + 2],
-        sheet[at + 3],
-        sheet[at + 4],
-        sheet[at + 5],
-    );
-    match column {
+    match column_of(&sheet[at..at + 6]) {
         Column::Number(n) => {
             out[w] = n;
             true

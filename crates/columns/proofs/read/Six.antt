@@ -6,7 +6,8 @@ use mathlib.Core.Path.{_≡_, refl, sym, ap, _∙_}
 use native.Mathlib.Omega.{arith}
 use borrow.Author.Tests.{le-leb, lt-leb, leb-false, eq-eqb, ne-eqb, eqb-true, eqb-false, not-false}
 use lib.Dec.{eqb, leb}
-use lib.ListN.{length, getD, take, drop}
+use lib.ListN.{length, getD, take, drop, length-drop}
+use lib.Seq.{length-take-le}
 use mir.Syntax.{w8, w32}
 use mir.Val.{Fits}
 use Rattle.literal.specs.Text.{value}
@@ -15,9 +16,9 @@ use Rattle.columns.specs.declared.decimal.Decimal.{Decimal}
 use Rattle.columns.specs.declared.decimal.Decimal.the-variants.{Number, NoNumber}
 use Rattle.columns.specs.declared.Column.{Column}
 use Rattle.columns.specs.declared.Column.the-variants as Column
-use Rattle.columns.specs.Columns.{afterBlanks, isDigit, allDigits, isDecimal, decimalNumber, readColumn, columnBytes, columnAt}
+use Rattle.columns.specs.Columns.{afterBlanks, isDigit, allDigits, isDecimal, decimalNumber, readColumn, sixColumn, columnAt}
 use Rattle.columns.specs.Decimals.{readDecimal, areBlank, columnWord}
-use Rattle.columns.proofs.read.Reading.{Skipping, skip-on, drop-here, rest-whole, read-as, read-not, column-short, column-past, blanks-few, decimal-below}
+use Rattle.columns.proofs.read.Reading.{Skipping, skip-on, rest-whole, read-as, read-not, column-short, column-past, column-there, blanks-few, decimal-below}
 
 -- four blanks as one number
 module _ (a b c d : ℕ) where
@@ -137,46 +138,55 @@ module _ (bytes : List ℕ) {ds : List ℕ} {d : Decimal} (few : length bytes �
           absurd (omega (arith, leb-false (value 0 (afterBlanks bytes)) (2 ^ 63) missing))
       go false form missing = refl
 
--- four blanks, then two bytes
-pub column-two : (a b c d e f : ℕ) {t : Bool} {r : ℕ} → t ≡ areBlank a b c d → t ≡ true → r ≡ columnWord (readColumn (e ∷ f ∷ [])) → r ≡ columnWord (readColumn (a ∷ b ∷ c ∷ d ∷ e ∷ f ∷ []))
+-- six bytes, of which four are blanks
+six-bytes : (bytes : List ℕ) → length bytes ≡ 6 → bytes ≡ getD bytes 0 0 ∷ getD bytes 1 0 ∷ getD bytes 2 0 ∷ getD bytes 3 0 ∷ getD bytes 4 0 ∷ getD bytes 5 0 ∷ []
+six-bytes (a ∷ b ∷ c ∷ d ∷ e ∷ f ∷ []) long = refl
+six-bytes [] long = absurd (omega arith)
+six-bytes (a ∷ []) long = absurd (omega arith)
+six-bytes (a ∷ b ∷ []) long = absurd (omega arith)
+six-bytes (a ∷ b ∷ c ∷ []) long = absurd (omega arith)
+six-bytes (a ∷ b ∷ c ∷ d ∷ []) long = absurd (omega arith)
+six-bytes (a ∷ b ∷ c ∷ d ∷ e ∷ []) long = absurd (omega arith)
+six-bytes (a ∷ b ∷ c ∷ d ∷ e ∷ f ∷ g ∷ more) long = absurd (omega arith)
+
+pub column-two : (bytes : List ℕ) {t : Bool} {r : ℕ} → length bytes ≡ 6 → t ≡ areBlank (getD bytes 0 0) (getD bytes 1 0) (getD bytes 2 0) (getD bytes 3 0) → t ≡ true
+    → r ≡ columnWord (readColumn (getD bytes 4 0 ∷ getD bytes 5 0 ∷ [])) → r ≡ columnWord (readColumn bytes)
 unfolding readColumn afterBlanks
-column-two a b c d e f told blank read =
-    let all = blanks-all a b c d told blank in
-    rw (all .0, all .1, all .2, all .3) read
+column-two bytes long told blank read =
+    let all = blanks-all (getD bytes 0 0) (getD bytes 1 0) (getD bytes 2 0) (getD bytes 3 0) told blank in
+    let six : List ℕ = getD bytes 0 0 ∷ getD bytes 1 0 ∷ getD bytes 2 0 ∷ getD bytes 3 0 ∷ getD bytes 4 0 ∷ getD bytes 5 0 ∷ [] in
+    let e : columnWord (readColumn six) ≡ columnWord (readColumn (getD bytes 4 0 ∷ getD bytes 5 0 ∷ [])) = rw (all .0, all .1, all .2, all .3) refl in
+    read ∙ (sym e ∙ ap (λ (l : List ℕ). columnWord (readColumn l)) (sym (six-bytes bytes long)))
 
 -- the word of a column
-module _ (a b c d e f : ℕ) {word : ℕ} (is : word ≡ columnWord (readColumn (a ∷ b ∷ c ∷ d ∷ e ∷ f ∷ []))) where
-  six : Column
-  six = readColumn (a ∷ b ∷ c ∷ d ∷ e ∷ f ∷ [])
+column-below : (bytes : List ℕ) (n : ℕ) → length bytes ≤ 6 → readColumn bytes ≡ Column.Number n → n < 1000000
+unfolding readColumn
+column-below bytes n few e = go (isDecimal (afterBlanks bytes)) refl e
+  where
+    go : (b : Bool) → isDecimal (afterBlanks bytes) ≡ b → cond b (Column.Number (value 0 (afterBlanks bytes))) Column.Unreadable ≡ Column.Number n → n < 1000000
+    go true form f =
+        let same : value 0 (afterBlanks bytes) ≡ n = cc in
+        let b = decimal-below 6 (afterBlanks bytes) form (omega (arith, blanks-few bytes)) in
+        omega arith
+    go false form f = let z : _≡_ {A = ℕ} 0 1 = cc in absurd (omega arith)
 
-  six-below : (n : ℕ) → six ≡ Column.Number n → n < 1000000
-  unfolding six readColumn
-  six-below n said = go (isDecimal (afterBlanks (a ∷ b ∷ c ∷ d ∷ e ∷ f ∷ []))) refl said
+pub not-six : (bytes : List ℕ) → (length bytes ≡ 6 → ⊥) → Column.Unreadable ≡ sixColumn bytes
+not-six bytes h = simp (ne-eqb (length bytes) 6 h)
+
+module _ (bytes : List ℕ) (long : length bytes ≡ 6) {word : ℕ} (is : word ≡ columnWord (readColumn bytes)) where
+  pub word-number : word < 1000000 → Column.Number word ≡ sixColumn bytes
+  word-number lt = rw (eq-eqb (length bytes) 6 long) (go (readColumn bytes) is)
     where
-      ds : List ℕ
-      ds = afterBlanks (a ∷ b ∷ c ∷ d ∷ e ∷ f ∷ [])
+      go : (c : Column) → word ≡ columnWord c → Column.Number word ≡ c
+      go (Column.Number n) e = ap Column.Number e
+      go Column.Unreadable e = absurd (omega arith)
 
-      go : (form : Bool) → isDecimal ds ≡ form → cond form (Column.Number (value 0 ds)) Column.Unreadable ≡ Column.Number n → n < 1000000
-      go true form q =
-          let same : value 0 ds ≡ n = cc in
-          let below = decimal-below 6 ds form (omega (arith, blanks-few (a ∷ b ∷ c ∷ d ∷ e ∷ f ∷ []))) in
-          omega arith
-      go false form q = let z : _≡_ {A = ℕ} 0 1 = cc in absurd (omega arith)
-
-  pub word-number : word < 1000000 → Column.Number word ≡ readColumn (a ∷ b ∷ c ∷ d ∷ e ∷ f ∷ [])
-  word-number lt = go (readColumn (a ∷ b ∷ c ∷ d ∷ e ∷ f ∷ [])) is
+  pub word-none : 1000000 ≤ word → Column.Unreadable ≡ sixColumn bytes
+  word-none le = rw (eq-eqb (length bytes) 6 long) (go (readColumn bytes) is refl)
     where
-      go : (column : Column) → word ≡ columnWord column → Column.Number word ≡ column
-      go (Column.Number n) p = ap Column.Number p
-      go Column.Unreadable p = absurd (omega arith)
-
-  pub word-none : 1000000 ≤ word → Column.Unreadable ≡ readColumn (a ∷ b ∷ c ∷ d ∷ e ∷ f ∷ [])
-  unfolding six
-  word-none le = go (readColumn (a ∷ b ∷ c ∷ d ∷ e ∷ f ∷ [])) is refl
-    where
-      go : (column : Column) → word ≡ columnWord column → six ≡ column → Column.Unreadable ≡ column
-      go (Column.Number n) p q = absurd (omega (arith, six-below n q))
-      go Column.Unreadable p q = refl
+      go : (c : Column) → word ≡ columnWord c → readColumn bytes ≡ c → Column.Unreadable ≡ c
+      go (Column.Number n) e f = absurd (omega (arith, column-below bytes n (omega arith) f))
+      go Column.Unreadable e f = refl
 
 -- the column at a place
 module _ (bytes : List ℕ) (at : ℕ) where
@@ -188,16 +198,11 @@ module _ (bytes : List ℕ) (at : ℕ) where
   unfolding readColumn afterBlanks isDecimal
   column-past-unread some lt = rw (← column-past bytes at 6 some lt)
 
-  pub column-inside : at + 6 ≤ length bytes → {r : Column}
-      → r ≡ readColumn (getD bytes at 0 ∷ getD bytes (at + 1) 0 ∷ getD bytes (at + 2) 0 ∷ getD bytes (at + 3) 0 ∷ getD bytes (at + 4) 0 ∷ getD bytes (at + 5) 0 ∷ []) → r ≡ columnAt bytes at
-  unfolding columnBytes
-  column-inside inside is =
-      let b : at + 1 + 1 ≡ at + 2 = omega arith in
-      let c : at + 2 + 1 ≡ at + 3 = omega arith in
-      let d : at + 3 + 1 ≡ at + 4 = omega arith in
-      let e : at + 4 + 1 ≡ at + 5 = omega arith in
-      rw (le-leb (at + 6) (length bytes) inside, drop-here bytes at (omega arith), drop-here bytes (at + 1) (omega arith), b, drop-here bytes (at + 2) (omega arith), c, drop-here bytes (at + 3) (omega arith), d, drop-here bytes (at + 4) (omega arith), e, drop-here bytes (at + 5) (omega arith)) is
+  pub column-found : 6 ≤ length bytes → at ≤ length bytes - 6 → {r : Column} → r ≡ sixColumn (take ((at + 6) - at) (drop at bytes)) → r ≡ columnAt bytes at
+  column-found some inside is =
+      let e : (at + 6) - at ≡ 6 = omega arith in
+      let long : length (take 6 (drop at bytes)) ≡ 6 = length-take-le 6 (drop at bytes) (omega (arith, length-drop at bytes)) in
+      rw (e, eq-eqb (length (take 6 (drop at bytes))) 6 long, rw e at (column-there bytes at 6 some inside)) at is
 
-  pub column-found : 6 ≤ length bytes → at ≤ length bytes - 6 → {r : Column}
-      → r ≡ readColumn (getD bytes at 0 ∷ getD bytes (at + 1) 0 ∷ getD bytes (at + 2) 0 ∷ getD bytes (at + 3) 0 ∷ getD bytes (at + 4) 0 ∷ getD bytes (at + 5) 0 ∷ []) → r ≡ columnAt bytes at
-  column-found some inside is = column-inside (omega arith) is
+  pub column-inside : at + 6 ≤ length bytes → {r : Column} → r ≡ sixColumn (take ((at + 6) - at) (drop at bytes)) → r ≡ columnAt bytes at
+  column-inside inside is = column-found (omega arith) (omega arith) is

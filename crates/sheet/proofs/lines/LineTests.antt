@@ -1,13 +1,13 @@
 -- Lines, as the code reads them.
 use Prim.Native.Nat.{ℕ, zero, suc, _+_, _-_, _*_, _/_, _%_, _^_, _<_, _≤_}
 use mathlib.Core.Bool.{Bool, true, false, not, _&&_, and-false, false≢true}
-use mathlib.Core.List.{List, [], _∷_, _++_}
+use mathlib.Core.List.{List, _++_}
 use mathlib.Core.Path.{_≡_, refl, sym, ap, _∙_}
 use native.Mathlib.Omega.{arith}
 use native.Mathlib.Nat.{mul-le-mul-right, mul-add-div-right, mul-add-mod-self-right, div-eq-of-lt, mod-eq-of-lt}
 use borrow.Author.Tests.{not-false, ltb-true, ltb-false}
 use lib.Dec.{ltb}
-use lib.ListN.{length, getD, take, set, length-set, List·getD-append, List·getD-eq-default}
+use lib.ListN.{length, getD, take, drop, set, length-set, List·getD-append, List·getD-eq-default}
 use lib.Seq.{ext-getD, getD-take, getD-append-add, length-take-le}
 use mir.Syntax.{w64}
 use mir.Val.{Fits}
@@ -15,7 +15,7 @@ use Rattle.columns.specs.declared.Column.{Column}
 use Rattle.columns.specs.declared.Column.the-variants as Column
 use Rattle.columns.specs.declared.SignedColumn.{SignedColumn}
 use Rattle.columns.specs.declared.SignedColumn.the-variants as SignedColumn
-use Rattle.columns.specs.Columns.{readColumn, columnAt, signedColumnAt}
+use Rattle.columns.specs.Columns.{sixColumn, columnAt, signedColumnAt}
 use Rattle.columns.proofs.read.Six.{column-inside}
 use Rattle.table.specs.Rules.{allFrom}
 use Rattle.table.proofs.tests.Scan.{Scan, scan-start, scan-ends, all-on, all-fails}
@@ -26,7 +26,7 @@ use Rattle.sheet.specs.Post.{Inside, WordRead, wordIn, Filled, Read, Lin
 
 -- a column, by what was read
 module _ (sheet : List ℕ) (at w : ℕ) (before : List ℕ) (inside : at + 6 ≤ length sheet) {column : Column}
-    (said : column ≡ readColumn (getD sheet at 0 ∷ getD sheet (at + 1) 0 ∷ getD sheet (at + 2) 0 ∷ getD sheet (at + 3) 0 ∷ getD sheet (at + 4) 0 ∷ getD sheet (at + 5) 0 ∷ [])) where
+    (said : column ≡ sixColumn (take ((at + 6) - at) (drop at sheet))) where
   is : column ≡ columnAt sheet at
   is = column-inside sheet at inside said
 

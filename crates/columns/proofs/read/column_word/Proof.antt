@@ -7,9 +7,14 @@ pub column-word-spec : {M : Type 1} → statement M
 column-word-spec =
     tie.close
     (tie.spec
+    (λ c. search needs)
+    (λ c. search needs)
+    (λ c. search needs)
+    (λ c. search needs)
     (λ c κs. search needs)
+    (λ c. search needs)
+    (λ c. search needs)
     (λ c κs. search needs)
     (λ c. search (column-two, needs))
-    (λ c. search needs)
     (λ c κs. search needs)
     (λ c. search needs))
