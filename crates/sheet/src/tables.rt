@@ -1,5 +1,4 @@
 // A sheet after line 1: its tables read into arrays, and planned. Arrays have to be cleared, so each is made once what stands before it is read, and is small for a small table: what is refused early costs little.
-ghost use mathlib.Core.Path.{_≡_};
 ghost use Prim.Native.Nat.{_*_, _<_, _≤_};
 ghost use lib.ListN.{length};
 ghost use Rattle.sheet.specs.Listing.{Printed};

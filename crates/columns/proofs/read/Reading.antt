@@ -9,9 +9,8 @@ use native.Mathlib.Nat.{pow-le-pow-right}
 use borrow.Author.Tests.{lt-ltb, le-leb, lt-leb, leb-true, leb-false, eq-eqb, ne-eqb}
 use lib.Dec.{eqb, leb, ltb}
 use lib.ListN.{length, getD, take, drop, length-drop, drop-of-length-le}
-use lib.Seq.{drop-cons, length-take-le, take-all}
+use lib.Seq.{drop-cons, take-all}
 use Rattle.literal.specs.Literal.{isNumber}
-use Rattle.literal.specs.Reading.{part}
 use Rattle.literal.specs.Text.{value}
 use Rattle.literal.proofs.Numbers.{number-bounds, and-true}
 use Rattle.columns.specs.declared.decimal.Decimal.{Decimal}
@@ -183,14 +182,6 @@ module _ (bytes : List ℕ) (at width : ℕ) where
   column-there le le′ =
       let e : (at + width) - at ≡ width = omega arith in
       rw (le-leb (at + width) (length bytes) (omega arith), e)
-
-pub column-few : (bytes : List ℕ) (at width : ℕ) → length (columnBytes bytes at width) ≤ width
-unfolding columnBytes
-column-few bytes at width = go (leb (at + width) (length bytes)) refl
-  where
-    go : (b : Bool) → leb (at + width) (length bytes) ≡ b → length (cond b (part bytes at width) []) ≤ width
-    go true e = omega (arith, leb-true (at + width) (length bytes) e, length-drop at bytes, length-take-le width (drop at bytes) (omega (arith, length-drop at bytes, leb-true (at + width) (length bytes) e)))
-    go false e = omega arith
 
 pub blanks-few : (bytes : List ℕ) → length (afterBlanks bytes) ≤ length bytes
 unfolding afterBlanks
