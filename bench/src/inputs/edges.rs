@@ -124,6 +124,16 @@ fn slow() -> Vec<Input> {
         let names = super::shapes::pattern(array(size, name));
         inputs.push(input(&format!("{size} long names, the last first"), names.bytes()));
     }
+    for size in [8, 32, 128] {
+        // Parts of one text: all of the greatest length, or each the beginning of the next.
+        let letters = (0..382u32).map(|place| b'a' + (place * place % 23) as u8).collect();
+        let parts = (0..size).map(|name| [name, 255, 0]).collect();
+        let named = Draft { names: parts, text: letters, ..draft(1, 0, 0, 0) };
+        inputs.push(input(&format!("{size} names of 255 bytes"), named.bytes()));
+        let beginnings = (0..size).map(|name| [0, 128 + name, 0]).collect();
+        let named = Draft { names: beginnings, text: vec![b'a'; 255], ..draft(1, 0, 0, 0) };
+        inputs.push(input(&format!("{size} names that begin one another"), named.bytes()));
+    }
     for (wildcards, times) in [(4, 2), (12, 5), (24, 8), (31, 19), (49, 15), (60, 11), (84, 8)] {
         let name = format!("an array of {wildcards} paired {times} times");
         inputs.push(input(&name, limits::pairs(times, wildcards).bytes()));

@@ -1,5 +1,5 @@
 -- Demand 3, proved.
-use Prim.Native.Nat.{ℕ, zero, suc, _+_, _-_, _/_, _≤_, _<_}
+use Prim.Native.Nat.{ℕ, _+_, _-_, _/_, _≤_, _<_}
 use mathlib.Core.Path.{_≡_, refl, sym, ap, subst, _∙_}
 use mathlib.Core.Logic.{_⊎_, inl, inr}
 use mathlib.Core.List.{List, []}
@@ -17,6 +17,7 @@ use Rattle.table.specs.Tables.{Tables, nodeCount, nameCount, isNode}
 use Rattle.table.specs.Decode.{expr}
 use Rattle.table.specs.Rules.{allFrom}
 use Rattle.table.specs.Sound.{Node}
+use Rattle.table.proofs.tests.Scan.{all-of}
 use Rattle.table.proofs.tests.Bools.{and-true}
 use Rattle.planner.specs.Layout.{entries}
 use Rattle.planner.specs.Operations.{planOf, fits}
@@ -38,12 +39,7 @@ use Rattle.run.proofs.Running.{run-table, promised, listed-value, value
 use Rattle.run.proofs.Tabled.{Tabled, run-tabled, value-tabled}
 
 all-true : (p : ℕ → Bool) (from k : ℕ) → ((j : ℕ) → from ≤ j → j < from + k → p j ≡ true) → allFrom p from k ≡ true
-unfolding allFrom
-all-true p from zero each = refl
-all-true p from (suc k) each =
-    let h = each from (omega arith) (omega arith) in
-    let r = all-true p (from + 1) k (λ j le lt. each j (omega arith) (omega arith)) in
-    rw (h, r)
+all-true p from k each = all-of p from k (λ j lt. each (from + j) (omega arith) (omega arith))
 
 node-in : (T : Tables) (n : ℕ) → isNode T n ≡ true → Node T n
 node-in T n e = let b = and-true (leb 1 n) (leb n (nodeCount T)) e in record { low = leb-true 1 n (b .0); high = leb-true n (nodeCount T) (b .1) }

@@ -77,6 +77,13 @@ pub record NumbersAsked (at count : ℕ) (out : List ℕ) : Type 0 where
   pub lines : Inside at 21 count
   pub room : count * 2 ≤ length out
 
+-- more than 16 of them, of which the first are good and their words held
+pub record NumbersOnAsked (sheet : List ℕ) (at count : ℕ) (first out : List ℕ) : Type 0 where
+  pub asked : NumbersAsked at count out
+  pub many : 16 < count
+  pub good : numberLinesOk sheet at 16 ≡ true
+  pub held : Filled (numberWord sheet at) 32 first
+
 pub record NumberAsked (sheet : List ℕ) (at i : ℕ) (out : List ℕ) : Type 0 where
   pub asked : NumbersAsked at (i + 1) out
   pub before : Filled (numberWord sheet at) (i * 2) out

@@ -3,7 +3,7 @@ ghost use mathlib.Core.Path.{_≡_};
 ghost use Prim.Native.Nat.{_+_, _*_, _<_, _≤_};
 ghost use lib.ListN.{length};
 ghost use Rattle.sheet.specs.Lines.{isLineFeed, lineLength, lineOk, linesOk, numberLineOk, numberLinesOk, wordAt, numberWord};
-ghost use Rattle.sheet.specs.Post.{Filled, wordIn, WordRead, LineAsked, LinesAsked, NodesAsked, NumberAsked, NumbersAsked, Read};
+ghost use Rattle.sheet.specs.Post.{Filled, wordIn, WordRead, LineAsked, LinesAsked, NodesAsked, NumberAsked, NumbersAsked, NumbersOnAsked, Read};
 use columns::Column;
 use columns::SignedColumn;
 use columns::read::column_of;
@@ -121,4 +121,30 @@ pub(crate) fn read_numbers(sheet: &[u8], at: usize, count: usize, out: &mut [u64
         i += 1;
     }
     true
+}
+
+fn copy_numbers(from: &[u64; 32], out: &mut [u64])
+    requires { ⌜ 32 ≤ length (now out) ⌝ }
+    ensures { λ _. ⌜ Filled (wordIn (now (from .entry))) 32 (now (out .exit)) ⌝ }
+{
+    let mut w: usize = 0;
+    while w < 32 {
+        out[w] = from[w];
+        w += 1;
+    }
+}
+
+// The numbers' lines after the first 16, whose words are copied.
+pub(crate) fn read_numbers_on(
+    sheet: &[u8],
+    at: usize,
+    count: usize,
+    first: &[u64; 32],
+    out: &mut [u64],
+) -> bool
+    requires { ⌜ NumbersOnAsked (now sheet) at count (now first) (now out) ⌝ }
+    ensures { λ r. ⌜ Read (numberWord (now (sheet .entry)) at) (count * 2) (numberLinesOk (now (sheet .entry)) at count) (now (out .exit)) r ⌝ }
+{
+    copy_numbers(first, out);
+    read_numbers(sheet, at + 336, count - 16, &mut out[32..])
 }

@@ -9,6 +9,7 @@ use crate::layout::places_of;
 use crate::lines::read_lines;
 use crate::lines::read_nodes_on;
 use crate::lines::read_numbers;
+use crate::lines::read_numbers_on;
 use crate::listing::refuse;
 use crate::names::read_names;
 use crate::operation::Operation;
@@ -119,21 +120,22 @@ fn plan_names(
     )
 }
 
-fn numbers_into(
+// At most 16 numbers.
+fn plan_few_numbers(
     sheet: &[u8],
     counts: Counts,
     operation: Operation,
     nodes: &[u32],
     children: &[u32],
-    numbers: &mut [u64],
     out: &mut [u8],
 ) -> usize
-    requires { ⌜ ChildrenRead (now sheet) counts operation (now nodes) (now children) × (counts .numbers * 2 ≤ length (now numbers)) ⌝ }
+    requires { ⌜ ChildrenRead (now sheet) counts operation (now nodes) (now children) × (counts .numbers ≤ 16) ⌝ }
     ensures { λ r. ⌜ Printed (laidListing (now (sheet .entry)) counts) (now (out .entry)) (now (out .exit)) r ⌝ }
 {
     let number_words = counts.numbers * 2;
     let places = places_of(counts);
-    if !read_numbers(sheet, places.numbers, counts.numbers, numbers) {
+    let mut numbers = [0u64; 32];
+    if !read_numbers(sheet, places.numbers, counts.numbers, &mut numbers) {
         return refuse(7, out);
     }
     plan_names(
@@ -147,7 +149,40 @@ fn numbers_into(
     )
 }
 
-// A sheet whose nodes and children are read: space for the numbers.
+// More than 16 numbers: the first 16 are read before space for all is cleared.
+fn plan_many_numbers(
+    sheet: &[u8],
+    counts: Counts,
+    operation: Operation,
+    nodes: &[u32],
+    children: &[u32],
+    out: &mut [u8],
+) -> usize
+    requires { ⌜ ChildrenRead (now sheet) counts operation (now nodes) (now children) × (16 < counts .numbers) ⌝ }
+    ensures { λ r. ⌜ Printed (laidListing (now (sheet .entry)) counts) (now (out .entry)) (now (out .exit)) r ⌝ }
+{
+    let number_words = counts.numbers * 2;
+    let places = places_of(counts);
+    let mut first = [0u64; 32];
+    if !read_numbers(sheet, places.numbers, 16, &mut first) {
+        return refuse(7, out);
+    }
+    let mut numbers = [0u64; 512];
+    if !read_numbers_on(sheet, places.numbers, counts.numbers, &first, &mut numbers) {
+        return refuse(7, out);
+    }
+    plan_names(
+        sheet,
+        counts,
+        operation,
+        nodes,
+        children,
+        &numbers[..number_words],
+        out,
+    )
+}
+
+// A sheet whose nodes and children are read.
 fn plan_numbers(
     sheet: &[u8],
     counts: Counts,
@@ -160,11 +195,9 @@ fn plan_numbers(
     ensures { λ r. ⌜ Printed (laidListing (now (sheet .entry)) counts) (now (out .entry)) (now (out .exit)) r ⌝ }
 {
     if counts.numbers <= 16 {
-        let mut numbers = [0u64; 32];
-        return numbers_into(sheet, counts, operation, nodes, children, &mut numbers, out);
+        return plan_few_numbers(sheet, counts, operation, nodes, children, out);
     }
-    let mut numbers = [0u64; 512];
-    numbers_into(sheet, counts, operation, nodes, children, &mut numbers, out)
+    plan_many_numbers(sheet, counts, operation, nodes, children, out)
 }
 
 fn children_into(

@@ -21,8 +21,8 @@ use Rattle.table.specs.Rules.{allFrom}
 use Rattle.table.proofs.tests.Scan.{Scan, scan-start, scan-ends, all-on, all-fails}
 use Rattle.planner.specs.code.Post.{tabulate}
 use Rattle.planner.proofs.buffer.Filling.{filling-next, length-tabulate, getD-tabulate}
-use Rattle.sheet.specs.Lines.{numberAt, isLineFeed, columnOk, isLine, lineLength, lineOk, linesOk, isNumberLine, numberLineOk, numberLinesOk, wordAt, numberWord}
-use Rattle.sheet.specs.Post.{Inside, WordRead, wordIn, Filled, Read, LinesAsked, LineAsked, NodesAsked, NumbersAsked, NumberAsked}
+use Rattle.sheet.specs.Lines.{numberAt, isLineFeed, columnOk, isLine, lineLength, lineOk, linesOk, isNumberLine, numberLineOk, numberLinesOk, signedWord, wordAt, numberWord}
+use Rattle.sheet.specs.Post.{Inside, WordRead, wordIn, Filled, Read, LinesAsked, LineAsked, NodesAsked, NumbersAsked, NumbersOnAsked, NumberAsked}
 
 -- a column, by what was read
 module _ (sheet : List ℕ) (at w : ℕ) (before : List ℕ) (inside : at + 6 ≤ length sheet) {column : Column}
@@ -318,3 +318,38 @@ module _ (sheet : List ℕ) {at count : ℕ} {before : List ℕ} (asked : Number
     numbers-end le =
         let n : i ≡ count = omega (arith, go .scan .inside) in
         record { ok = scan-ends (go .scan) le; filled = λ _. rw n at (go .filled) }
+
+-- 16 lines of numbers, and those after them
+pub numbers-split : (sheet : List ℕ) (at m : ℕ) → numberLinesOk sheet at (16 + m) ≡ (numberLinesOk sheet at 16 && numberLinesOk sheet (at + 336) m)
+numbers-split sheet at m =
+    let after = all-shift (numberLineOk sheet at) (numberLineOk sheet (at + 336)) 16 (λ j. let e : at + (16 + j) * 21 ≡ at + 336 + j * 21 = omega arith in ap (isNumberLine sheet) e) 0 m in
+    all-split (numberLineOk sheet at) 0 16 m ∙ ap (λ (b : Bool). numberLinesOk sheet at 16 && b) after
+
+numbers-after : (sheet : List ℕ) (at : ℕ) {count : ℕ} {part : List ℕ} → Filled (numberWord sheet (at + 336)) count part → Filled (λ k. numberWord sheet at (32 + k)) count part
+unfolding numberWord
+numbers-after sheet at go = record {
+  each = λ k lt.
+      let e : at + 336 + k / 2 * 21 ≡ at + (32 + k) / 2 * 21 = omega arith in
+      let f : k % 2 ≡ (32 + k) % 2 = omega arith in
+      go .each k lt ∙ (ap (λ (x : ℕ). signedWord (signedColumnAt sheet x) (k % 2)) e ∙ ap (signedWord (signedColumnAt sheet (at + (32 + k) / 2 * 21))) f);
+}
+
+module _ {sheet : List ℕ} {at count : ℕ} {first out : List ℕ} (on : NumbersOnAsked sheet at count first out) where
+  pub numbers-place-fits : Fits w64 (at + 336)
+  numbers-place-fits = let b = on .asked .lines .below in record { fits = omega (arith, on .many) }
+
+  pub copy-room : 32 ≤ length out
+  copy-room = omega (arith, on .many, on .asked .room)
+
+  pub numbers-rest-asked : (part : List ℕ) → length part ≡ length out - 32 → NumbersAsked (at + 336) (count - 16) part
+  numbers-rest-asked part size = let b = on .asked .lines .below in record { lines = record { below = omega (arith, on .many) }; room = omega (arith, on .many, on .asked .room) }
+
+  pub numbers-rest-read : {here part : List ℕ} (tail : List ℕ) {r : Bool} → length here ≡ length out → Filled (wordIn first) 32 here → length part ≡ length here - 32
+      → Read (numberWord sheet (at + 336)) ((count - 16) * 2) (numberLinesOk sheet (at + 336) (count - 16)) part r → Read (numberWord sheet at) (count * 2) (numberLinesOk sheet at count) (take 32 here ++ (part ++ tail)) r
+  numbers-rest-read tail long copied size read =
+      let n : 16 + (count - 16) ≡ count = omega (arith, on .many) in
+      let m : 32 + (count - 16) * 2 ≡ count * 2 = omega (arith, on .many) in
+      record {
+        ok = read .ok ∙ rw (on .good) at (sym (rw n at (numbers-split sheet at (count - 16))));
+        filled = λ t. rw m at (filled-both (numberWord sheet at) 32 ((count - 16) * 2) tail (on .held) copied (omega (arith, on .many, on .asked .room)) (numbers-after sheet at (read .filled t)) (omega (arith, on .many, on .asked .room)));
+      }

@@ -18,10 +18,10 @@ use Rattle.sheet.specs.declared.layout.Counts.{Counts}
 use Rattle.sheet.specs.declared.layout.Places.{Places}
 use Rattle.sheet.specs.declared.operation.Operation.{Operation}
 use Rattle.sheet.specs.Lines.{numberAt, isLine, linesOk, numberLinesOk, wordAt, numberWord}
-use Rattle.sheet.specs.Sheet.{countsOf, withinLimits, namesPlace, stringsPlace, textPlace, endPlace, placesOf, operationOf, operationOk, markOk, marksOk, layoutOk, marksOf, sheetOf, unparsed, parsed, parse, parsedBy}
+use Rattle.sheet.specs.Sheet.{countsOf, withinLimits, numbersPlace, namesPlace, stringsPlace, textPlace, endPlace, placesOf, operationOf, operationOk, markOk, marksOk, layoutOk, marksOf, sheetOf, unparsed, parsed, parse, parsedBy}
 use Rattle.sheet.specs.Listing.{operated, linesOf, linesBytes, listingOf, Printed}
-use Rattle.sheet.specs.Post.{Limited, Space, Filled, Read, LinesAsked, NodesAsked, NumbersAsked, nameWord, rowMark, rowMarkOk, NamesAsked, MarksAsked, Overlaid, MarksRead, countsIn, operationIn, refusalLine, laidListing, scopeIn, namesOk, NamesHeld, NamesRead, Headed, FirstRead, NodesRead, ChildrenRead, NumbersRead, childrenLeft, TablesAsked, TablesRead, Tabled}
-use Rattle.sheet.proofs.lines.LineTests.{filled-first, word-in-line, nodes-split}
+use Rattle.sheet.specs.Post.{Limited, Space, Filled, Read, LinesAsked, NodesAsked, NumbersAsked, NumbersOnAsked, nameWord, rowMark, rowMarkOk, NamesAsked, MarksAsked, Overlaid, MarksRead, countsIn, operationIn, refusalLine, laidListing, scopeIn, namesOk, NamesHeld, NamesRead, Headed, FirstRead, NodesRead, ChildrenRead, NumbersRead, childrenLeft, TablesAsked, TablesRead, Tabled}
+use Rattle.sheet.proofs.lines.LineTests.{filled-first, word-in-line, nodes-split, numbers-split}
 use Rattle.sheet.proofs.lines.LayoutTests.{counts-read, operation-read}
 
 -- one line of six columns
@@ -280,6 +280,28 @@ module _ {sheet : List ℕ} {c : Counts} {o : Operation} {nodes children : List 
     children-are = h .children-are;
     numbers-are = filled-first (rw is at (read .filled (not-false n good))) room;
   }
+
+-- the first 16 of more numbers
+module _ {sheet : List ℕ} {c : Counts} {o : Operation} {nodes children : List ℕ} (h : ChildrenRead sheet c o nodes children) {p : Places} (is : p ≡ placesOf c) (many : 16 < c .numbers) where
+  pub first-asked : (first : List ℕ) → length first ≡ 32 → NumbersAsked (p .numbers) 16 first
+  first-asked first long = rw is (record { lines = record { below = omega (arith, h .sized .limited) }; room = omega arith })
+
+  module _ {first : List ℕ} {b : Bool} (read : Read (numberWord sheet (p .numbers)) (16 * 2) (numberLinesOk sheet (p .numbers) 16) first b) where
+    pub first-numbers-fail : not b ≡ true → false ≡ layoutOk sheet c
+    first-numbers-fail t =
+        let n : 16 + (c .numbers - 16) ≡ c .numbers = omega arith in
+        rw (h .left, rw n at (numbers-split sheet (numbersPlace c) (c .numbers - 16)), told-no (rw is at (read .ok)) t)
+
+    pub numbers-on-asked : not b ≡ false → (numbers : List ℕ) → length numbers ≡ 512 → NumbersOnAsked sheet (p .numbers) (c .numbers) first numbers
+    numbers-on-asked good numbers long = record {
+      asked = numbers-asked (h .sized .limited) is numbers (omega (arith, h .sized .limited));
+      many = many;
+      good = told-yes (read .ok) good;
+      held = read .filled (not-false b good);
+    }
+
+pub all-numbers : {c : Counts} → Limited c → (numbers : List ℕ) → length numbers ≡ 512 → c .numbers * 2 ≤ length numbers
+all-numbers few numbers long = omega (arith, few)
 
 module _ {sheet : List ℕ} {c : Counts} {o : Operation} {nodes children numbers : List ℕ} (h : NumbersRead sheet c o nodes children numbers) {p : Places} (is : p ≡ placesOf c)
     {names marks : List ℕ} {r : Bool} (read : NamesRead sheet (p .names) (c .names) names (replicate 128 0) marks r) where
