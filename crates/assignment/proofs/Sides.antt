@@ -81,13 +81,6 @@ module _ (T : Tables) (a b : ℕ) (g : GoodPair T a b) where
   pub ask-right : GoodRoot T b
   ask-right = record { table = g .table; node = g .second }
 
-  -- space for an entry of each node
-  pub roomy-small : {scratch : List ℕ} → length scratch ≡ 256 → length (T .nodes) ≤ 320 → Roomy T scratch
-  roomy-small e le = record { space = omega arith }
-
-  pub roomy-large : {scratch : List ℕ} → length scratch ≡ 2048 → Roomy T scratch
-  roomy-large e = let l = g .table .limits .nodes in record { space = omega arith }
-
   module _ {before : List ℕ} (space : Roomy T before) (s : Scope) {binders scratch : List ℕ} {count : ℕ} (p : PatternPlanned T s AllowShadowing a 0 before binders scratch count) where
     held : count ≤ length before / 4
     held =
@@ -210,6 +203,14 @@ module _ (T : Tables) (s : Scope) (left right : ℕ) {side : ℕ} (is : side ≡
   pub equals-sides : side ≡ 0 → Answered (equalsSides T s left right) before later r → Answered (equalsPlanned T s left right) before later r
   equals-sides e a = let q : sideOf T left right ≡ 0 = sym is ∙ e in simp q a
 
+-- by the operator
+module _ (T : Tables) (s : Scope) (op : AssignOp) (left right : ℕ) {before later : List ℕ} {r : PlanAnswer} where
+  pub assigns-colon : op ≡ ColEq → Answered (colonEqualsPlanned T s left right) before later r → Answered (byOperator op T s left right) before later r
+  assigns-colon e a = simp e a
+
+  pub assigns-equals : op ≡ Eq → Answered (equalsPlanned T s left right) before later r → Answered (byOperator op T s left right) before later r
+  assigns-equals e a = simp e a
+
 -- the table check and both roots
 module _ (T : Tables) (s : Scope) (op : AssignOp) (left right : ℕ) {c : TableAnswer} (is : c ≡ checked T s) {ok : Bool} (of : ok ≡ isSound c) (passes : not ok ≡ false) {before later : List ℕ} where
   module _ {l : Bool} (in-left : l ≡ isNode T left) where
@@ -228,15 +229,9 @@ module _ (T : Tables) (s : Scope) (op : AssignOp) (left right : ℕ) {c : TableA
           simp (q, p, o) (refuses RootOutside z)
 
       module _ (at-right : not r ≡ false) {answer : PlanAnswer} where
-        both-inside : Answered (byOperator op T s left right) before later answer → Answered (assignmentOutcome T s op left right) before later answer
+        pub both-inside : Answered (byOperator op T s left right) before later answer → Answered (assignmentOutcome T s op left right) before later answer
         both-inside a =
             let q : checked T s ≡ Sound = sym is ∙ table-passes of passes in
             let p : isNode T left ≡ true = sym in-left ∙ not-false l at-left in
             let o : isNode T right ≡ true = sym in-right ∙ not-false r at-right in
             simp (q, p, o) a
-
-        pub assigns-colon : op ≡ ColEq → Answered (colonEqualsPlanned T s left right) before later answer → Answered (assignmentOutcome T s op left right) before later answer
-        assigns-colon e a = both-inside (simp e a)
-
-        pub assigns-equals : op ≡ Eq → Answered (equalsPlanned T s left right) before later answer → Answered (assignmentOutcome T s op left right) before later answer
-        assigns-equals e a = both-inside (simp e a)

@@ -11,7 +11,7 @@ ghost use Rattle.planner.specs.code.Post.{GoodRoot};
 ghost use Rattle.planner.specs.Entries.{readEntries};
 ghost use Rattle.checks.specs.PatternStructure.{structureBy};
 ghost use Rattle.pairs.specs.Pairs.{shapeOf};
-ghost use Rattle.assignment.specs.Assignment.{opposed, bindSide, isUnderscore, sideOf, colonEqualsFrom, colonEqualsPlanned, equalsSides, equalsPlanned, assignmentOutcome};
+ghost use Rattle.assignment.specs.Assignment.{opposed, bindSide, isUnderscore, sideOf, colonEqualsFrom, colonEqualsPlanned, equalsSides, equalsPlanned, byOperator, assignmentOutcome};
 ghost use Rattle.planner.specs.code.Post.{GoodPair};
 ghost use Rattle.pairs.specs.Post.{Roomy, SidesAsks};
 ghost use Rattle.assignment.specs.Post.{BindAsks};
@@ -229,54 +229,6 @@ fn colon_equals_in(
     )
 }
 
-// Few nodes have a small scratch, since clearing the larger takes longer than a small plan.
-fn plan_colon_equals(
-    nodes: &[u32],
-    children: &[u32],
-    numbers: &[u64],
-    names: &[u32],
-    strings: &[u8],
-    text: &[u8],
-    scope: Scope,
-    left: u32,
-    right: u32,
-    plan: &mut [u32],
-) -> PlanAnswer
-    requires { ⌜ GoodPair (tables (now nodes) (now children) (now numbers) (now names) (now strings) (now text)) left right ⌝ }
-    ensures { λ r. ⌜ Answered (colonEqualsPlanned (tables (now (nodes .entry)) (now (children .entry)) (now (numbers .entry)) (now (names .entry)) (now (strings .entry)) (now (text .entry))) scope left right) (now (plan .entry)) (now (plan .exit)) r ⌝ }
-{
-    if nodes.len() <= 320 {
-        let mut scratch = [0u32; 256];
-        return colon_equals_in(
-            nodes,
-            children,
-            numbers,
-            names,
-            strings,
-            text,
-            scope,
-            left,
-            right,
-            &mut scratch,
-            plan,
-        );
-    }
-    let mut scratch = [0u32; 2048];
-    colon_equals_in(
-        nodes,
-        children,
-        numbers,
-        names,
-        strings,
-        text,
-        scope,
-        left,
-        right,
-        &mut scratch,
-        plan,
-    )
-}
-
 fn is_underscore(
     nodes: &[u32],
     children: &[u32],
@@ -459,54 +411,7 @@ fn equals_in(
     deliver_none(plan, 5, 0)
 }
 
-// Few nodes have a small scratch, as for `:=`.
-fn plan_sides(
-    nodes: &[u32],
-    children: &[u32],
-    numbers: &[u64],
-    names: &[u32],
-    strings: &[u8],
-    text: &[u8],
-    scope: Scope,
-    left: u32,
-    right: u32,
-    plan: &mut [u32],
-) -> PlanAnswer
-    requires { ⌜ GoodPair (tables (now nodes) (now children) (now numbers) (now names) (now strings) (now text)) left right ⌝ }
-    ensures { λ r. ⌜ Answered (equalsSides (tables (now (nodes .entry)) (now (children .entry)) (now (numbers .entry)) (now (names .entry)) (now (strings .entry)) (now (text .entry))) scope left right) (now (plan .entry)) (now (plan .exit)) r ⌝ }
-{
-    if nodes.len() <= 320 {
-        let mut scratch = [0u32; 256];
-        return equals_in(
-            nodes,
-            children,
-            numbers,
-            names,
-            strings,
-            text,
-            scope,
-            left,
-            right,
-            &mut scratch,
-            plan,
-        );
-    }
-    let mut scratch = [0u32; 2048];
-    equals_in(
-        nodes,
-        children,
-        numbers,
-        names,
-        strings,
-        text,
-        scope,
-        left,
-        right,
-        &mut scratch,
-        plan,
-    )
-}
-
+// `=`: the wildcard form, or the sides.
 fn plan_equals(
     nodes: &[u32],
     children: &[u32],
@@ -517,16 +422,17 @@ fn plan_equals(
     scope: Scope,
     left: u32,
     right: u32,
+    scratch: &mut [u32],
     plan: &mut [u32],
 ) -> PlanAnswer
-    requires { ⌜ GoodPair (tables (now nodes) (now children) (now numbers) (now names) (now strings) (now text)) left right ⌝ }
+    requires { ⌜ GoodPair (tables (now nodes) (now children) (now numbers) (now names) (now strings) (now text)) left right × Roomy (tables (now nodes) (now children) (now numbers) (now names) (now strings) (now text)) (now scratch) ⌝ }
     ensures { λ r. ⌜ Answered (equalsPlanned (tables (now (nodes .entry)) (now (children .entry)) (now (numbers .entry)) (now (names .entry)) (now (strings .entry)) (now (text .entry))) scope left right) (now (plan .entry)) (now (plan .exit)) r ⌝ }
 {
     let side = wildcard_side(nodes, children, numbers, names, strings, text, left, right);
     if side != 0 {
         return deliver_none(plan, 6, side);
     }
-    plan_sides(
+    equals_in(
         nodes,
         children,
         numbers,
@@ -536,6 +442,106 @@ fn plan_equals(
         scope,
         left,
         right,
+        scratch,
+        plan,
+    )
+}
+
+// By the operator, the sides planned into a scratch with space for an entry of each node.
+fn plan_assignment_in(
+    nodes: &[u32],
+    children: &[u32],
+    numbers: &[u64],
+    names: &[u32],
+    strings: &[u8],
+    text: &[u8],
+    scope: Scope,
+    op: AssignOp,
+    left: u32,
+    right: u32,
+    scratch: &mut [u32],
+    plan: &mut [u32],
+) -> PlanAnswer
+    requires { ⌜ GoodPair (tables (now nodes) (now children) (now numbers) (now names) (now strings) (now text)) left right × Roomy (tables (now nodes) (now children) (now numbers) (now names) (now strings) (now text)) (now scratch) ⌝ }
+    ensures { λ r. ⌜ Answered (byOperator op (tables (now (nodes .entry)) (now (children .entry)) (now (numbers .entry)) (now (names .entry)) (now (strings .entry)) (now (text .entry))) scope left right) (now (plan .entry)) (now (plan .exit)) r ⌝ }
+{
+    match op {
+        AssignOp::ColEq => colon_equals_in(
+            nodes,
+            children,
+            numbers,
+            names,
+            strings,
+            text,
+            scope,
+            left,
+            right,
+            scratch,
+            plan,
+        ),
+        AssignOp::Eq => plan_equals(
+            nodes,
+            children,
+            numbers,
+            names,
+            strings,
+            text,
+            scope,
+            left,
+            right,
+            scratch,
+            plan,
+        ),
+    }
+}
+
+// Few nodes have a small scratch, since clearing the larger takes longer than a small plan.
+fn plan_assignment(
+    nodes: &[u32],
+    children: &[u32],
+    numbers: &[u64],
+    names: &[u32],
+    strings: &[u8],
+    text: &[u8],
+    scope: Scope,
+    op: AssignOp,
+    left: u32,
+    right: u32,
+    plan: &mut [u32],
+) -> PlanAnswer
+    requires { ⌜ GoodPair (tables (now nodes) (now children) (now numbers) (now names) (now strings) (now text)) left right ⌝ }
+    ensures { λ r. ⌜ Answered (byOperator op (tables (now (nodes .entry)) (now (children .entry)) (now (numbers .entry)) (now (names .entry)) (now (strings .entry)) (now (text .entry))) scope left right) (now (plan .entry)) (now (plan .exit)) r ⌝ }
+{
+    if nodes.len() <= 320 {
+        let mut scratch = [0u32; 256];
+        return plan_assignment_in(
+            nodes,
+            children,
+            numbers,
+            names,
+            strings,
+            text,
+            scope,
+            op,
+            left,
+            right,
+            &mut scratch,
+            plan,
+        );
+    }
+    let mut scratch = [0u32; 2048];
+    plan_assignment_in(
+        nodes,
+        children,
+        numbers,
+        names,
+        strings,
+        text,
+        scope,
+        op,
+        left,
+        right,
+        &mut scratch,
         plan,
     )
 }
@@ -568,30 +574,17 @@ pub fn create_assignment_binding_plan(
         clear(plan);
         return PlanAnswer::RootOutside;
     }
-    match op {
-        AssignOp::ColEq => plan_colon_equals(
-            nodes,
-            children,
-            numbers,
-            names,
-            strings,
-            text,
-            scope,
-            left,
-            right,
-            plan,
-        ),
-        AssignOp::Eq => plan_equals(
-            nodes,
-            children,
-            numbers,
-            names,
-            strings,
-            text,
-            scope,
-            left,
-            right,
-            plan,
-        ),
-    }
+    plan_assignment(
+        nodes,
+        children,
+        numbers,
+        names,
+        strings,
+        text,
+        scope,
+        op,
+        left,
+        right,
+        plan,
+    )
 }

@@ -5,34 +5,38 @@ use Rattle.assignment.proofs.assignment.plan_equals.Tie as tie
 use Rattle.assignment.proofs.assignment.plan_equals.Reads as reads
 use Rattle.assignment.proofs.assignment.plan_equals.Lts as lts
 use Rattle.assignment.proofs.assignment.deliver_none.Reads as deliver-none-reads
-use Rattle.assignment.proofs.assignment.plan_sides.Reads as plan-sides-reads
+use Rattle.assignment.proofs.assignment.equals_in.Reads as equals-in-reads
 use Rattle.assignment.proofs.assignment.wildcard_side.Reads as wildcard-side-reads
 
--- src/assignment.rt:285:9
+-- src/assignment.rt:431:9
 wildcard-side-requires : tie.Need-wildcard-side-requires
 wildcard-side-requires c κs = search needs
 
--- src/assignment.rt:287:9
+-- src/assignment.rt:433:9
 deliver-none-requires : tie.Need-deliver-none-requires
 deliver-none-requires c κs = search needs
 
--- src/assignment.rt:287:9
+-- src/assignment.rt:433:9
 same-length : tie.Need-same-length
 same-length c = search needs
 
--- src/assignment.rt:287:9
+-- src/assignment.rt:433:9
 returns : tie.Need-returns
 returns c = search (equals-wild, needs)
 
--- src/assignment.rt:289:5
-plan-sides-requires : tie.Need-plan-sides-requires
-plan-sides-requires c κs = search needs
+-- src/assignment.rt:435:5
+equals-in-requires : tie.Need-equals-in-requires
+equals-in-requires c κs = search needs
 
--- src/assignment.rt:270:1
+-- src/assignment.rt:415:1
 same-length-2 : tie.Need-same-length-2
 same-length-2 c = search needs
 
--- src/assignment.rt:270:1
+-- src/assignment.rt:415:1
+same-length-3 : tie.Need-same-length-3
+same-length-3 c = search needs
+
+-- src/assignment.rt:415:1
 returns-2 : tie.Need-returns-2
 returns-2 c = search (equals-sides, needs)
 
@@ -44,6 +48,7 @@ plan-equals-spec =
     deliver-none-requires
     same-length
     returns
-    plan-sides-requires
+    equals-in-requires
     same-length-2
+    same-length-3
     returns-2)
