@@ -335,15 +335,6 @@ numbers-after sheet at go = record {
 }
 
 module _ {sheet : List ℕ} {at count : ℕ} {first out : List ℕ} (on : NumbersOnAsked sheet at count first out) where
-  pub numbers-place-fits : Fits w64 (at + 336)
-  numbers-place-fits = let b = on .asked .lines .below in record { fits = omega (arith, on .many) }
-
-  pub copy-room : 32 ≤ length out
-  copy-room = omega (arith, on .many, on .asked .room)
-
-  pub numbers-rest-asked : (part : List ℕ) → length part ≡ length out - 32 → NumbersAsked (at + 336) (count - 16) part
-  numbers-rest-asked part size = let b = on .asked .lines .below in record { lines = record { below = omega (arith, on .many) }; room = omega (arith, on .many, on .asked .room) }
-
   pub numbers-rest-read : {here part : List ℕ} (tail : List ℕ) {r : Bool} → length here ≡ length out → Filled (wordIn first) 32 here → length part ≡ length here - 32
       → Read (numberWord sheet (at + 336)) ((count - 16) * 2) (numberLinesOk sheet (at + 336) (count - 16)) part r → Read (numberWord sheet at) (count * 2) (numberLinesOk sheet at count) (take 32 here ++ (part ++ tail)) r
   numbers-rest-read tail long copied size read =
