@@ -234,6 +234,13 @@ pub record ChildrenRead (sheet : List ℕ) (c : Counts) (o : Operation) (nodes c
   pub nodes-are : nodes ≡ nodesOf sheet c
   pub children-are : children ≡ childrenOf sheet c
 
+-- (of more than 16 numbers, the first 16)
+pub record FirstNumbersRead (sheet : List ℕ) (c : Counts) (o : Operation) (nodes children first : List ℕ) : Type 0 where
+  pub read : ChildrenRead sheet c o nodes children
+  pub many : 16 < c .numbers
+  pub good : numberLinesOk sheet (numbersPlace c) 16 ≡ true
+  pub held : Filled (numberWord sheet (numbersPlace c)) 32 first
+
 pub record NumbersRead (sheet : List ℕ) (c : Counts) (o : Operation) (nodes children numbers : List ℕ) : Type 0 where
   pub sized : Sized sheet c o
   pub left : layoutOk sheet c ≡ namesLeft sheet c

@@ -7,7 +7,6 @@ mod operation;
 mod plan;
 mod tables;
 
-ghost use mathlib.Core.Path.{_≡_};
 ghost use Rattle.sheet.specs.Listing.{listingOf, Printed};
 use layout::counts_of;
 use layout::within_limits;

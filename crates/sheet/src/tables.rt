@@ -2,7 +2,7 @@
 ghost use Prim.Native.Nat.{_*_, _<_, _≤_};
 ghost use lib.ListN.{length};
 ghost use Rattle.sheet.specs.Listing.{Printed};
-ghost use Rattle.sheet.specs.Post.{Limited, Space, laidListing, Headed, FirstRead, NodesRead, ChildrenRead, NumbersRead, TablesAsked, TablesRead, Tabled};
+ghost use Rattle.sheet.specs.Post.{Limited, Space, laidListing, Headed, FirstRead, NodesRead, ChildrenRead, FirstNumbersRead, NumbersRead, TablesAsked, TablesRead, Tabled};
 use crate::layout::Counts;
 use crate::layout::has_space;
 use crate::layout::places_of;
@@ -149,6 +149,35 @@ fn plan_few_numbers(
     )
 }
 
+fn numbers_into(
+    sheet: &[u8],
+    counts: Counts,
+    operation: Operation,
+    nodes: &[u32],
+    children: &[u32],
+    first: &[u64; 32],
+    numbers: &mut [u64],
+    out: &mut [u8],
+) -> usize
+    requires { ⌜ FirstNumbersRead (now sheet) counts operation (now nodes) (now children) (now first) × (counts .numbers * 2 ≤ length (now numbers)) ⌝ }
+    ensures { λ r. ⌜ Printed (laidListing (now (sheet .entry)) counts) (now (out .entry)) (now (out .exit)) r ⌝ }
+{
+    let number_words = counts.numbers * 2;
+    let places = places_of(counts);
+    if !read_numbers_on(sheet, places.numbers, counts.numbers, first, numbers) {
+        return refuse(7, out);
+    }
+    plan_names(
+        sheet,
+        counts,
+        operation,
+        nodes,
+        children,
+        &numbers[..number_words],
+        out,
+    )
+}
+
 // More than 16 numbers: the first 16 are read before space for all is cleared.
 fn plan_many_numbers(
     sheet: &[u8],
@@ -161,23 +190,33 @@ fn plan_many_numbers(
     requires { ⌜ ChildrenRead (now sheet) counts operation (now nodes) (now children) × (16 < counts .numbers) ⌝ }
     ensures { λ r. ⌜ Printed (laidListing (now (sheet .entry)) counts) (now (out .entry)) (now (out .exit)) r ⌝ }
 {
-    let number_words = counts.numbers * 2;
     let places = places_of(counts);
     let mut first = [0u64; 32];
     if !read_numbers(sheet, places.numbers, 16, &mut first) {
         return refuse(7, out);
     }
-    let mut numbers = [0u64; 512];
-    if !read_numbers_on(sheet, places.numbers, counts.numbers, &first, &mut numbers) {
-        return refuse(7, out);
+    if counts.numbers <= 64 {
+        let mut numbers = [0u64; 128];
+        return numbers_into(
+            sheet,
+            counts,
+            operation,
+            nodes,
+            children,
+            &first,
+            &mut numbers,
+            out,
+        );
     }
-    plan_names(
+    let mut numbers = [0u64; 512];
+    numbers_into(
         sheet,
         counts,
         operation,
         nodes,
         children,
-        &numbers[..number_words],
+        &first,
+        &mut numbers,
         out,
     )
 }

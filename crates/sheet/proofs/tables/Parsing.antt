@@ -20,7 +20,7 @@ use Rattle.sheet.specs.declared.operation.Operation.{Operation}
 use Rattle.sheet.specs.Lines.{numberAt, isLine, linesOk, numberLinesOk, wordAt, numberWord}
 use Rattle.sheet.specs.Sheet.{countsOf, withinLimits, numbersPlace, namesPlace, stringsPlace, textPlace, endPlace, placesOf, operationOf, operationOk, markOk, marksOk, layoutOk, marksOf, sheetOf, unparsed, parsed, parse, parsedBy}
 use Rattle.sheet.specs.Listing.{operated, linesOf, linesBytes, listingOf, Printed}
-use Rattle.sheet.specs.Post.{Limited, Space, Filled, Read, LinesAsked, NodesAsked, NumbersAsked, NumbersOnAsked, nameWord, rowMark, rowMarkOk, NamesAsked, MarksAsked, Overlaid, MarksRead, countsIn, operationIn, refusalLine, laidListing, scopeIn, namesOk, NamesHeld, NamesRead, Headed, FirstRead, NodesRead, ChildrenRead, NumbersRead, childrenLeft, TablesAsked, TablesRead, Tabled}
+use Rattle.sheet.specs.Post.{Limited, Space, Filled, Read, LinesAsked, NodesAsked, NumbersAsked, NumbersOnAsked, nameWord, rowMark, rowMarkOk, NamesAsked, MarksAsked, Overlaid, MarksRead, countsIn, operationIn, refusalLine, laidListing, scopeIn, namesOk, NamesHeld, NamesRead, Headed, FirstRead, NodesRead, ChildrenRead, FirstNumbersRead, NumbersRead, childrenLeft, TablesAsked, TablesRead, Tabled}
 use Rattle.sheet.proofs.lines.LineTests.{filled-first, word-in-line, nodes-split, numbers-split}
 use Rattle.sheet.proofs.lines.LayoutTests.{counts-read, operation-read}
 
@@ -292,16 +292,24 @@ module _ {sheet : List ℕ} {c : Counts} {o : Operation} {nodes children : List 
         let n : 16 + (c .numbers - 16) ≡ c .numbers = omega arith in
         rw (h .left, rw n at (numbers-split sheet (numbersPlace c) (c .numbers - 16)), told-no (rw is at (read .ok)) t)
 
-    pub numbers-on-asked : not b ≡ false → (numbers : List ℕ) → length numbers ≡ 512 → NumbersOnAsked sheet (p .numbers) (c .numbers) first numbers
-    numbers-on-asked good numbers long = record {
-      asked = numbers-asked (h .sized .limited) is numbers (omega (arith, h .sized .limited));
-      many = many;
-      good = told-yes (read .ok) good;
-      held = read .filled (not-false b good);
-    }
+    pub first-numbers-read : not b ≡ false → FirstNumbersRead sheet c o nodes children first
+    first-numbers-read good = record { read = h; many = many; good = told-yes (rw is at (read .ok)) good; held = rw is at (read .filled (not-false b good)) }
 
-pub all-numbers : {c : Counts} → Limited c → (numbers : List ℕ) → length numbers ≡ 512 → c .numbers * 2 ≤ length numbers
-all-numbers few numbers long = omega (arith, few)
+module _ {sheet : List ℕ} {c : Counts} {o : Operation} {nodes children first : List ℕ} (f : FirstNumbersRead sheet c o nodes children first) {p : Places} (is : p ≡ placesOf c) where
+  pub numbers-on-asked : (numbers : List ℕ) → c .numbers * 2 ≤ length numbers → NumbersOnAsked sheet (p .numbers) (c .numbers) first numbers
+  numbers-on-asked numbers room = record {
+    asked = numbers-asked (f .read .sized .limited) is numbers room;
+    many = f .many;
+    good = rw is (f .good);
+    held = rw is (f .held);
+  }
+
+  module _ {numbers : List ℕ} {n : Bool} (read : Read (numberWord sheet (p .numbers)) (c .numbers * 2) (numberLinesOk sheet (p .numbers) (c .numbers)) numbers n) where
+    pub more-numbers-fail : not n ≡ true → false ≡ layoutOk sheet c
+    more-numbers-fail t = numbers-fail (f .read) is read t
+
+    pub more-numbers-read : not n ≡ false → c .numbers * 2 ≤ length numbers → NumbersRead sheet c o nodes children (take (c .numbers * 2) numbers)
+    more-numbers-read good room = numbers-read (f .read) is read good room
 
 module _ {sheet : List ℕ} {c : Counts} {o : Operation} {nodes children numbers : List ℕ} (h : NumbersRead sheet c o nodes children numbers) {p : Places} (is : p ≡ placesOf c)
     {names marks : List ℕ} {r : Bool} (read : NamesRead sheet (p .names) (c .names) names (replicate 128 0) marks r) where
