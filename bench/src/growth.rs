@@ -1,8 +1,8 @@
 //! Time against size, a block for each shape. Size is the nodes of a sheet and the entries of its plan.
 
 use crate::inputs::{shapes, Input, Shape};
-use crate::jobs::entries;
-use crate::times::medians;
+use crate::jobs::{entries, SIDES};
+use crate::times::times;
 use std::fmt::Write;
 use std::fs;
 use std::path::Path;
@@ -26,7 +26,8 @@ pub fn run(file: &Path) -> Result<(), String> {
 fn line(shape: &Shape, size: usize) -> Result<String, String> {
     let draft = (shape.draft)(size);
     let input = Input { name: shape.name.clone(), sheets: vec![draft.bytes()] };
-    let medians = medians(&input, SAMPLES)?;
-    let micros = medians.map(|time| time.map_or("-".into(), |time| format!("{:.3}", time * 1e6)));
+    let times = times(&input, &SIDES, SAMPLES)?;
+    let micros = SIDES
+        .map(|side| times.median(side).map_or("-".into(), |time| format!("{:.3}", time * 1e6)));
     Ok(format!("{} {}\n", draft.nodes.len() + entries(&input.sheets[0]), micros.join(" ")))
 }

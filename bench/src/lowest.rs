@@ -1,8 +1,9 @@
 //! The lowest ratios to the Rust among many small sheets.
 
 use crate::inputs::{edges, Input};
+use crate::jobs::Side;
 use crate::report::ratio;
-use crate::times::side_by_side;
+use crate::times::times;
 use oracle::answer::answer;
 use oracle::generate::{sheet, Random};
 
@@ -56,11 +57,16 @@ fn report(title: &str, inputs: impl Iterator<Item = Input>) -> Result<(), String
 
 /// The Rust's time over ours, and what the sheet is.
 fn measured(input: Input) -> Result<(f64, String), String> {
-    let mut value = side_by_side(&input, SAMPLES)?;
+    let mut value = ratio_of(&input, SAMPLES)?;
     if value < NEAR {
-        value = side_by_side(&input, MORE_SAMPLES)?;
+        value = ratio_of(&input, MORE_SAMPLES)?;
     }
     let listing = answer(&input.sheets[0]).to_string();
     let line = listing.lines().next().unwrap_or_default();
     Ok((value, format!("{}, answered {}", input.name, line.trim())))
+}
+
+fn ratio_of(input: &Input, samples: usize) -> Result<f64, String> {
+    let times = times(input, &[Side::Ours, Side::Rust], samples)?;
+    Ok(times.ratio(Side::Rust).unwrap_or(f64::NAN))
 }

@@ -15,7 +15,7 @@ pub fn run(write: bool) -> Result<(), String> {
         "|---|--:|--:|--:|--:|--:|".to_string(),
     ];
     for input in inputs() {
-        let line = line(&input, medians(&input, SAMPLES)?);
+        let line = line(&input, &times(&input, &SIDES, SAMPLES)?);
         println!("{line}");
         lines.push(line);
     }
@@ -25,50 +25,56 @@ pub fn run(write: bool) -> Result<(), String> {
     Ok(())
 }
 
-fn line(input: &Input, [ours, rust, planning]: [Option<f64>; 3]) -> String {
-    let ours = ours.unwrap_or(f64::NAN);
-    let micros = |time: Option<f64>| time.map_or("–".into(), |time| format!("{:.1}", time * 1e6));
-    let times = |time: Option<f64>| time.map_or("–".into(), |time| ratio(time / ours));
+fn line(input: &Input, times: &Times) -> String {
+    let micros =
+        |side| times.median(side).map_or("–".into(), |time| format!("{:.1}", time * 1e6));
+    let ratio = |side| times.ratio(side).map_or("–".into(), ratio);
     format!(
         "| {} | {} | {} | {} | {} | {} |",
         input.name,
-        micros(Some(ours)),
-        micros(rust),
-        times(rust),
-        micros(planning),
-        times(planning)
+        micros(Side::Ours),
+        micros(Side::Rust),
+        ratio(Side::Rust),
+        micros(Side::Planning),
+        ratio(Side::Planning)
     )
 }
 
-/// Seconds of each side's job. The sides take turns, so that a busy machine is busy for all.
-pub fn medians(input: &Input, samples: usize) -> Result<[Option<f64>; 3], String> {
-    let mut jobs = Jobs::new(input)?;
-    let sides: Vec<Side> = SIDES.into_iter().filter(|&side| jobs.has(side)).collect();
-    let repeats: Vec<u32> = sides.iter().map(|&side| repeats(&mut jobs, side)).collect();
-    let mut times = vec![Vec::with_capacity(samples); sides.len()];
-    for _ in 0..samples {
-        for (place, &side) in sides.iter().enumerate() {
-            times[place].push(sample(&mut jobs, side, repeats[place]));
-        }
-    }
-    let mut medians = times.into_iter().map(median);
-    Ok([medians.next(), medians.next(), medians.next()])
+/// Seconds of one run of each side, sample by sample; none of a side that has nothing to do.
+pub struct Times {
+    samples: [Vec<f64>; SIDES.len()],
 }
 
-/// The Rust's time over ours: the median of samples taken side by side, each side first in turn, so
-/// that what slows the machine for a while slows both.
-pub fn side_by_side(input: &Input, samples: usize) -> Result<f64, String> {
+impl Times {
+    pub fn median(&self, side: Side) -> Option<f64> {
+        median(self.samples[side as usize].clone())
+    }
+
+    /// A side's time over ours: the median over the samples that were taken side by side, so that
+    /// what slows the machine for a while slows both.
+    pub fn ratio(&self, side: Side) -> Option<f64> {
+        let ours = self.samples[Side::Ours as usize].iter();
+        let pairs = self.samples[side as usize].iter().zip(ours);
+        median(pairs.map(|(time, ours)| time / ours).collect())
+    }
+}
+
+/// The sides take turns, each first in every other sample.
+pub fn times(input: &Input, sides: &[Side], samples: usize) -> Result<Times, String> {
     let mut jobs = Jobs::new(input)?;
-    let sides = [Side::Ours, Side::Rust];
-    let repeats = sides.map(|side| repeats(&mut jobs, side));
-    let ratios = (0..samples).map(|turn| {
-        let mut times = [0.0; 2];
-        for place in [turn % 2, 1 - turn % 2] {
-            times[place] = sample(&mut jobs, sides[place], repeats[place]);
+    let mut sides: Vec<(Side, u32)> =
+        sides.iter().filter(|&&side| jobs.has(side)).map(|&side| (side, 0)).collect();
+    for (side, repeats) in &mut sides {
+        *repeats = enough(&mut jobs, *side);
+    }
+    let mut times = Times { samples: Default::default() };
+    for _ in 0..samples {
+        for &(side, repeats) in &sides {
+            times.samples[side as usize].push(sample(&mut jobs, side, repeats));
         }
-        times[1] / times[0]
-    });
-    Ok(median(ratios.collect()))
+        sides.reverse();
+    }
+    Ok(times)
 }
 
 /// Seconds of one run.
@@ -80,12 +86,13 @@ fn sample(jobs: &mut Jobs, side: Side, repeats: u32) -> f64 {
     start.elapsed().as_secs_f64() / f64::from(repeats)
 }
 
-fn repeats(jobs: &mut Jobs, side: Side) -> u32 {
+/// How often a sample repeats a side's job.
+fn enough(jobs: &mut Jobs, side: Side) -> u32 {
     let once = (0..5).map(|_| sample(jobs, side, 1)).fold(f64::INFINITY, f64::min);
     (SAMPLE.as_secs_f64() / once).ceil().clamp(1.0, 10_000.0) as u32
 }
 
-fn median(mut times: Vec<f64>) -> f64 {
+fn median(mut times: Vec<f64>) -> Option<f64> {
     times.sort_by(f64::total_cmp);
-    times[times.len() / 2]
+    times.get(times.len() / 2).copied()
 }
