@@ -93,13 +93,7 @@ pub fn column_of(bytes: &[u8]) -> Column
 pub fn read_column(bytes: &[u8], at: usize) -> Column
     ensures { λ r. ⌜ r ≡ columnAt (now (bytes .entry)) at ⌝ }
 {
-    if bytes.len() < 6 {
-        return Column::Unreadable;
-    }
-    if bytes.len() - 6 < at {
-        return Column::Unreadable;
-    }
-    column_of(&bytes[at..at + 6])
+    column_of(column_bytes(bytes, at, 6))
 }
 
 // The bytes after the blanks in front, as far as these are whole fours.

@@ -102,6 +102,7 @@ fn plan_large(
         out,
     ) {
         Tried::Listed(bytes) => bytes,
+        // Not in this space.
         Tried::TooLarge => 0,
     }
 }

@@ -4,7 +4,7 @@ use mathlib.Core.Bool.{Bool, true, false, cond, not, _&&_, and-false}
 use mathlib.Core.List.{List, [], _∷_}
 use mathlib.Core.Path.{_≡_, refl, sym, ap, _∙_}
 use native.Mathlib.Omega.{arith}
-use borrow.Author.Tests.{le-leb, lt-leb, leb-false, eq-eqb, ne-eqb, eqb-true, eqb-false, not-false}
+use borrow.Author.Tests.{le-leb, lt-leb, leb-true, leb-false, eq-eqb, ne-eqb, eqb-true, eqb-false, not-false}
 use lib.Dec.{eqb, leb}
 use lib.ListN.{length, getD, take, drop, length-drop}
 use lib.Seq.{length-take-le}
@@ -16,9 +16,9 @@ use Rattle.columns.specs.declared.decimal.Decimal.{Decimal}
 use Rattle.columns.specs.declared.decimal.Decimal.the-variants.{Number, NoNumber}
 use Rattle.columns.specs.declared.Column.{Column}
 use Rattle.columns.specs.declared.Column.the-variants as Column
-use Rattle.columns.specs.Columns.{afterBlanks, isDigit, allDigits, isDecimal, decimalNumber, readColumn, sixColumn, columnAt}
+use Rattle.columns.specs.Columns.{afterBlanks, isDigit, allDigits, isDecimal, decimalNumber, readColumn, sixColumn, columnBytes, columnAt}
 use Rattle.columns.specs.Decimals.{readDecimal, areBlank, columnWord}
-use Rattle.columns.proofs.read.Reading.{Skipping, skip-on, rest-whole, read-as, read-not, column-short, column-past, column-there, blanks-few, decimal-below}
+use Rattle.columns.proofs.read.Reading.{Skipping, skip-on, rest-whole, read-as, read-not, column-there, blanks-few, decimal-below}
 
 -- four blanks as one number
 module _ (a b c d : ℕ) where
@@ -190,19 +190,18 @@ module _ (bytes : List ℕ) (long : length bytes ≡ 6) {word : ℕ} (is : word 
 
 -- the column at a place
 module _ (bytes : List ℕ) (at : ℕ) where
-  pub column-short-unread : length bytes < 6 → Column.Unreadable ≡ columnAt bytes at
-  unfolding readColumn afterBlanks isDecimal
-  column-short-unread lt = rw (← column-short bytes at 6 lt)
+  whole-column : sixColumn (columnBytes bytes at 6) ≡ columnAt bytes at
+  unfolding columnBytes readColumn afterBlanks isDecimal
+  whole-column = go (leb (at + 6) (length bytes)) refl
+    where
+      go : (b : Bool) → leb (at + 6) (length bytes) ≡ b → sixColumn (columnBytes bytes at 6) ≡ columnAt bytes at
+      go true e =
+          let long : length (take 6 (drop at bytes)) ≡ 6 = length-take-le 6 (drop at bytes) (omega (arith, length-drop at bytes, leb-true (at + 6) (length bytes) e)) in
+          rw (e, eq-eqb (length (take 6 (drop at bytes))) 6 long)
+      go false e = rw e
 
-  pub column-past-unread : 6 ≤ length bytes → length bytes - 6 < at → Column.Unreadable ≡ columnAt bytes at
-  unfolding readColumn afterBlanks isDecimal
-  column-past-unread some lt = rw (← column-past bytes at 6 some lt)
-
-  pub column-found : 6 ≤ length bytes → at ≤ length bytes - 6 → {r : Column} → r ≡ sixColumn (take ((at + 6) - at) (drop at bytes)) → r ≡ columnAt bytes at
-  column-found some inside is =
-      let e : (at + 6) - at ≡ 6 = omega arith in
-      let long : length (take 6 (drop at bytes)) ≡ 6 = length-take-le 6 (drop at bytes) (omega (arith, length-drop at bytes)) in
-      rw (e, eq-eqb (length (take 6 (drop at bytes))) 6 long, rw e at (column-there bytes at 6 some inside)) at is
+  pub column-found : {six : List ℕ} {r : Column} → six ≡ columnBytes bytes at 6 → r ≡ sixColumn six → r ≡ columnAt bytes at
+  column-found there is = rw there at is ∙ whole-column
 
   pub column-inside : at + 6 ≤ length bytes → {r : Column} → r ≡ sixColumn (take ((at + 6) - at) (drop at bytes)) → r ≡ columnAt bytes at
-  column-inside inside is = column-found (omega arith) (omega arith) is
+  column-inside inside is = column-found (column-there bytes at 6 (omega arith) (omega arith)) is

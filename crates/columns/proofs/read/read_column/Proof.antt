@@ -1,18 +1,10 @@
-use Rattle.columns.proofs.read.Six.{column-short-unread, column-past-unread, column-found}
+use Rattle.columns.proofs.read.Six.{column-found}
 use borrow.Author.Needs.{needs}
 use Rattle.columns.proofs.read.read_column.Statement.{statement}
 use Rattle.columns.proofs.read.read_column.Tie as tie
 
 pub read-column-spec : {M : Type 1} → statement M
-read-column-spec =
-    tie.close
-    (tie.spec
-    (λ c. search (column-short-unread, needs))
-    (λ c. search needs)
-    (λ c. search (column-past-unread, needs))
-    (λ c. search needs)
-    (λ c. search needs)
-    (λ c. search needs)
-    (λ c. search needs)
+read-column-spec = tie.close (tie.spec
+    (λ c κs. search needs)
     (λ c κs. search needs)
     (λ c. search (column-found, needs)))
