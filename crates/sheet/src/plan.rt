@@ -107,6 +107,49 @@ fn plan_large(
     }
 }
 
+// In a smaller space first.
+fn plan_first(
+    nodes: &[u32],
+    children: &[u32],
+    numbers: &[u64],
+    names: &[u32],
+    strings: &[u8],
+    text: &[u8],
+    marks: &[u8; 128],
+    operation: Operation,
+    plan: &mut [u32],
+    out: &mut [u8],
+) -> usize
+    requires { ⌜ length (now plan) ≤ 6144 ⌝ }
+    ensures { λ r. ⌜ Printed (linesBytes (linesOf (operated operation (tables (now (nodes .entry)) (now (children .entry)) (now (numbers .entry)) (now (names .entry)) (now (strings .entry)) (now (text .entry))) (scopeIn operation (now (marks .entry)))))) (now (out .entry)) (now (out .exit)) r ⌝ }
+{
+    match plan_into(
+        nodes,
+        children,
+        numbers,
+        names,
+        strings,
+        text,
+        marks,
+        operation,
+        plan,
+        out,
+    ) {
+        Tried::Listed(bytes) => bytes,
+        Tried::TooLarge => plan_large(
+            nodes,
+            children,
+            numbers,
+            names,
+            strings,
+            text,
+            marks,
+            operation,
+            out,
+        ),
+    }
+}
+
 // More than 16 nodes. Clearing the largest space takes longer than a small plan; an `=` of many nodes may need it, and would be planned twice.
 fn plan_more(
     nodes: &[u32],
@@ -123,7 +166,7 @@ fn plan_more(
 {
     if nodes.len() <= 320 {
         let mut plan = [0u32; 256];
-        return match plan_into(
+        return plan_first(
             nodes,
             children,
             numbers,
@@ -134,20 +177,7 @@ fn plan_more(
             operation,
             &mut plan,
             out,
-        ) {
-            Tried::Listed(bytes) => bytes,
-            Tried::TooLarge => plan_large(
-                nodes,
-                children,
-                numbers,
-                names,
-                strings,
-                text,
-                marks,
-                operation,
-                out,
-            ),
-        };
+        );
     }
     if 640 < nodes.len() {
         return plan_large(
@@ -176,7 +206,7 @@ fn plan_more(
         );
     }
     let mut plan = [0u32; 2048];
-    match plan_into(
+    plan_first(
         nodes,
         children,
         numbers,
@@ -187,20 +217,7 @@ fn plan_more(
         operation,
         &mut plan,
         out,
-    ) {
-        Tried::Listed(bytes) => bytes,
-        Tried::TooLarge => plan_large(
-            nodes,
-            children,
-            numbers,
-            names,
-            strings,
-            text,
-            marks,
-            operation,
-            out,
-        ),
-    }
+    )
 }
 
 // Up to 16 nodes are planned into space for 16 entries first.
