@@ -1,24 +1,22 @@
 -- `:=` and `=` (assignment.rs, create_assignment_binding_plan).
 use Prim.Native.Nat.{ℕ}
-use mathlib.Core.Bool.{Bool, true, false, cond, _&&_}
+use mathlib.Core.Bool.{Bool, true, false, cond, not, _&&_}
 use mathlib.Core.List.{List, [], _∷_}
 use lib.Dec.{eqb}
 use Rattle.scope.specs.declared.Scope.{Scope}
 use Rattle.scope.specs.declared.ScopingMode.the-variants.{RespectParent, AllowShadowing}
 use Rattle.scope.specs.Scope.{isName, isUnbound, sameScope}
-use Rattle.table.specs.Tables.{Tables, firstOf, isNode}
+use Rattle.table.specs.Tables.{Tables, firstOf}
 use Rattle.table.specs.Expr.{Expr, literal, name, wildcard, array, set, object, other}
 use Rattle.table.specs.Decode.{expr}
-use Rattle.table.specs.Check.{checked}
-use Rattle.planner.specs.declared.PlanAnswer.the-variants.{RootOutside, ColonEqualsRequiresBindableLeft, IncompatibleDestructuringPatterns}
+use Rattle.base.specs.Refusal.{colonEqualsRequiresBindableLeft, incompatibleDestructuringPatterns}
 use Rattle.assignment.specs.declared.AssignOp.{AssignOp}
 use Rattle.assignment.specs.declared.AssignOp.the-variants.{ColEq, Eq}
 use Rattle.planner.specs.Layout.{Entry, entries, bindsAny}
-use Rattle.planner.specs.Operations.{Outcome, refused, planned, tableFirst, planOf}
-use Rattle.checks.specs.declared.LiteralStructureCheck.{LiteralStructureCheck}
+use Rattle.planner.specs.Operations.{Outcome, planned, require, checkedFirst, planOf, unlessDefined}
 use Rattle.checks.specs.Structure.{structure}
-use Rattle.checks.specs.Refusals.{unlessMismatch, unlessDefined}
-use Rattle.pairs.specs.Pairs.{Shape, items, fields, single, shapeOf, flatten, flatOutcome}
+use Rattle.checks.specs.Refusals.{unlessMismatch}
+use Rattle.assignment.specs.Pairs.{Shape, items, fields, single, shapeOf, flatten, flatOutcome}
 
 -- an array against an object
 abbrev pub opposed : Shape → Shape → Bool
@@ -31,10 +29,10 @@ opposed (fields n es) single = false
 opposed single s = false
 
 -- the binding side held against the value side: shapes, then structure, then the plan
-abbrev pub bindSide : Tables → ℕ → ℕ → ℕ → LiteralStructureCheck → List Entry → Outcome
-bindSide T form binding value structured es =
-    cond (opposed (shapeOf (expr T binding)) (shapeOf (expr T value))) (refused (IncompatibleDestructuringPatterns binding))
-    (unlessMismatch structured (planned form 0 es))
+abbrev pub bindSide : Tables → ℕ → ℕ → ℕ → List Entry → Outcome
+bindSide T form binding value es =
+    require (not (opposed (shapeOf (expr T binding)) (shapeOf (expr T value)))) (incompatibleDestructuringPatterns binding)
+    (unlessMismatch (structure (expr T value) (expr T binding)) (planned form 0 es))
 
 -- the first bind entry whose name is bound in this very scope, or 0
 abbrev pub boundHere : List ℕ → Scope → ℕ → ℕ → Bool
@@ -44,18 +42,14 @@ unfoldable pub firstSameScope : List ℕ → Scope → List Entry → ℕ
 firstSameScope nodes s [] = 0
 firstSameScope nodes s (e ∷ es) = cond (boundHere nodes s (e .kind) (e .node)) (e .node) (firstSameScope nodes s es)
 
-abbrev pub bothInside : Tables → ℕ → ℕ → Bool
-bothInside T left right = isNode T left && isNode T right
-
--- `:=`, from the left side's structure against the right and its plan's entries
-abbrev pub colonEqualsFrom : Tables → Scope → ℕ → ℕ → LiteralStructureCheck → List Entry → Outcome
-colonEqualsFrom T s left right structured es =
-    cond (bindsAny es)
-    (unlessDefined (firstSameScope (T .nodes) s es) (bindSide T 1 left right structured es))
-    (refused (ColonEqualsRequiresBindableLeft left))
+-- `:=`, from the entries of the left side's plan
+abbrev pub colonEqualsFrom : Tables → Scope → ℕ → ℕ → List Entry → Outcome
+colonEqualsFrom T s left right es =
+    require (bindsAny es) (colonEqualsRequiresBindableLeft left)
+    (unlessDefined (firstSameScope (T .nodes) s es) (bindSide T 1 left right es))
 
 abbrev pub colonEqualsPlanned : Tables → Scope → ℕ → ℕ → Outcome
-colonEqualsPlanned T s left right = colonEqualsFrom T s left right (structure (expr T right) (planOf T s AllowShadowing left)) (entries (planOf T s AllowShadowing left) 0)
+colonEqualsPlanned T s left right = colonEqualsFrom T s left right (entries (planOf T s AllowShadowing left) 0)
 
 -- `=`
 abbrev pub isUnderscore : Expr → Bool
@@ -77,22 +71,19 @@ wildcardSide true true = 3
 abbrev pub pairsOutcome : Tables → Scope → ℕ → ℕ → Outcome
 pairsOutcome T s left right = flatOutcome (flatten (isUnbound s RespectParent) (expr T right) (expr T left) [])
 
--- by the sides that bind: each side's structure against the other, and its plan's entries
-abbrev pub bySides : Bool → Bool → Tables → Scope → ℕ → ℕ → LiteralStructureCheck → List Entry → LiteralStructureCheck → List Entry → Outcome
-bySides true true T s left right leftStructured ls rightStructured rs = pairsOutcome T s left right
-bySides false false T s left right leftStructured ls rightStructured rs = planned 5 0 []
-bySides true false T s left right leftStructured ls rightStructured rs = bindSide T 2 left right leftStructured ls
-bySides false true T s left right leftStructured ls rightStructured rs = bindSide T 3 right left rightStructured rs
+-- by the sides that bind, with the entries of their plans
+abbrev pub bySides : Bool → Bool → Tables → Scope → ℕ → ℕ → List Entry → List Entry → Outcome
+bySides true true T s left right ls rs = pairsOutcome T s left right
+bySides false false T s left right ls rs = planned 5 0 []
+bySides true false T s left right ls rs = bindSide T 2 left right ls
+bySides false true T s left right ls rs = bindSide T 3 right left rs
 
-abbrev pub equalsFrom : Tables → Scope → ℕ → ℕ → LiteralStructureCheck → List Entry → LiteralStructureCheck → List Entry → Outcome
-equalsFrom T s left right leftStructured ls rightStructured rs = bySides (bindsAny ls) (bindsAny rs) T s left right leftStructured ls rightStructured rs
+abbrev pub equalsFrom : Tables → Scope → ℕ → ℕ → List Entry → List Entry → Outcome
+equalsFrom T s left right ls rs = bySides (bindsAny ls) (bindsAny rs) T s left right ls rs
 
 -- one side's plan never sees the other's names
 abbrev pub equalsSides : Tables → Scope → ℕ → ℕ → Outcome
-equalsSides T s left right =
-    equalsFrom T s left right
-    (structure (expr T right) (planOf T s RespectParent left)) (entries (planOf T s RespectParent left) 0)
-    (structure (expr T left) (planOf T s RespectParent right)) (entries (planOf T s RespectParent right) 0)
+equalsSides T s left right = equalsFrom T s left right (entries (planOf T s RespectParent left) 0) (entries (planOf T s RespectParent right) 0)
 
 abbrev pub sideOf : Tables → ℕ → ℕ → ℕ
 sideOf T left right = wildcardSide (isUnderscore (expr T left)) (isUnderscore (expr T right))
@@ -105,4 +96,4 @@ byOperator ColEq T s left right = colonEqualsPlanned T s left right
 byOperator Eq T s left right = equalsPlanned T s left right
 
 abbrev pub assignmentOutcome : Tables → Scope → AssignOp → ℕ → ℕ → Outcome
-assignmentOutcome T s op left right = tableFirst (checked T s) (cond (bothInside T left right) (byOperator op T s left right) (refused RootOutside))
+assignmentOutcome T s op left right = checkedFirst T s (left ∷ (right ∷ [])) (byOperator op T s left right)

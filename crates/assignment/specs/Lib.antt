@@ -1,3 +1,5 @@
-pub mod Post
 pub mod Assignment
+pub mod Pairs
+pub mod PairsPromise
 pub mod PairsDemand
+pub mod code

@@ -13,7 +13,7 @@ use Rattle.planner.specs.Layout.{Entry}
 use Rattle.planner.specs.Simple.{simple}
 use Rattle.planner.specs.Operations.{planned, Answered}
 use Rattle.planner.specs.Entries.{readEntries}
-use Rattle.pairs.specs.PairsPromise.{PairsPromise, EntriesPromise}
+use Rattle.assignment.specs.PairsPromise.{PairsPromise, EntriesPromise}
 use Rattle.assignment.specs.declared.AssignOp.the-variants.{Eq}
 use Rattle.assignment.specs.Assignment.{assignmentOutcome}
 

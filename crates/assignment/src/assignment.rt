@@ -1,37 +1,32 @@
 // `:=` and `=` (assignment.rs).
+ghost use Rattle.base.specs.Lent.{old};
+ghost use Rattle.table.specs.Lent.{given, lent};
 ghost use mathlib.Core.Path.{_≡_};
 ghost use mathlib.Core.List.{[]};
-ghost use Rattle.table.specs.Tables.{tables};
-ghost use Rattle.table.specs.Decode.{expr};
-ghost use Rattle.planner.specs.Plan as Plan;
-ghost use Rattle.planner.specs.Layout.{entries};
-ghost use Rattle.planner.specs.code.Passes.{unboundIn};
-ghost use Rattle.planner.specs.Operations.{planned, Answered};
-ghost use Rattle.planner.specs.code.Post.{GoodRoot};
-ghost use Rattle.planner.specs.Entries.{readEntries};
-ghost use Rattle.checks.specs.PatternStructure.{structureBy};
-ghost use Rattle.pairs.specs.Pairs.{shapeOf};
-ghost use Rattle.assignment.specs.Assignment.{opposed, bindSide, isUnderscore, sideOf, colonEqualsFrom, colonEqualsPlanned, equalsSides, equalsPlanned, byOperator, assignmentOutcome};
+ghost use Rattle.table.specs.Tables.{kindOf};
+ghost use Rattle.planner.specs.Operations.{planned, AnsweredIn};
 ghost use Rattle.planner.specs.code.Post.{GoodPair};
-ghost use Rattle.pairs.specs.Post.{Roomy, SidesAsks};
-ghost use Rattle.assignment.specs.Post.{BindAsks};
+ghost use Rattle.planner.specs.Entries.{readEntries};
+ghost use Rattle.assignment.specs.Assignment.{equalsSides, equalsPlanned, byOperator, assignmentOutcome, bindSide, colonEqualsFrom};
+ghost use Rattle.assignment.specs.code.Previewing.{GoodPairIn, WorkingSpace, SidesAsksIn};
+ghost use Rattle.assignment.specs.code.Binding.{BindAsks, opposedKinds, underscoreAt, underscoreSide, RightBoundIn, ColonEqualsIn};
 use crate::AssignOp;
 use crate::entries::deliver;
 use crate::entries::first_same_scope;
+use crate::flatten::flatten_assignment_pairs;
+use crate::preview::introduces_binding;
+use crate::preview::preview_binding_plan;
+use crate::preview::preview_sides;
 use checks::LiteralStructureCheck;
-use checks::utils::check_literal_structure;
-use pairs::flatten::flatten_assignment_pairs;
-use pairs::preview::introduces_binding;
-use pairs::preview::preview_binding_plan;
-use pairs::preview::preview_sides;
+use checks::inner::check_literal_structure;
 use planner::PlanAnswer;
 use planner::buffer::clear;
-use planner::context::is_sound;
 use planner::context::name_states;
-use planner::destructuring::plan_pattern;
+use planner::inner::destructuring::plan_pattern;
 use scope::Scope;
 use scope::ScopingMode;
 use table::NameClass;
+use table::TableAnswer;
 use table::check;
 use table::reading::first_of;
 use table::reading::is_node;
@@ -39,18 +34,8 @@ use table::reading::kind_of;
 use table::reading::name_class;
 
 // An array against an object (ensure_structural_compatibility).
-fn incompatible(
-    nodes: &[u32],
-    children: &[u32],
-    numbers: &[u64],
-    names: &[u32],
-    strings: &[u8],
-    text: &[u8],
-    a: u32,
-    b: u32,
-) -> bool
-    requires { ⌜ GoodPair (tables (now nodes) (now children) (now numbers) (now names) (now strings) (now text)) a b ⌝ }
-    ensures { λ r. ⌜ r ≡ opposed (shapeOf (expr (tables (now (nodes .entry)) (now (children .entry)) (now (numbers .entry)) (now (names .entry)) (now (strings .entry)) (now (text .entry))) a)) (shapeOf (expr (tables (now (nodes .entry)) (now (children .entry)) (now (numbers .entry)) (now (names .entry)) (now (strings .entry)) (now (text .entry))) b)) ⌝ }
+fn incompatible(nodes: &[u32], a: u32, b: u32) -> bool
+    ensures { λ r. ⌜ r ≡ opposedKinds (kindOf (old nodes) a) (kindOf (old nodes) b) ⌝ }
 {
     let left = kind_of(nodes, a);
     let right = kind_of(nodes, b);
@@ -78,19 +63,10 @@ fn bind_side(
     count: usize,
     plan: &mut [u32],
 ) -> PlanAnswer
-    requires { ⌜ BindAsks (tables (now nodes) (now children) (now numbers) (now names) (now strings) (now text)) binding value (now scratch) count ⌝ }
-    ensures { λ r. ⌜ Answered (bindSide (tables (now (nodes .entry)) (now (children .entry)) (now (numbers .entry)) (now (names .entry)) (now (strings .entry)) (now (text .entry))) form binding value (structureBy (expr (tables (now (nodes .entry)) (now (children .entry)) (now (numbers .entry)) (now (names .entry)) (now (strings .entry)) (now (text .entry))) value) (expr (tables (now (nodes .entry)) (now (children .entry)) (now (numbers .entry)) (now (names .entry)) (now (strings .entry)) (now (text .entry))) binding)) (readEntries (now (scratch .entry)) 0 count)) (now (plan .entry)) (now (plan .exit)) r ⌝ }
+    requires { ⌜ BindAsks (given nodes children numbers names strings text) binding value (now scratch) count ⌝ }
+    ensures { λ r. ⌜ AnsweredIn plan (bindSide (lent nodes children numbers names strings text) form binding value (readEntries (old scratch) 0 count)) r ⌝ }
 {
-    if incompatible(
-        nodes,
-        children,
-        numbers,
-        names,
-        strings,
-        text,
-        binding,
-        value,
-    ) {
+    if incompatible(nodes, binding, value) {
         clear(plan);
         return PlanAnswer::IncompatibleDestructuringPatterns { side: binding };
     }
@@ -128,7 +104,7 @@ fn bind_side(
 
 // No entries: an equality check or a wildcard.
 fn deliver_none(plan: &mut [u32], form: u32, side: u32) -> PlanAnswer
-    ensures { λ r. ⌜ Answered (planned form side []) (now (plan .entry)) (now (plan .exit)) r ⌝ }
+    ensures { λ r. ⌜ AnsweredIn plan (planned form side []) r ⌝ }
 {
     clear(plan);
     PlanAnswer::Planned {
@@ -153,8 +129,8 @@ fn colon_equals_from(
     count: usize,
     plan: &mut [u32],
 ) -> PlanAnswer
-    requires { ⌜ BindAsks (tables (now nodes) (now children) (now numbers) (now names) (now strings) (now text)) left right (now scratch) count ⌝ }
-    ensures { λ r. ⌜ Answered (colonEqualsFrom (tables (now (nodes .entry)) (now (children .entry)) (now (numbers .entry)) (now (names .entry)) (now (strings .entry)) (now (text .entry))) scope left right (structureBy (expr (tables (now (nodes .entry)) (now (children .entry)) (now (numbers .entry)) (now (names .entry)) (now (strings .entry)) (now (text .entry))) right) (expr (tables (now (nodes .entry)) (now (children .entry)) (now (numbers .entry)) (now (names .entry)) (now (strings .entry)) (now (text .entry))) left)) (readEntries (now (scratch .entry)) 0 count)) (now (plan .entry)) (now (plan .exit)) r ⌝ }
+    requires { ⌜ BindAsks (given nodes children numbers names strings text) left right (now scratch) count ⌝ }
+    ensures { λ r. ⌜ AnsweredIn plan (colonEqualsFrom (lent nodes children numbers names strings text) scope left right (readEntries (old scratch) 0 count)) r ⌝ }
 {
     if !introduces_binding(scratch, count) {
         clear(plan);
@@ -195,8 +171,8 @@ fn colon_equals_in(
     scratch: &mut [u32],
     plan: &mut [u32],
 ) -> PlanAnswer
-    requires { ⌜ GoodPair (tables (now nodes) (now children) (now numbers) (now names) (now strings) (now text)) left right × Roomy (tables (now nodes) (now children) (now numbers) (now names) (now strings) (now text)) (now scratch) ⌝ }
-    ensures { λ r. ⌜ Answered (colonEqualsPlanned (tables (now (nodes .entry)) (now (children .entry)) (now (numbers .entry)) (now (names .entry)) (now (strings .entry)) (now (text .entry))) scope left right) (now (plan .entry)) (now (plan .exit)) r ⌝ }
+    requires { ⌜ GoodPairIn scratch (given nodes children numbers names strings text) left right ⌝ }
+    ensures { λ r. ⌜ ColonEqualsIn plan scratch (lent nodes children numbers names strings text) scope left right r ⌝ }
 {
     let mut binders = [0u32; 128];
     let count = plan_pattern(
@@ -229,17 +205,8 @@ fn colon_equals_in(
     )
 }
 
-fn is_underscore(
-    nodes: &[u32],
-    children: &[u32],
-    numbers: &[u64],
-    names: &[u32],
-    strings: &[u8],
-    text: &[u8],
-    node: u32,
-) -> bool
-    requires { ⌜ GoodRoot (tables (now nodes) (now children) (now numbers) (now names) (now strings) (now text)) node ⌝ }
-    ensures { λ r. ⌜ r ≡ isUnderscore (expr (tables (now (nodes .entry)) (now (children .entry)) (now (numbers .entry)) (now (names .entry)) (now (strings .entry)) (now (text .entry))) node) ⌝ }
+fn is_underscore(nodes: &[u32], names: &[u32], text: &[u8], node: u32) -> bool
+    ensures { λ r. ⌜ r ≡ underscoreAt (old nodes) (old names) (old text) node ⌝ }
 {
     let kind = kind_of(nodes, node);
     if kind == 6 {
@@ -254,21 +221,11 @@ fn is_underscore(
 }
 
 // 1 where the left is `_`, 2 the right, 3 both, 0 neither.
-fn wildcard_side(
-    nodes: &[u32],
-    children: &[u32],
-    numbers: &[u64],
-    names: &[u32],
-    strings: &[u8],
-    text: &[u8],
-    left: u32,
-    right: u32,
-) -> u32
-    requires { ⌜ GoodPair (tables (now nodes) (now children) (now numbers) (now names) (now strings) (now text)) left right ⌝ }
-    ensures { λ r. ⌜ r ≡ sideOf (tables (now (nodes .entry)) (now (children .entry)) (now (numbers .entry)) (now (names .entry)) (now (strings .entry)) (now (text .entry))) left right ⌝ }
+fn wildcard_side(nodes: &[u32], names: &[u32], text: &[u8], left: u32, right: u32) -> u32
+    ensures { λ r. ⌜ r ≡ underscoreSide (old nodes) (old names) (old text) left right ⌝ }
 {
-    let at_left = is_underscore(nodes, children, numbers, names, strings, text, left);
-    let at_right = is_underscore(nodes, children, numbers, names, strings, text, right);
+    let at_left = is_underscore(nodes, names, text, left);
+    let at_right = is_underscore(nodes, names, text, right);
     if at_left {
         if at_right {
             return 3;
@@ -296,8 +253,8 @@ fn bind_right(
     scratch: &mut [u32],
     plan: &mut [u32],
 ) -> PlanAnswer
-    requires { ⌜ SidesAsks (tables (now nodes) (now children) (now numbers) (now names) (now strings) (now text)) (now states) left right × Roomy (tables (now nodes) (now children) (now numbers) (now names) (now strings) (now text)) (now scratch) ⌝ }
-    ensures { λ r. ⌜ Answered (bindSide (tables (now (nodes .entry)) (now (children .entry)) (now (numbers .entry)) (now (names .entry)) (now (strings .entry)) (now (text .entry))) 3 right left (structureBy (expr (tables (now (nodes .entry)) (now (children .entry)) (now (numbers .entry)) (now (names .entry)) (now (strings .entry)) (now (text .entry))) left) (expr (tables (now (nodes .entry)) (now (children .entry)) (now (numbers .entry)) (now (names .entry)) (now (strings .entry)) (now (text .entry))) right)) (entries (Plan.plan (unboundIn (now (states .entry))) (expr (tables (now (nodes .entry)) (now (children .entry)) (now (numbers .entry)) (now (names .entry)) (now (strings .entry)) (now (text .entry))) right) []) 0)) (now (plan .entry)) (now (plan .exit)) r ⌝ }
+    requires { ⌜ SidesAsksIn scratch (given nodes children numbers names strings text) (now states) left right ⌝ }
+    ensures { λ r. ⌜ RightBoundIn plan scratch binders (lent nodes children numbers names strings text) (old states) left right r ⌝ }
 {
     let planned = preview_binding_plan(
         nodes,
@@ -341,8 +298,8 @@ fn equals_in(
     scratch: &mut [u32],
     plan: &mut [u32],
 ) -> PlanAnswer
-    requires { ⌜ GoodPair (tables (now nodes) (now children) (now numbers) (now names) (now strings) (now text)) left right × Roomy (tables (now nodes) (now children) (now numbers) (now names) (now strings) (now text)) (now scratch) ⌝ }
-    ensures { λ r. ⌜ Answered (equalsSides (tables (now (nodes .entry)) (now (children .entry)) (now (numbers .entry)) (now (names .entry)) (now (strings .entry)) (now (text .entry))) scope left right) (now (plan .entry)) (now (plan .exit)) r ⌝ }
+    requires { ⌜ GoodPairIn scratch (given nodes children numbers names strings text) left right ⌝ }
+    ensures { λ r. ⌜ AnsweredIn plan (equalsSides (lent nodes children numbers names strings text) scope left right) r × WorkingSpace scratch ⌝ }
 {
     let states = name_states(names, text, scope, ScopingMode::RespectParent);
     let mut binders = [0u32; 128];
@@ -425,10 +382,10 @@ fn plan_equals(
     scratch: &mut [u32],
     plan: &mut [u32],
 ) -> PlanAnswer
-    requires { ⌜ GoodPair (tables (now nodes) (now children) (now numbers) (now names) (now strings) (now text)) left right × Roomy (tables (now nodes) (now children) (now numbers) (now names) (now strings) (now text)) (now scratch) ⌝ }
-    ensures { λ r. ⌜ Answered (equalsPlanned (tables (now (nodes .entry)) (now (children .entry)) (now (numbers .entry)) (now (names .entry)) (now (strings .entry)) (now (text .entry))) scope left right) (now (plan .entry)) (now (plan .exit)) r ⌝ }
+    requires { ⌜ GoodPairIn scratch (given nodes children numbers names strings text) left right ⌝ }
+    ensures { λ r. ⌜ AnsweredIn plan (equalsPlanned (lent nodes children numbers names strings text) scope left right) r × WorkingSpace scratch ⌝ }
 {
-    let side = wildcard_side(nodes, children, numbers, names, strings, text, left, right);
+    let side = wildcard_side(nodes, names, text, left, right);
     if side != 0 {
         return deliver_none(plan, 6, side);
     }
@@ -462,8 +419,8 @@ fn plan_assignment_in(
     scratch: &mut [u32],
     plan: &mut [u32],
 ) -> PlanAnswer
-    requires { ⌜ GoodPair (tables (now nodes) (now children) (now numbers) (now names) (now strings) (now text)) left right × Roomy (tables (now nodes) (now children) (now numbers) (now names) (now strings) (now text)) (now scratch) ⌝ }
-    ensures { λ r. ⌜ Answered (byOperator op (tables (now (nodes .entry)) (now (children .entry)) (now (numbers .entry)) (now (names .entry)) (now (strings .entry)) (now (text .entry))) scope left right) (now (plan .entry)) (now (plan .exit)) r ⌝ }
+    requires { ⌜ GoodPairIn scratch (given nodes children numbers names strings text) left right ⌝ }
+    ensures { λ r. ⌜ AnsweredIn plan (byOperator op (lent nodes children numbers names strings text) scope left right) r × WorkingSpace scratch ⌝ }
 {
     match op {
         AssignOp::ColEq => colon_equals_in(
@@ -509,8 +466,8 @@ fn plan_assignment(
     right: u32,
     plan: &mut [u32],
 ) -> PlanAnswer
-    requires { ⌜ GoodPair (tables (now nodes) (now children) (now numbers) (now names) (now strings) (now text)) left right ⌝ }
-    ensures { λ r. ⌜ Answered (byOperator op (tables (now (nodes .entry)) (now (children .entry)) (now (numbers .entry)) (now (names .entry)) (now (strings .entry)) (now (text .entry))) scope left right) (now (plan .entry)) (now (plan .exit)) r ⌝ }
+    requires { ⌜ GoodPair (given nodes children numbers names strings text) left right ⌝ }
+    ensures { λ r. ⌜ AnsweredIn plan (byOperator op (lent nodes children numbers names strings text) scope left right) r ⌝ }
 {
     if nodes.len() <= 320 {
         let mut scratch = [0u32; 256];
@@ -559,12 +516,12 @@ pub fn create_assignment_binding_plan(
     right: u32,
     plan: &mut [u32],
 ) -> PlanAnswer
-    ensures { λ r. ⌜ Answered (assignmentOutcome (tables (now (nodes .entry)) (now (children .entry)) (now (numbers .entry)) (now (names .entry)) (now (strings .entry)) (now (text .entry))) scope op left right) (now (plan .entry)) (now (plan .exit)) r ⌝ }
+    ensures { λ r. ⌜ AnsweredIn plan (assignmentOutcome (lent nodes children numbers names strings text) scope op left right) r ⌝ }
 {
     let checked = check(nodes, children, numbers, names, strings, text, scope);
-    if !is_sound(checked) {
+    if let TableAnswer::Refused(refused) = checked {
         clear(plan);
-        return PlanAnswer::TableRefused(checked);
+        return PlanAnswer::TableRefused(refused);
     }
     if !is_node(nodes, left) {
         clear(plan);

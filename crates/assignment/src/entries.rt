@@ -1,8 +1,9 @@
 // The entries of a scratch: delivered, and searched for names that this very scope has bound.
+ghost use Rattle.base.specs.Lent.{old};
 ghost use mathlib.Core.Path.{_≡_};
 ghost use Rattle.planner.specs.Entries.{readEntries};
-ghost use Rattle.planner.specs.Operations.{planned, Answered};
-ghost use Rattle.pairs.specs.Post.{ReadAsks};
+ghost use Rattle.planner.specs.Operations.{planned, AnsweredIn};
+ghost use Rattle.assignment.specs.code.Previewing.{ReadAsks};
 ghost use Rattle.assignment.specs.Assignment.{boundHere, firstSameScope};
 use planner::PlanAnswer;
 use planner::buffer::close;
@@ -13,7 +14,7 @@ use table::reading::first_of;
 
 // Does an entry bind a name that this very scope has bound?
 fn bound_here(nodes: &[u32], scope: Scope, kind: u32, node: u32) -> bool
-    ensures { λ r. ⌜ r ≡ boundHere (now (nodes .entry)) scope kind node ⌝ }
+    ensures { λ r. ⌜ r ≡ boundHere (old nodes) scope kind node ⌝ }
 {
     if kind == 1 {
         let binding = scope.has_same_scope_binding(first_of(nodes, node));
@@ -29,7 +30,7 @@ fn bound_here(nodes: &[u32], scope: Scope, kind: u32, node: u32) -> bool
 // The node of the first such entry, or 0.
 pub(crate) fn first_same_scope(nodes: &[u32], scope: Scope, scratch: &[u32], count: usize) -> u32
     requires { ⌜ ReadAsks (now scratch) count ⌝ }
-    ensures { λ r. ⌜ r ≡ firstSameScope (now (nodes .entry)) scope (readEntries (now (scratch .entry)) 0 count) ⌝ }
+    ensures { λ r. ⌜ r ≡ firstSameScope (old nodes) scope (readEntries (old scratch) 0 count) ⌝ }
 {
     let mut i: usize = 0;
     while i < count {
@@ -45,8 +46,8 @@ pub(crate) fn first_same_scope(nodes: &[u32], scope: Scope, scratch: &[u32], cou
 // The first entries of the scratch in the lent buffer.
 pub(crate) fn deliver(plan: &mut [u32], scratch: &[u32], form: u32, count: usize) -> PlanAnswer
     requires { ⌜ ReadAsks (now scratch) count ⌝ }
-    ensures { λ r. ⌜ Answered (planned form 0 (readEntries (now (scratch .entry)) 0 count)) (now (plan .entry)) (now (plan .exit)) r ⌝ }
+    ensures { λ r. ⌜ AnsweredIn plan (planned form 0 (readEntries (old scratch) 0 count)) r ⌝ }
 {
-    let end = copy_entries(plan, 0, scratch, count);
-    close(plan, form, end)
+    copy_entries(plan, 0, scratch, count);
+    close(plan, form, count)
 }

@@ -16,8 +16,8 @@ use types.Run.{OneOf}
 use denote.Enum.Declared.{tagOf}
 use Rattle.table.specs.Tables.{Tables, kindOf, firstOf, countOf, width, childAt}
 use Rattle.table.specs.Expr.{Expr, literal, name, wildcard, array, set, object, other, count}
-use Rattle.table.specs.Decode.{expr, items, fields, literalAt, isWildcard, fieldsOf}
-use Rattle.table.specs.Sound.{Node, WellFormed}
+use Rattle.table.specs.Decode.{expr, fields, literalAt, isWildcard, fieldsOf}
+use Rattle.table.specs.code.Sound.{Node, WellFormed}
 use Rattle.table.proofs.trees.Trees.{expr-name, expr-array, expr-object, width-array, items-step, items-end, fields-step, fields-end, child-node, count-items}
 use Rattle.planner.specs.Layout.{Slot, FieldOrder, heldIn}
 use Rattle.planner.specs.code.Passes.{keyNode, valueNode}
@@ -28,10 +28,10 @@ use Rattle.planner.proofs.fields.Objects.{key-literal}
 use Rattle.checks.specs.declared.LiteralStructureCheck.{LiteralStructureCheck}
 use Rattle.checks.specs.declared.LiteralStructureCheck.the-variants.{Match, Unknown, ArrayMismatch, ObjectMismatch}
 use Rattle.checks.proofs.LiteralStructureCheck.{the-type}
-use Rattle.checks.specs.Structure.{andThen, held, partner, objectStructure, slotText, keyTexts, sortTexts, sameTexts}
+use Rattle.checks.specs.Structure.{andThen, held, partner, objectStructure, slotText, keyTexts, sortTexts, sameTexts, sameKeys, computedKeys, structure, structureAll, structureFields}
 use Rattle.planner.specs.Held.{isEmpty}
 use Rattle.planner.specs.code.Post.{GoodPair}
-use Rattle.checks.specs.PatternStructure.{structureBy, structureByAll, structureByFields, sameSize, ItemsAsk, ObjectsAsk, orderOfNode, patternsOf, KeysCompared, FieldsAsk, fieldsStructure, FieldAsks, fieldStructure, PartnerAsks, PartnerIs}
+use Rattle.checks.specs.code.Post.{itemsAt, ItemsAsk, ObjectsAsk, orderOfNode, patternsOf, KeysCompared, FieldsAsk, fieldsStructure, FieldAsks, fieldStructure, PartnerAsks, PartnerIs}
 use Rattle.checks.proofs.PatternObjects.{object-key, object-value, object-few, patterns-are}
 
 -- a part that does not match ends the check
@@ -59,8 +59,8 @@ shape (set n es) = 0
 shape (object n fs) = 9
 shape (other n) = 0
 
-unlike : (v p : Expr) → (shape v ≡ shape p → ⊥) → Unknown ≡ structureBy v p
-unfolding shape structureBy
+unlike : (v p : Expr) → (shape v ≡ shape p → ⊥) → Unknown ≡ structure v p
+unfolding shape structure
 unlike (literal n l) p d = refl
 unlike (name n x) p d = refl
 unlike (wildcard n) p d = refl
@@ -81,8 +81,8 @@ unlike (object n fs) (object m gs) d = absurd (d refl)
 unlike (object n fs) (other m) d = refl
 unlike (other n) p d = refl
 
-leaf-unknown : (v p : Expr) → shape v ≡ 0 → Unknown ≡ structureBy v p
-unfolding shape structureBy
+leaf-unknown : (v p : Expr) → shape v ≡ 0 → Unknown ≡ structure v p
+unfolding shape structure
 leaf-unknown (literal n l) p e = refl
 leaf-unknown (name n x) p e = refl
 leaf-unknown (wildcard n) p e = refl
@@ -124,10 +124,10 @@ module _ (T : Tables) (w : WellFormed T) (n : ℕ) (v : Node T n) where
       go false p false q = absurd (some (sym e ∙ shape-leaf (eqb-false _ _ p) (eqb-false _ _ q)))
 
 module _ {T : Tables} {pattern value : ℕ} (a : GoodPair T pattern value) {kind other-kind : ℕ} (is-kind : kind ≡ kindOf (T .nodes) value) (is-other : other-kind ≡ kindOf (T .nodes) pattern) where
-  pub kinds-differ : (other-kind ≡ kind → ⊥) → Unknown ≡ structureBy (expr T value) (expr T pattern)
+  pub kinds-differ : (other-kind ≡ kind → ⊥) → Unknown ≡ structure (expr T value) (expr T pattern)
   kinds-differ d = go (eqb (shape (expr T value)) 0) refl
     where
-      go : (b : Bool) → eqb (shape (expr T value)) 0 ≡ b → Unknown ≡ structureBy (expr T value) (expr T pattern)
+      go : (b : Bool) → eqb (shape (expr T value)) 0 ≡ b → Unknown ≡ structure (expr T value) (expr T pattern)
       go true p = leaf-unknown (expr T value) (expr T pattern) (eqb-true _ _ p)
       go false p =
           let some = eqb-false _ _ p in
@@ -135,7 +135,7 @@ module _ {T : Tables} {pattern value : ℕ} (a : GoodPair T pattern value) {kind
           ∙ (kind-of-shape T (a .table) pattern (a .first) (shape (expr T value)) (sym e) some
           ∙ (sym (kind-of-shape T (a .table) value (a .second) (shape (expr T value)) refl some) ∙ sym is-kind))))
 
-  pub kinds-plain : (kind ≡ 7 → ⊥) → (kind ≡ 9 → ⊥) → Unknown ≡ structureBy (expr T value) (expr T pattern)
+  pub kinds-plain : (kind ≡ 7 → ⊥) → (kind ≡ 9 → ⊥) → Unknown ≡ structure (expr T value) (expr T pattern)
   kinds-plain not-7 not-9 = leaf-unknown (expr T value) (expr T pattern) (shape-leaf T (a .table) value (a .second) (λ e. not-7 (is-kind ∙ e)) (λ e. not-9 (is-kind ∙ e)))
 
   module _ (alike : other-kind ≡ kind) where
@@ -149,8 +149,8 @@ module _ {T : Tables} {pattern value : ℕ} (a : GoodPair T pattern value) {kind
       value-array : kindOf (T .nodes) value ≡ 7
       value-array = sym is-kind ∙ k
 
-      arrays : structureBy (expr T value) (expr T pattern) ≡ sameSize value expected actual (structureByAll (items (expr T) (T .children) (firstOf (T .nodes) value) actual) (items (expr T) (T .children) (firstOf (T .nodes) pattern) expected))
-      unfolding structureBy
+      arrays : structure (expr T value) (expr T pattern) ≡ cond (eqb actual expected) (structureAll (itemsAt T (firstOf (T .nodes) value) actual) (itemsAt T (firstOf (T .nodes) pattern) expected)) (ArrayMismatch value expected actual)
+      unfolding structure
       arrays =
           let p = expr-array T (a .table) pattern (a .first) pattern-array in
           let v = expr-array T (a .table) value (a .second) value-array in
@@ -158,7 +158,7 @@ module _ {T : Tables} {pattern value : ℕ} (a : GoodPair T pattern value) {kind
           let d = count-items (expr T) (T .children) (firstOf (T .nodes) value) actual in
           rw (p, v, ← is-expected, ← is-actual, c, d)
 
-      pub arrays-mismatch : (actual ≡ expected → ⊥) → ArrayMismatch value expected actual ≡ structureBy (expr T value) (expr T pattern)
+      pub arrays-mismatch : (actual ≡ expected → ⊥) → ArrayMismatch value expected actual ≡ structure (expr T value) (expr T pattern)
       arrays-mismatch d = sym (arrays ∙ simp (ne-eqb actual expected d))
 
       module _ (even : actual ≡ expected) {at place : ℕ} (is-at : at ≡ firstOf (T .nodes) pattern) (is-place : place ≡ firstOf (T .nodes) value) where
@@ -186,7 +186,7 @@ module _ {T : Tables} {pattern value : ℕ} (a : GoodPair T pattern value) {kind
               small = (omega arith, omega arith);
             }
 
-        pub arrays-done : {r : LiteralStructureCheck} → r ≡ structureByAll (items (expr T) (T .children) place actual) (items (expr T) (T .children) at actual) → r ≡ structureBy (expr T value) (expr T pattern)
+        pub arrays-done : {r : LiteralStructureCheck} → r ≡ structureAll (itemsAt T place actual) (itemsAt T at actual) → r ≡ structure (expr T value) (expr T pattern)
         arrays-done e =
             let q = eq-eqb actual expected even in
             (rw (is-at, is-place) at e) ∙ sym (arrays ∙ rw (q, even))
@@ -195,8 +195,8 @@ module _ {T : Tables} {pattern value : ℕ} (a : GoodPair T pattern value) {kind
 pub record CheckingItems (T : Tables) (value at place left i : ℕ) : Type 0 where
   pub asks : ItemsAsk T value at place left
   pub inside : i ≤ left
-  pub same : structureByAll (items (expr T) (T .children) (place + i) (left - i)) (items (expr T) (T .children) (at + i) (left - i))
-      ≡ structureByAll (items (expr T) (T .children) place left) (items (expr T) (T .children) at left)
+  pub same : structureAll (itemsAt T (place + i) (left - i)) (itemsAt T (at + i) (left - i))
+      ≡ structureAll (itemsAt T place left) (itemsAt T at left)
 
 pub items-start : {T : Tables} {value at place left : ℕ} → ItemsAsk T value at place left → CheckingItems T value at place left 0
 items-start {T} {value} {at} {place} {left} a =
@@ -226,10 +226,10 @@ module _ {T : Tables} {value at place left i : ℕ} (s : CheckingItems T value a
     pub items-below : item < value
     items-below = rw is-item (s .asks .values i lt .1)
 
-    module _ {check : LiteralStructureCheck} (is-check : check ≡ structureBy (expr T item) (expr T pattern)) where
-      step : andThen check (structureByAll (items (expr T) (T .children) (place + (i + 1)) (left - (i + 1))) (items (expr T) (T .children) (at + (i + 1)) (left - (i + 1))))
-          ≡ structureByAll (items (expr T) (T .children) place left) (items (expr T) (T .children) at left)
-      unfolding structureBy
+    module _ {check : LiteralStructureCheck} (is-check : check ≡ structure (expr T item) (expr T pattern)) where
+      step : andThen check (structureAll (itemsAt T (place + (i + 1)) (left - (i + 1))) (itemsAt T (at + (i + 1)) (left - (i + 1))))
+          ≡ structureAll (itemsAt T place left) (itemsAt T at left)
+      unfolding structure
       step =
           let x : place + (i + 1) ≡ place + i + 1 = omega arith in
           let y : at + (i + 1) ≡ at + i + 1 = omega arith in
@@ -241,11 +241,11 @@ module _ {T : Tables} {value at place left i : ℕ} (s : CheckingItems T value a
       pub items-on : check ≡ Match → CheckingItems T value at place left (i + 1)
       items-on e = record { asks = s .asks; inside = omega arith; same = rw e at step }
 
-      pub items-stop : Ends check → check ≡ structureByAll (items (expr T) (T .children) place left) (items (expr T) (T .children) at left)
+      pub items-stop : Ends check → check ≡ structureAll (itemsAt T place left) (itemsAt T at left)
       items-stop e = ended check _ e ∙ step
 
-  pub items-done : left ≤ i → Match ≡ structureByAll (items (expr T) (T .children) place left) (items (expr T) (T .children) at left)
-  unfolding structureBy
+  pub items-done : left ≤ i → Match ≡ structureAll (itemsAt T place left) (itemsAt T at left)
+  unfolding structure
   items-done le =
       let v = items-end (expr T) (T .children) (place + i) (left - i) (omega arith) in
       sym (rw v) ∙ s .same
@@ -289,14 +289,14 @@ module _ {T : Tables} {pattern value : ℕ} (a : ObjectsAsk T pattern value) {or
   last-match le = let c = computed-length in empty-none (patternsOf T pattern .computed) (omega arith)
 
 module _ {T : Tables} {pattern value : ℕ} (a : ObjectsAsk T pattern value) {order : List ℕ} {literals total : ℕ} {same : Bool} (k : KeysCompared T pattern value order literals total same) where
-  objects : structureBy (expr T value) (expr T pattern) ≡ objectStructure value pattern (patternsOf T pattern) (fieldsOf T value) (structureByFields (fieldsOf T value) (patternsOf T pattern .literals))
-  unfolding structureBy
+  objects : structure (expr T value) (expr T pattern) ≡ objectStructure value pattern (fieldsOf T value) (patternsOf T pattern) (structureFields (fieldsOf T value) (patternsOf T pattern .literals))
+  unfolding structure
   objects =
       let p = expr-object T (a .pair .table) pattern (a .pair .first) (a .pattern-object) in
       let v = expr-object T (a .pair .table) value (a .pair .second) (a .value-object) in
       rw (p, v)
 
-  pub objects-empty : total ≡ 0 → Match ≡ structureBy (expr T value) (expr T pattern)
+  pub objects-empty : total ≡ 0 → Match ≡ structure (expr T value) (expr T pattern)
   objects-empty z =
       let c = computed-length a (k .ordered) in
       let l = literals-length a (k .ordered) in
@@ -304,7 +304,7 @@ module _ {T : Tables} {pattern value : ℕ} (a : ObjectsAsk T pattern value) {or
       let y = empty-none (patternsOf T pattern .computed) (omega arith) in
       sym (objects ∙ rw (x, y))
 
-  pub objects-unknown : (total ≡ 0 → ⊥) → literals ≡ 0 → Unknown ≡ structureBy (expr T value) (expr T pattern)
+  pub objects-unknown : (total ≡ 0 → ⊥) → literals ≡ 0 → Unknown ≡ structure (expr T value) (expr T pattern)
   objects-unknown d z =
       let c = computed-length a (k .ordered) in
       let l = literals-length a (k .ordered) in
@@ -316,19 +316,19 @@ module _ {T : Tables} {pattern value : ℕ} (a : ObjectsAsk T pattern value) {or
   ask-fields = record { objects = a; ordered = k .ordered; few = k .few }
 
   module _ (some : literals ≡ 0 → ⊥) where
-    keys-held : structureBy (expr T value) (expr T pattern) ≡ cond same (fieldsStructure T pattern value) (ObjectMismatch value pattern)
+    keys-held : structure (expr T value) (expr T pattern) ≡ cond same (fieldsStructure T pattern value) (ObjectMismatch value pattern)
     keys-held =
         let l = literals-length a (k .ordered) in
         let x = empty-some (patternsOf T pattern .literals) (λ e. some (omega arith)) in
         let slots = ap (λ (o : FieldOrder Expr). map slotText (o .literals)) (patterns-are T (a .pair .table) pattern (a .pair .first) (a .pattern-object)) ∙ texts-mapped _ (orderOfNode T pattern .literals) in
-        let e : sameTexts (sortTexts (map slotText (patternsOf T pattern .literals))) (sortTexts (keyTexts (fieldsOf T value))) ≡ same =
+        let e : sameKeys (patternsOf T pattern .literals) (fieldsOf T value) ≡ same =
         ap (λ (ts : List (List ℕ)). sameTexts (sortTexts ts) (sortTexts (keyTexts (fieldsOf T value)))) slots ∙ sym (k .same-texts) in
         objects ∙ rw (x, e)
 
-    pub objects-fields : same ≡ true → {r : LiteralStructureCheck} → r ≡ fieldsStructure T pattern value → r ≡ structureBy (expr T value) (expr T pattern)
+    pub objects-fields : same ≡ true → {r : LiteralStructureCheck} → r ≡ fieldsStructure T pattern value → r ≡ structure (expr T value) (expr T pattern)
     objects-fields t e = e ∙ sym (keys-held ∙ ap (λ (b : Bool). cond b (fieldsStructure T pattern value) (ObjectMismatch value pattern)) t)
 
-    pub objects-differ : same ≡ false → ObjectMismatch value pattern ≡ structureBy (expr T value) (expr T pattern)
+    pub objects-differ : same ≡ false → ObjectMismatch value pattern ≡ structure (expr T value) (expr T pattern)
     objects-differ f = sym (keys-held ∙ ap (λ (b : Bool). cond b (fieldsStructure T pattern value) (ObjectMismatch value pattern)) f)
 
 -- the value's fields in turn
@@ -337,7 +337,7 @@ pub record CheckingFields (T : Tables) (pattern value : ℕ) (order : List ℕ) 
   pub sized : count ≡ countOf (T .nodes) value
   pub inside : i ≤ count
   pub few : count ≤ 256
-  pub same : structureByFields (fields (expr T) (T .children) (firstOf (T .nodes) value + i * 2) (count - i)) (patternsOf T pattern .literals) ≡ structureByFields (fieldsOf T value) (patternsOf T pattern .literals)
+  pub same : structureFields (fields (expr T) (T .children) (firstOf (T .nodes) value + i * 2) (count - i)) (patternsOf T pattern .literals) ≡ structureFields (fieldsOf T value) (patternsOf T pattern .literals)
 
 pub fields-start : {T : Tables} {pattern value : ℕ} {order : List ℕ} {literals total count : ℕ} → FieldsAsk T pattern value order literals total → count ≡ countOf (T .nodes) value
     → CheckingFields T pattern value order literals total count 0
@@ -352,9 +352,9 @@ module _ {T : Tables} {pattern value : ℕ} {order : List ℕ} {literals total c
   fields-field lt = let e = s .sized in record { total = total; asks = s .asks; inside = omega arith }
 
   module _ (lt : i < count) {check : LiteralStructureCheck} (is-check : check ≡ fieldStructure T pattern value i) where
-    field-step : andThen check (structureByFields (fields (expr T) (T .children) (firstOf (T .nodes) value + (i + 1) * 2) (count - (i + 1))) (patternsOf T pattern .literals))
-        ≡ structureByFields (fieldsOf T value) (patternsOf T pattern .literals)
-    unfolding structureBy
+    field-step : andThen check (structureFields (fields (expr T) (T .children) (firstOf (T .nodes) value + (i + 1) * 2) (count - (i + 1))) (patternsOf T pattern .literals))
+        ≡ structureFields (fieldsOf T value) (patternsOf T pattern .literals)
+    unfolding structure
     field-step =
         let c = s .sized in
         let x : firstOf (T .nodes) value + (i + 1) * 2 ≡ firstOf (T .nodes) value + i * 2 + 2 = omega arith in
@@ -368,7 +368,7 @@ module _ {T : Tables} {pattern value : ℕ} {order : List ℕ} {literals total c
     fields-on e = record { asks = s .asks; sized = s .sized; inside = omega arith; few = s .few; same = rw e at field-step }
 
     pub fields-stop : Ends check → check ≡ fieldsStructure T pattern value
-    fields-stop e = stops check (structureByFields (fields (expr T) (T .children) (firstOf (T .nodes) value + (i + 1) * 2) (count - (i + 1))) (patternsOf T pattern .literals)) _ e ∙ ap (λ (c : LiteralStructureCheck). andThen c (cond (isEmpty (patternsOf T pattern .computed)) Match Unknown)) field-step
+    fields-stop e = stops check (structureFields (fields (expr T) (T .children) (firstOf (T .nodes) value + (i + 1) * 2) (count - (i + 1))) (patternsOf T pattern .literals)) _ e ∙ ap (λ (c : LiteralStructureCheck). andThen c (computedKeys (patternsOf T pattern))) field-step
       where
         stops : (c rest last : LiteralStructureCheck) → Ends c → c ≡ andThen (andThen c rest) last
         stops Match rest last e = absurd (not-match e)
@@ -376,12 +376,12 @@ module _ {T : Tables} {pattern value : ℕ} {order : List ℕ} {literals total c
         stops (ArrayMismatch n a b) rest last e = refl
         stops (ObjectMismatch n m) rest last e = refl
 
-  fields-all : count ≤ i → fieldsStructure T pattern value ≡ cond (isEmpty (patternsOf T pattern .computed)) Match Unknown
-  unfolding structureBy
+  fields-all : count ≤ i → fieldsStructure T pattern value ≡ computedKeys (patternsOf T pattern)
+  unfolding structure
   fields-all le =
       let v = fields-end (expr T) (T .children) (firstOf (T .nodes) value + i * 2) (count - i) (omega arith) in
-      let e : Match ≡ structureByFields (fieldsOf T value) (patternsOf T pattern .literals) = sym (rw v) ∙ s .same in
-      sym (ap (λ (c : LiteralStructureCheck). andThen c (cond (isEmpty (patternsOf T pattern .computed)) Match Unknown)) e)
+      let e : Match ≡ structureFields (fieldsOf T value) (patternsOf T pattern .literals) = sym (rw v) ∙ s .same in
+      sym (ap (λ (c : LiteralStructureCheck). andThen c (computedKeys (patternsOf T pattern))) e)
 
   pub fields-unknown : count ≤ i → literals < total → Unknown ≡ fieldsStructure T pattern value
   fields-unknown le lt = let e = last-unknown (s .asks .objects) (s .asks .ordered) lt in sym (fields-all le ∙ rw e)
@@ -418,8 +418,8 @@ module _ {T : Tables} {pattern value : ℕ} {order : List ℕ} {literals i : ℕ
 
     module _ {other-node : ℕ} (is-partner : PartnerIs T (held (literalAt T key) (patternsOf T pattern .literals)) other-node) where
       held-there : {o : Option Expr} → held (literalAt T key) (patternsOf T pattern .literals) ≡ o
-          → partner o (structureBy (expr T (valueNode T (firstOf (T .nodes) value) i))) ≡ fieldStructure T pattern value i
-      held-there e = sym (ap (λ (o : Option Expr). partner o (structureBy (expr T (valueNode T (firstOf (T .nodes) value) i)))) (rw own-key at e))
+          → partner o (structure (expr T (valueNode T (firstOf (T .nodes) value) i))) ≡ fieldStructure T pattern value i
+      held-there e = sym (ap (λ (o : Option Expr). partner o (structure (expr T (valueNode T (firstOf (T .nodes) value) i)))) (rw own-key at e))
 
       pub field-alone : other-node ≡ 0 → Match ≡ fieldStructure T pattern value i
       field-alone z = held-there (is-partner .absent z)
@@ -441,8 +441,8 @@ module _ {T : Tables} {pattern value : ℕ} {order : List ℕ} {literals i : ℕ
         pub field-below : child < value
         field-below = rw own-child (here .1)
 
-        pub field-done : {r : LiteralStructureCheck} → r ≡ structureBy (expr T child) (expr T other-node) → r ≡ fieldStructure T pattern value i
-        field-done e = e ∙ (ap (λ (n : ℕ). structureBy (expr T n) (expr T other-node)) own-child ∙ held-there (is-partner .there some .1))
+        pub field-done : {r : LiteralStructureCheck} → r ≡ structure (expr T child) (expr T other-node) → r ≡ fieldStructure T pattern value i
+        field-done e = e ∙ (ap (λ (n : ℕ). structure (expr T n) (expr T other-node)) own-child ∙ held-there (is-partner .there some .1))
 
 -- the measures, by the value's node: of a pair, of two objects, of items or fields, of one field
 pub object-falls : {T : Tables} {pattern value t : ℕ} → GoodPair T pattern value → 4 * value ≡ t → 4 * value - 1 < t

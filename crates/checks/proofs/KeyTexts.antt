@@ -12,14 +12,14 @@ use Rattle.literal.specs.Order.{Order, less, same, more, bytesOrder}
 use Rattle.literal.proofs.Orders.{key-order}
 use Rattle.table.specs.Tables.{Tables}
 use Rattle.table.specs.Decode.{expr, fields}
-use Rattle.table.specs.Sound.{Node, WellFormed}
+use Rattle.table.specs.code.Sound.{Node, WellFormed}
 use Rattle.planner.specs.Layout.{Slot, FieldOrder, noFields, addField, heldIn, inOrder}
 use Rattle.planner.specs.code.Passes.{keyNode, fieldKey, orderFrom, orderOf}
 use Rattle.planner.specs.code.Post.{OrderedBy}
 use Rattle.planner.proofs.fields.FieldOrder.{AllSlots, Keyed, ordered-first}
 use Rattle.planner.proofs.fields.Objects.{key-literal, order-below, below-at}
 use Rattle.checks.specs.Structure.{slotText, textOr, keyTexts, before, insertText, sortTexts}
-use Rattle.checks.specs.Texts.{insertOr, textsFrom, orderedKey}
+use Rattle.checks.specs.code.Texts.{insertOr, textsFrom, orderedKey}
 
 -- the texts of literal keys by field numbers
 unfoldable textsBy : (ℕ → Option Literal) → List ℕ → List (List ℕ)

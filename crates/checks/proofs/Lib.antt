@@ -3,5 +3,5 @@ pub mod KeyTexts
 pub mod TextLoops
 pub mod PatternObjects
 pub mod Checks
-pub mod PlanStructure
 pub mod Refused
+pub mod ShortChecks

@@ -22,19 +22,19 @@ use Rattle.table.proofs.Key.{the-type as the-key}
 use Rattle.table.specs.Tables.{Tables, kindOf, firstOf, countOf, width, childAt}
 use Rattle.table.specs.Expr.{Expr}
 use Rattle.table.specs.Decode.{expr, fields, literalNode, literalAt, refOf}
-use Rattle.table.specs.Sound.{Node, WellFormed}
+use Rattle.table.specs.code.Sound.{Node, WellFormed}
 use Rattle.table.proofs.trees.Trees.{width-object, child-node}
 use Rattle.planner.specs.Layout.{Slot, FieldOrder, noFields, addField}
 use Rattle.planner.specs.code.Passes.{keyNode, valueNode, fieldKey, orderFrom, orderOf}
 use Rattle.planner.specs.code.Post.{OrderAsks, OrderedBy}
-use Rattle.planner.specs.code.Ordering.{Between, FindAsks, FoundBy}
+use Rattle.planner.specs.code.Ordering.{KeyBetween, FindAsks, FoundBy}
 use Rattle.planner.proofs.fields.FieldOrder.{mapSlot, mapOrder, add-map, blank, Ordered, place-held, to-slot, same-before, literals-first, ordered-first}
 use Rattle.planner.proofs.fields.FieldLoops.{ref-above}
 use Rattle.planner.proofs.fields.Objects.{key-literal}
 use Rattle.checks.specs.Structure.{slotText, held}
 use Rattle.planner.specs.Held.{valueOrder, heldUnder}
-use Rattle.checks.specs.Texts.{BothAsk, TextsCompared}
-use Rattle.checks.specs.PatternStructure.{ObjectsAsk, orderOfNode, patternsOf, KeysCompared, PartnerAsks, PartnerIs}
+use Rattle.checks.specs.code.Texts.{BothAsk, TextsCompared}
+use Rattle.checks.specs.code.Post.{ObjectsAsk, orderOfNode, patternsOf, KeysCompared, PartnerAsks, PartnerIs}
 use Rattle.checks.proofs.KeyTexts.{ordered-texts, field-below, written-texts}
 
 -- an object node's fields
@@ -102,8 +102,9 @@ module _ {T : Tables} {pattern value : ℕ} (a : ObjectsAsk T pattern value) {fi
     pub ask-both : BothAsk T first order total from size
     ask-both = record { pattern = record { count = count; asks = ask-order; by = by }; value = ask-value }
 
-    pub keys-compared : {literals all : ℕ} {agree : Bool} → TextsCompared T first order total from size literals agree → all ≡ total → KeysCompared T pattern value order literals all agree
-    keys-compared {literals} {all} {agree} t e =
+    pub keys-compared : {literals all : ℕ} {agree : Bool} → TextsCompared T first order total from size literals all agree → KeysCompared T pattern value order literals all agree
+    keys-compared {literals} {all} {agree} t =
+        let e = t .ordered in
         let o = ordered-texts by in
         let wt = written-texts T (a .pair .table) from size (ask-value .keys) in
         let counted : literals ≡ length (orderOf T first count .literals) = t .counted ∙ (ap length o ∙ length-map (orderOf T first count .literals) slotText) in
@@ -194,15 +195,12 @@ module _ {T : Tables} {pattern : ℕ} {order : List ℕ} {m key : ℕ} (a : Part
               there = λ d. absurd (d refl);
             }
           where
-            go : (l : Literal) → literalAt T key ≡ Option.some l → Between (fieldKey T first₀) (literalAt T key) order m place place → (q : ℕ) → q < m → (b : Bool) → leb place q ≡ b
+            go : (l : Literal) → literalAt T key ≡ Option.some l → KeyBetween (fieldKey T first₀) (literalAt T key) order m place place → (q : ℕ) → q < m → (b : Bool) → leb place q ≡ b
                 → isSame (keyOrder l (getD (orderOfNode T pattern .literals) q blank .at)) ≡ false
             go l e b q lt true h = ap isSame (to-slot in-order e less q lt (b .behind q (leb-true _ _ h) lt))
             go l e b q lt false h = ap isSame (to-slot in-order e more q lt (b .before q (leb-false _ _ h)))
 
         module _ (e : equal ≡ true) where
-          pub partner-place : place < 256
-          partner-place = let p = found .old e in let f = few-literals in omega (arith, p .0)
-
           module _ {j : ℕ} (is-field : j ≡ getD order place 0) where
             below : j < countOf (T .nodes) pattern
             below =

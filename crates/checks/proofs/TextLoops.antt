@@ -8,7 +8,8 @@ use mathlib.Core.Option as Option
 use native.Mathlib.Omega.{arith}
 use borrow.Author.Tests.{leb-true, leb-false, eq-eqb, ne-eqb}
 use lib.Dec.{leb}
-use lib.ListN.{length, getD, take}
+use lib.ListN.{length, getD, take, drop}
+use lib.Seq.{drop-drop}
 use mir.Syntax.{w64}
 use mir.Val.{Fits}
 use denote.Enum.Declared.{tagOf}
@@ -21,13 +22,15 @@ use Rattle.table.specs.declared.Key.the-variants.{Computed}
 use Rattle.table.proofs.Key.{the-type as the-key}
 use Rattle.table.specs.Tables.{Tables, tables, kindOf, childAt}
 use Rattle.table.specs.Decode.{literalNode, refOf}
-use Rattle.table.specs.Sound.{Node, WellFormed}
+use Rattle.table.specs.code.Sound.{Node, WellFormed}
 use Rattle.planner.specs.code.Passes.{keyNode, fieldKey}
-use Rattle.planner.specs.code.Ordering.{RoomAsks, moved}
+use Rattle.base.specs.code.Insertion.{moved}
 use Rattle.planner.specs.code.Post.{OrderAsks}
-use Rattle.planner.proofs.fields.FieldLoops.{moved-take, ref-above}
+use Rattle.base.proofs.Moving.{moved-take, moved-drop}
+use Rattle.base.proofs.Search.{between-start, between-up, between-down, between-ends}
+use Rattle.planner.proofs.fields.FieldLoops.{ref-above}
 use Rattle.checks.specs.Structure.{sortTexts}
-use Rattle.checks.specs.Texts.{isGreater, isEqual, literalsOf, KeysOf, textAt, TextAsks, TextPlace, AddKeyAsks, insertOr, KeyAdded, textsFrom, SortedKeys, orderedKey, OrderedAsks, agreeFrom, textsAgree, BothAsk, TextsCompared}
+use Rattle.checks.specs.code.Texts.{isGreater, isEqual, literalsOf, KeysOf, textAt, TextAsks, TextBetween, TextPlace, AddKeyAsks, insertOr, KeyAdded, textsFrom, SortedKeys, orderedKey, OrderedAsks, agreeFrom, textsAgree, BothAsk, TextsCompared}
 use Rattle.checks.proofs.TextOrder.{after, sort-ascending, after-before, after-behind, blankText, keys-length, compared-at, put-key, texts-agree}
 use Rattle.checks.proofs.KeyTexts.{field-below, sort-or, sort-length, texts-step, texts-none}
 
@@ -48,14 +51,11 @@ module _ (x y : Option Literal) {way : Comparison} (is : way ≡ textsCompared x
 -- the search for a text's place
 pub record Seeking (lit : ℕ → Option Literal) (keys : List ℕ) (size key low high : ℕ) : Type 0 where
   pub asks : TextAsks lit keys size key
-  pub spans : low ≤ high
-  pub inside : high ≤ size
   pub few : size ≤ 256
-  pub before : (q : ℕ) → q < low → isGreater (textAt lit key keys q) ≡ true
-  pub behind : (q : ℕ) → high ≤ q → q < size → isGreater (textAt lit key keys q) ≡ false
+  pub between : TextBetween lit keys key size low high
 
 pub seeking-start : {lit : ℕ → Option Literal} {keys : List ℕ} {size key : ℕ} → TextAsks lit keys size key → Seeking lit keys size key 0 size
-seeking-start a = record { asks = a; spans = omega arith; inside = omega arith; few = a .few; before = λ q lt. absurd (omega arith); behind = λ q le lt. absurd (omega arith) }
+seeking-start {size = size} a = record { asks = a; few = a .few; between = between-start _ _ size }
 
 module _ {lit : ℕ → Option Literal} {keys : List ℕ} {size key low high : ℕ} (s : Seeking lit keys size key low high) where
   texts : List (List ℕ)
@@ -70,44 +70,36 @@ module _ {lit : ℕ → Option Literal} {keys : List ℕ} {size key low high : �
     pub seeking-up : b ≡ true → Seeking lit keys size key (q + 1) high
     unfolding texts
     seeking-up e =
-        let n = s .inside in
+        let n = s .between .inside in
         let l = keys-length (s .asks .sorted) in
         record {
           asks = s .asks;
-          spans = omega arith;
-          inside = s .inside;
           few = s .few;
-          before = λ i h. at-text i (omega arith)
-              ∙ after-before blankText (keyText (s .asks .own)) texts (sort-ascending (s .asks .texts)) q (omega arith) (sym (at-text q (omega arith)) ∙ (sym is-b ∙ e)) i (omega arith);
-          behind = s .behind;
+          between = between-up (s .between) q (omega arith) (omega arith) (λ i h. at-text i (omega arith)
+              ∙ after-before blankText (keyText (s .asks .own)) texts (sort-ascending (s .asks .texts)) q (omega arith) (sym (at-text q (omega arith)) ∙ (sym is-b ∙ e)) i (omega arith));
         }
 
     pub seeking-down : b ≡ false → Seeking lit keys size key low q
     unfolding texts
     seeking-down e =
-        let n = s .inside in
+        let n = s .between .inside in
         let l = keys-length (s .asks .sorted) in
         record {
           asks = s .asks;
-          spans = omega arith;
-          inside = omega arith;
           few = s .few;
-          before = s .before;
-          behind = λ i le h. at-text i h
-              ∙ after-behind blankText (keyText (s .asks .own)) texts (sort-ascending (s .asks .texts)) q (omega arith) (sym (at-text q (omega arith)) ∙ (sym is-b ∙ e)) i le (omega arith);
+          between = between-down (s .between) q (omega arith) (omega arith) (λ i le h. at-text i h
+              ∙ after-behind blankText (keyText (s .asks .own)) texts (sort-ascending (s .asks .texts)) q (omega arith) (sym (at-text q (omega arith)) ∙ (sym is-b ∙ e)) i le (omega arith));
         }
 
   pub seeking-ends : high ≤ low → TextPlace lit keys size key low
-  seeking-ends le =
-      let n = s .spans in
-      let m = s .inside in
-      record { inside = omega arith; before = s .before; behind = λ q l h. s .behind q (omega arith) h }
+  seeking-ends le = record { place = between-ends (s .between) le }
+
+further-behind : (m n : ℕ) (l start : List ℕ) → m ≤ n → drop m l ≡ drop m start → drop n l ≡ drop n start
+further-behind m n l start le e =
+    let s : m + (n - m) ≡ n = omega arith in
+    rw s at (sym (drop-drop (n - m) m l) ∙ (ap (drop (n - m)) e ∙ drop-drop (n - m) m start))
 
 -- one key node more
-module _ {nodes : List ℕ} {lit : ℕ → Option Literal} {node : ℕ} {keys : List ℕ} {size : ℕ} (a : AddKeyAsks nodes lit node keys size) where
-  pub text-room : {place : ℕ} → TextPlace lit keys size node place → length keys ≡ 256 → RoomAsks keys place size
-  text-room p long = let f = a .few in record { inside = p .inside; room = omega arith }
-
 module _ (nodes numbers strings text : List ℕ) {node : ℕ} {keys : List ℕ} {size : ℕ} (a : AddKeyAsks nodes (literalNode nodes numbers strings text) node keys size) where
   module _ {key : Key} (is-key : key ≡ refOf nodes node) where
     pub added-none : key ≡ Computed → KeyAdded (literalNode nodes numbers strings text) node keys size keys size
@@ -116,7 +108,9 @@ module _ (nodes numbers strings text : List ℕ) {node : ℕ} {keys : List ℕ} 
         let n : literalNode nodes numbers strings text node ≡ Option.none = let r = sym is-key ∙ e in rw r in
         record {
           added = λ ts k. subst (λ (o : Option Literal). KeysOf (literalNode nodes numbers strings text) keys size (insertOr o ts)) (sym n) k;
+          more = omega arith;
           few = omega arith;
+          behind = refl;
         }
 
     found : tagOf the-key key ≡ 0 → (l : Literal) × (literalNode nodes numbers strings text node ≡ Option.some l)
@@ -139,9 +133,11 @@ module _ (nodes numbers strings text : List ℕ) {node : ℕ} {keys : List ℕ} 
           let f = a .few in
           record {
             added = λ ts k. subst (λ (o : Option Literal). KeysOf (literalNode nodes numbers strings text) later (size + 1) (insertOr o ts)) (sym (l .1))
-                (put-key k (l .1) place (p .inside) (p .before) (λ lt. p .behind place (omega arith) lt) later
-                (ap (take (size + 1)) is ∙ moved-take keys place size node (p .inside) (omega arith)));
+                (put-key k (l .1) place (p .place .inside) (p .place .before) (λ lt. p .place .behind place (omega arith) lt) later
+                (ap (take (size + 1)) is ∙ moved-take keys place size node (p .place .inside) (omega arith)));
+            more = omega arith;
             few = omega arith;
+            behind = ap (drop (size + 1)) is ∙ moved-drop keys place size node (p .place .inside) (omega arith);
           }
 
 -- sorting from the last key to the first
@@ -162,20 +158,21 @@ one-sorted {lit} key {n} {i} {keys} {size} k low high {node} is {later} {r} adde
 sound-key : (T : Tables) → WellFormed T → (node : ℕ) → Node T node → kindOf (T .nodes) node ≤ 5 → (l : Literal) × (literalsOf T node ≡ Option.some l)
 sound-key T w node v h = w .literals node v h
 
-pub record SortingWritten (T : Tables) (first count : ℕ) (keys : List ℕ) (size i : ℕ) : Type 0 where
+pub record SortingWritten (T : Tables) (first count : ℕ) (start keys : List ℕ) (size i : ℕ) : Type 0 where
   pub asks : OrderAsks T first count
   pub inside : i ≤ count
   pub few : first + count * 2 ≤ 512
   pub few-in : size + i ≤ count
   pub sorted : KeysOf (literalsOf T) keys size (sortTexts (textsFrom (fieldKey T first) i (count - i)))
+  pub behind : drop size keys ≡ drop size start
 
-pub written-start : {T : Tables} {first count : ℕ} → OrderAsks T first count → (keys : List ℕ) → SortingWritten T first count keys 0 count
+pub written-start : {T : Tables} {first count : ℕ} → OrderAsks T first count → (keys : List ℕ) → SortingWritten T first count keys keys 0 count
 written-start {T} {first} {count} a keys =
     let l = a .listed in
     let c = a .table .limits .children in
-    record { asks = a; inside = omega arith; few = omega arith; few-in = omega arith; sorted = none-sorted (literalsOf T) (fieldKey T first) count keys }
+    record { asks = a; inside = omega arith; few = omega arith; few-in = omega arith; sorted = none-sorted (literalsOf T) (fieldKey T first) count keys; behind = refl }
 
-module _ {T : Tables} {first count : ℕ} {keys : List ℕ} {size i : ℕ} (s : SortingWritten T first count keys size i) where
+module _ {T : Tables} {first count : ℕ} {start keys : List ℕ} {size i : ℕ} (s : SortingWritten T first count start keys size i) where
   module _ (more : 0 < i) {node : ℕ} (is-node : node ≡ childAt (T .children) (first + (i - 1) * 2)) where
     written-node : AddKeyAsks (T .nodes) (literalsOf T) node keys size
     written-node =
@@ -189,8 +186,8 @@ module _ {T : Tables} {first count : ℕ} {keys : List ℕ} {size i : ℕ} (s : 
           sound = sound-key T (s .asks .table) node (subst (Node T) (sym is-node) (s .asks .keys (i - 1) (omega arith)));
         }
 
-    pub written-on : {later : List ℕ} {r : ℕ} → KeyAdded (literalsOf T) node keys size later r → SortingWritten T first count later r (i - 1)
-    written-on k =
+    pub written-on : {later : List ℕ} {r : ℕ} → KeyAdded (literalsOf T) node keys size later r → SortingWritten T first count start later r (i - 1)
+    written-on {r = r} k =
         let n = s .inside in
         let g = s .few-in in
         let h = k .few in
@@ -200,31 +197,33 @@ module _ {T : Tables} {first count : ℕ} {keys : List ℕ} {size i : ℕ} (s : 
           few = s .few;
           few-in = omega arith;
           sorted = one-sorted (fieldKey T first) (s .sorted) more (s .inside) (ap (literalsOf T) is-node) k;
+          behind = k .behind ∙ further-behind size r keys start (k .more) (s .behind);
         }
 
-  pub written-ends : i ≤ 0 → SortedKeys T (fieldKey T first) count keys size
+  pub written-ends : i ≤ 0 → SortedKeys T (fieldKey T first) count start keys size
   written-ends le =
       let z : i ≡ 0 = omega arith in
       let y : count - 0 ≡ count = omega arith in
       let g = s .few-in in
-      record { sorted = rw y at (rw z at (s .sorted)); few = omega arith }
+      record { sorted = rw y at (rw z at (s .sorted)); few = omega arith; behind = s .behind }
 
-pub written-key : (nodes children numbers names strings text : List ℕ) {first count : ℕ} {keys : List ℕ} {size i node : ℕ} → SortingWritten (tables nodes children numbers names strings text) first count keys size i
+pub written-key : (nodes children numbers names strings text : List ℕ) {first count : ℕ} {start keys : List ℕ} {size i node : ℕ} → SortingWritten (tables nodes children numbers names strings text) first count start keys size i
     → 0 < i → node ≡ childAt children (first + (i - 1) * 2) → AddKeyAsks nodes (literalNode nodes numbers strings text) node keys size
 written-key nodes children numbers names strings text s more is-node = written-node s more is-node
 
-pub record SortingOrdered (T : Tables) (first : ℕ) (order : List ℕ) (total : ℕ) (keys : List ℕ) (size q : ℕ) : Type 0 where
+pub record SortingOrdered (T : Tables) (first : ℕ) (order : List ℕ) (total : ℕ) (start keys : List ℕ) (size q : ℕ) : Type 0 where
   pub asks : OrderedAsks T first order total
   pub inside : q ≤ total
   pub few : total ≤ 256
   pub few-in : size + q ≤ total
   pub sorted : KeysOf (literalsOf T) keys size (sortTexts (textsFrom (orderedKey T first order) q (total - q)))
+  pub behind : drop size keys ≡ drop size start
 
-pub ordered-start : {T : Tables} {first : ℕ} {order : List ℕ} {total : ℕ} → OrderedAsks T first order total → (keys : List ℕ) → SortingOrdered T first order total keys 0 total
+pub ordered-start : {T : Tables} {first : ℕ} {order : List ℕ} {total : ℕ} → OrderedAsks T first order total → (keys : List ℕ) → SortingOrdered T first order total keys keys 0 total
 ordered-start {T} {first} {order} {total} a keys =
-    record { asks = a; inside = omega arith; few = a .by .few; few-in = omega arith; sorted = none-sorted (literalsOf T) (orderedKey T first order) total keys }
+    record { asks = a; inside = omega arith; few = a .by .few; few-in = omega arith; sorted = none-sorted (literalsOf T) (orderedKey T first order) total keys; behind = refl }
 
-module _ {T : Tables} {first : ℕ} {order : List ℕ} {total : ℕ} {keys : List ℕ} {size q : ℕ} (s : SortingOrdered T first order total keys size q) (more : 0 < q) where
+module _ {T : Tables} {first : ℕ} {order : List ℕ} {total : ℕ} {start keys : List ℕ} {size q : ℕ} (s : SortingOrdered T first order total start keys size q) (more : 0 < q) where
   field : getD order (q - 1) 0 < s .asks .count
   field = let n = s .inside in field-below (s .asks .by) (q - 1) (omega arith)
 
@@ -234,9 +233,6 @@ module _ {T : Tables} {first : ℕ} {order : List ℕ} {total : ℕ} {keys : Lis
       let l = s .asks .asks .listed in
       let c = s .asks .asks .table .limits .children in
       omega arith
-
-  pub ordered-inside : q - 1 < 256
-  ordered-inside = let n = s .inside in let f = s .few in omega arith
 
   module _ {j : ℕ} (is-field : j ≡ getD order (q - 1) 0) where
     pub ordered-double : Fits w64 (j * 2)
@@ -261,9 +257,9 @@ module _ {T : Tables} {first : ℕ} {order : List ℕ} {total : ℕ} {keys : Lis
             sound = sound-key T (s .asks .asks .table) node (subst (Node T) (sym here) (s .asks .asks .keys (getD order (q - 1) 0) field));
           }
 
-      pub ordered-on : {later : List ℕ} {r : ℕ} → KeyAdded (literalsOf T) node keys size later r → SortingOrdered T first order total later r (q - 1)
+      pub ordered-on : {later : List ℕ} {r : ℕ} → KeyAdded (literalsOf T) node keys size later r → SortingOrdered T first order total start later r (q - 1)
       unfolding orderedKey
-      ordered-on k =
+      ordered-on {r = r} k =
           let n = s .inside in
           let g = s .few-in in
           let h = k .few in
@@ -273,19 +269,20 @@ module _ {T : Tables} {first : ℕ} {order : List ℕ} {total : ℕ} {keys : Lis
             few = s .few;
             few-in = omega arith;
             sorted = one-sorted (orderedKey T first order) (s .sorted) more (s .inside) (ap (literalsOf T) here) k;
+            behind = k .behind ∙ further-behind size r keys start (k .more) (s .behind);
           }
 
-pub ordered-key : (nodes children numbers names strings text : List ℕ) {first : ℕ} {order : List ℕ} {total : ℕ} {keys : List ℕ} {size q j node : ℕ} → SortingOrdered (tables nodes children numbers names strings text) first order total keys size q
+pub ordered-key : (nodes children numbers names strings text : List ℕ) {first : ℕ} {order : List ℕ} {total : ℕ} {start keys : List ℕ} {size q j node : ℕ} → SortingOrdered (tables nodes children numbers names strings text) first order total start keys size q
     → 0 < q → j ≡ getD order (q - 1) 0 → node ≡ childAt children (first + j * 2) → AddKeyAsks nodes (literalNode nodes numbers strings text) node keys size
 ordered-key nodes children numbers names strings text s more is-field is-node = ordered-node s more is-field is-node
 
-pub ordered-ends : {T : Tables} {first : ℕ} {order : List ℕ} {total : ℕ} {keys : List ℕ} {size q : ℕ} → SortingOrdered T first order total keys size q → q ≤ 0
-    → SortedKeys T (orderedKey T first order) total keys size
+pub ordered-ends : {T : Tables} {first : ℕ} {order : List ℕ} {total : ℕ} {start keys : List ℕ} {size q : ℕ} → SortingOrdered T first order total start keys size q → q ≤ 0
+    → SortedKeys T (orderedKey T first order) total start keys size
 ordered-ends {total = total} {q = q} s le =
     let z : q ≡ 0 = omega arith in
     let y : total - 0 ≡ total = omega arith in
     let g = s .few-in in
-    record { sorted = rw y at (rw z at (s .sorted)); few = omega arith }
+    record { sorted = rw y at (rw z at (s .sorted)); few = omega arith; behind = s .behind }
 
 -- two sorted arrays
 
@@ -328,14 +325,15 @@ module _ {lit : ℕ → Option Literal} {a : List ℕ} {m : ℕ} {b : List ℕ} 
 
 -- the keys of both objects
 
-pub few-keys : {T : Tables} {first : ℕ} {order : List ℕ} {total from size : ℕ} → BothAsk T first order total from size → {keys : List ℕ} {r : ℕ}
-    → SortedKeys T (orderedKey T first order) total keys r → r ≤ 256
+pub few-keys : {T : Tables} {first : ℕ} {order : List ℕ} {total from size : ℕ} → BothAsk T first order total from size → {before keys : List ℕ} {r : ℕ}
+    → SortedKeys T (orderedKey T first order) total before keys r → r ≤ 256
 few-keys asks s = let f = asks .pattern .by .few in let g = s .few in omega arith
 
-pub texts-compared : {T : Tables} {first : ℕ} {order : List ℕ} {total from size : ℕ} {a b : List ℕ} {literals others : ℕ} {same : Bool}
-    → SortedKeys T (orderedKey T first order) total a literals → SortedKeys T (fieldKey T from) size b others
-    → same ≡ textsAgree (literalsOf T) a literals b others → TextsCompared T first order total from size literals same
+pub texts-compared : {T : Tables} {first : ℕ} {order : List ℕ} {total from size : ℕ} {blank a other b : List ℕ} {literals others : ℕ} {same : Bool}
+    → SortedKeys T (orderedKey T first order) total blank a literals → SortedKeys T (fieldKey T from) size other b others
+    → same ≡ textsAgree (literalsOf T) a literals b others → TextsCompared T first order total from size literals total same
 texts-compared {T} {first} {order} {total} sa sb e = record {
+  ordered = refl;
   counted = keys-length (sa .sorted) ∙ sort-length (textsFrom (orderedKey T first order) 0 total);
   same-texts = e ∙ texts-agree (sa .sorted) (sb .sorted);
 }

@@ -17,7 +17,7 @@ use Rattle.literal.proofs.Orders.{bytes-order, never}
 use Rattle.table.specs.Names.{isSame, sameBytes}
 use Rattle.planner.proofs.fields.FieldOrder.{map-take, map-drop, drop-take}
 use Rattle.checks.specs.Structure.{before, insertText, sortTexts, sameTexts}
-use Rattle.checks.specs.Texts.{isGreater, isEqual, KeysOf, textAt, agreeFrom, textsAgree}
+use Rattle.checks.specs.code.Texts.{isGreater, isEqual, KeysOf, textAt, agreeFrom, textsAgree}
 
 -- does t come after u?
 abbrev pub after : List ℕ → List ℕ → Bool

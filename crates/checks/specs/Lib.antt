@@ -1,4 +1,3 @@
 pub mod Structure
 pub mod Refusals
-pub mod Texts
-pub mod PatternStructure
+pub mod code

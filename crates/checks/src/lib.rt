@@ -1,6 +1,6 @@
 // A pattern held against a literal expression (utils.rs).
+pub mod inner;
 mod texts;
-pub mod utils;
 
 // Mismatches carry the value node, then the two counts or the pattern object's node.
 pub enum LiteralStructureCheck {

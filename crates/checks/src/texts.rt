@@ -1,17 +1,18 @@
 // The literal keys of two objects, by their texts.
+ghost use Rattle.base.specs.Lent.{old, new};
+ghost use Rattle.table.specs.Lent.{given, lent};
 ghost use mathlib.Core.Path.{_≡_};
 ghost use Prim.Native.Nat.{_≤_};
 ghost use Rattle.literal.specs.Text.{textsCompared};
-ghost use Rattle.table.specs.Tables.{tables};
 ghost use Rattle.table.specs.Decode.{literalNode};
 ghost use Rattle.planner.specs.code.Passes.{fieldKey};
 ghost use Rattle.planner.specs.code.Post.{OrderAsks};
-ghost use Rattle.checks.specs.Texts.{isGreater, TextAsks, TextPlace, AddKeyAsks, KeyAdded, SortedKeys, orderedKey, OrderedAsks, textsAgree, BothAsk, TextsCompared};
-ghost use Rattle.checks.specs.PatternStructure.{ObjectsAsk, KeysCompared};
+ghost use Rattle.checks.specs.code.Texts.{isGreater, TextAsks, TextPlace, AddKeyAsks, KeyAdded, SortedKeys, orderedKey, OrderedAsks, textsAgree, BothAsk, TextsCompared};
+ghost use Rattle.checks.specs.code.Post.{ObjectsAsk, KeysCompared};
+use base::words::insert_at;
 use literal::Comparison;
 use planner::fields::field_at;
-use planner::fields::insert_at;
-use planner::fields::order_fields;
+use planner::inner::fields::order_fields;
 use table::Key;
 use table::reading::child_at;
 use table::reading::compare_key_texts;
@@ -28,7 +29,7 @@ pub struct Keys {
 
 // Does the text of one key come after that of another?
 fn comes_after(nodes: &[u32], numbers: &[u64], strings: &[u8], text: &[u8], a: u32, b: u32) -> bool
-    ensures { λ r. ⌜ r ≡ isGreater (textsCompared ((literalNode (now (nodes .entry)) (now (numbers .entry)) (now (strings .entry)) (now (text .entry))) a) ((literalNode (now (nodes .entry)) (now (numbers .entry)) (now (strings .entry)) (now (text .entry))) b)) ⌝ }
+    ensures { λ r. let literal = literalNode (old nodes) (old numbers) (old strings) (old text) in ⌜ r ≡ isGreater (textsCompared (literal a) (literal b)) ⌝ }
 {
     match compare_key_texts(nodes, numbers, strings, text, a, b) {
         Comparison::Greater => true,
@@ -49,7 +50,7 @@ fn find_text(
     key: u32,
 ) -> usize
     requires { ⌜ TextAsks (literalNode (now nodes) (now numbers) (now strings) (now text)) (now keys) size key ⌝ }
-    ensures { λ r. ⌜ TextPlace (literalNode (now (nodes .entry)) (now (numbers .entry)) (now (strings .entry)) (now (text .entry))) (now (keys .entry)) size key r ⌝ }
+    ensures { λ r. ⌜ TextPlace (literalNode (old nodes) (old numbers) (old strings) (old text)) (old keys) size key r ⌝ }
 {
     let mut low: usize = 0;
     let mut high = size;
@@ -75,7 +76,7 @@ fn add_key(
     size: usize,
 ) -> usize
     requires { ⌜ AddKeyAsks (now nodes) (literalNode (now nodes) (now numbers) (now strings) (now text)) key (now keys) size ⌝ }
-    ensures { λ r. ⌜ KeyAdded (literalNode (now (nodes .entry)) (now (numbers .entry)) (now (strings .entry)) (now (text .entry))) key (now (keys .entry)) size (now (keys .exit)) r ⌝ }
+    ensures { λ r. ⌜ KeyAdded (literalNode (old nodes) (old numbers) (old strings) (old text)) key (old keys) size (new keys) r ⌝ }
 {
     let Key::Literal(_) = extract_literal_key(nodes, key) else {
         return size;
@@ -98,8 +99,8 @@ fn sort_ordered(
     total: usize,
     keys: &mut [u32; 256],
 ) -> usize
-    requires { ⌜ OrderedAsks (tables (now nodes) (now children) (now numbers) (now names) (now strings) (now text)) first (now order) total ⌝ }
-    ensures { λ r. ⌜ SortedKeys (tables (now (nodes .entry)) (now (children .entry)) (now (numbers .entry)) (now (names .entry)) (now (strings .entry)) (now (text .entry))) (orderedKey (tables (now (nodes .entry)) (now (children .entry)) (now (numbers .entry)) (now (names .entry)) (now (strings .entry)) (now (text .entry))) first (now (order .entry))) total (now (keys .exit)) r ⌝ }
+    requires { ⌜ OrderedAsks (given nodes children numbers names strings text) first (now order) total ⌝ }
+    ensures { λ r. let T = lent nodes children numbers names strings text in ⌜ SortedKeys T (orderedKey T first (old order)) total (old keys) (new keys) r ⌝ }
 {
     let mut size: usize = 0;
     let mut q = total;
@@ -123,8 +124,8 @@ fn sort_written(
     count: usize,
     keys: &mut [u32; 256],
 ) -> usize
-    requires { ⌜ OrderAsks (tables (now nodes) (now children) (now numbers) (now names) (now strings) (now text)) first count ⌝ }
-    ensures { λ r. ⌜ SortedKeys (tables (now (nodes .entry)) (now (children .entry)) (now (numbers .entry)) (now (names .entry)) (now (strings .entry)) (now (text .entry))) (fieldKey (tables (now (nodes .entry)) (now (children .entry)) (now (numbers .entry)) (now (names .entry)) (now (strings .entry)) (now (text .entry))) first) count (now (keys .exit)) r ⌝ }
+    requires { ⌜ OrderAsks (given nodes children numbers names strings text) first count ⌝ }
+    ensures { λ r. let T = lent nodes children numbers names strings text in ⌜ SortedKeys T (fieldKey T first) count (old keys) (new keys) r ⌝ }
 {
     let mut size: usize = 0;
     let mut i = count;
@@ -148,7 +149,7 @@ fn same_texts(
     n: usize,
 ) -> bool
     requires { ⌜ m ≤ 256 ⌝ }
-    ensures { λ r. ⌜ r ≡ textsAgree (literalNode (now (nodes .entry)) (now (numbers .entry)) (now (strings .entry)) (now (text .entry))) (now (a .entry)) m (now (b .entry)) n ⌝ }
+    ensures { λ r. ⌜ r ≡ textsAgree (literalNode (old nodes) (old numbers) (old strings) (old text)) (old a) m (old b) n ⌝ }
 {
     if m != n {
         return false;
@@ -179,8 +180,8 @@ fn compare_texts(
     from: usize,
     size: usize,
 ) -> Keys
-    requires { ⌜ BothAsk (tables (now nodes) (now children) (now numbers) (now names) (now strings) (now text)) first (now order) total from size ⌝ }
-    ensures { λ r. ⌜ (TextsCompared (tables (now (nodes .entry)) (now (children .entry)) (now (numbers .entry)) (now (names .entry)) (now (strings .entry)) (now (text .entry))) first (now (order .entry)) total from size (r .literals) (r .same)) × (r .total ≡ total) ⌝ }
+    requires { ⌜ BothAsk (given nodes children numbers names strings text) first (now order) total from size ⌝ }
+    ensures { λ r. ⌜ TextsCompared (lent nodes children numbers names strings text) first (old order) total from size (r .literals) (r .total) (r .same) ⌝ }
 {
     let mut expected = [0u32; 256];
     let literals = sort_ordered(
@@ -236,8 +237,8 @@ pub(crate) fn compare_keys(
     value: u32,
     order: &mut [u32; 256],
 ) -> Keys
-    requires { ⌜ ObjectsAsk (tables (now nodes) (now children) (now numbers) (now names) (now strings) (now text)) pattern value ⌝ }
-    ensures { λ r. ⌜ KeysCompared (tables (now (nodes .entry)) (now (children .entry)) (now (numbers .entry)) (now (names .entry)) (now (strings .entry)) (now (text .entry))) pattern value (now (order .exit)) (r .literals) (r .total) (r .same) ⌝ }
+    requires { ⌜ ObjectsAsk (given nodes children numbers names strings text) pattern value ⌝ }
+    ensures { λ r. ⌜ KeysCompared (lent nodes children numbers names strings text) pattern value (new order) (r .literals) (r .total) (r .same) ⌝ }
 {
     let first = first_of(nodes, pattern) as usize;
     let count = count_of(nodes, pattern) as usize;

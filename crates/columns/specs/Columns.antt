@@ -5,7 +5,7 @@ use mathlib.Core.List.{List, [], _∷_, _++_}
 use lib.Dec.{eqb, leb, ltb}
 use lib.ListN.{length, getD, take, drop, replicate}
 use Rattle.literal.specs.Literal.{isNumber}
-use Rattle.literal.specs.Reading.{part}
+use Rattle.base.specs.Lists.{part}
 use Rattle.literal.specs.Text.{decimal, value, signed}
 use Rattle.columns.specs.declared.Column.{Column}
 use Rattle.columns.specs.declared.Column.the-variants as Column

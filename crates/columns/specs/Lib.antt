@@ -1,4 +1,3 @@
 pub mod Columns
 pub mod Laws
-pub mod Decimals
-pub mod Written
+pub mod code

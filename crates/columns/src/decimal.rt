@@ -1,7 +1,8 @@
 // Decimal forms.
+ghost use Rattle.base.specs.Lent.{old};
 ghost use mathlib.Core.Path.{_≡_};
 ghost use Rattle.columns.specs.Columns.{afterBlanks};
-ghost use Rattle.columns.specs.Decimals.{digitsNumber, readDecimal};
+ghost use Rattle.columns.specs.code.Decimals.{digitsNumber, readDecimal};
 
 // No number: not a decimal form without leading zeros, or one above 2^63.
 pub(crate) enum Decimal {
@@ -10,7 +11,7 @@ pub(crate) enum Decimal {
 }
 
 pub(crate) fn after_blanks(bytes: &[u8]) -> &[u8]
-    ensures { λ r. ⌜ now r ≡ afterBlanks (now (bytes .entry)) ⌝ }
+    ensures { λ r. ⌜ now r ≡ afterBlanks (old bytes) ⌝ }
 {
     let mut i: usize = 0;
     while i < bytes.len() {
@@ -24,7 +25,7 @@ pub(crate) fn after_blanks(bytes: &[u8]) -> &[u8]
 
 // What digits say; 922337203685477580 is the last tenth of 2^63.
 fn digits_number(bytes: &[u8]) -> Decimal
-    ensures { λ r. ⌜ r ≡ digitsNumber 0 (now (bytes .entry)) ⌝ }
+    ensures { λ r. ⌜ r ≡ digitsNumber 0 (old bytes) ⌝ }
 {
     let mut n: u64 = 0;
     let mut i: usize = 0;
@@ -49,7 +50,7 @@ fn digits_number(bytes: &[u8]) -> Decimal
 }
 
 pub(crate) fn read_decimal(bytes: &[u8]) -> Decimal
-    ensures { λ r. ⌜ r ≡ readDecimal (now (bytes .entry)) ⌝ }
+    ensures { λ r. ⌜ r ≡ readDecimal (old bytes) ⌝ }
 {
     if bytes.len() == 0 {
         return Decimal::NoNumber;

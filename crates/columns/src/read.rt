@@ -5,16 +5,17 @@ use crate::decimal::Decimal;
 use crate::decimal::after_blanks;
 use crate::decimal::read_decimal;
 use literal::is_number;
+ghost use Rattle.base.specs.Lent.{old};
 ghost use mathlib.Core.Path.{_≡_};
 ghost use mathlib.Core.List.{[], _∷_};
 ghost use Prim.Native.Nat.{_≤_};
 ghost use lib.ListN.{length};
 ghost use Rattle.columns.specs.Columns.{afterBlanks, readColumn, sixColumn, columnBytes, columnAt, signedColumnAt, signedNumber};
-ghost use Rattle.columns.specs.Decimals.{areBlank, columnWord};
+ghost use Rattle.columns.specs.code.Decimals.{areBlank, columnWord};
 
 // Empty for a column that is not all there.
 fn column_bytes(bytes: &[u8], at: usize, width: usize) -> &[u8]
-    ensures { λ r. ⌜ now r ≡ columnBytes (now (bytes .entry)) at width ⌝ }
+    ensures { λ r. ⌜ now r ≡ columnBytes (old bytes) at width ⌝ }
 {
     if bytes.len() < width {
         return &bytes[0..0];
@@ -57,7 +58,7 @@ fn read_two(tens: u8, units: u8) -> u32
 
 fn read_six(bytes: &[u8]) -> u32
     requires { ⌜ length (now bytes) ≤ 6 ⌝ }
-    ensures { λ r. ⌜ r ≡ columnWord (readColumn (now (bytes .entry))) ⌝ }
+    ensures { λ r. ⌜ r ≡ columnWord (readColumn (old bytes)) ⌝ }
 {
     match read_decimal(after_blanks(bytes)) {
         Decimal::Number(n) => n as u32,
@@ -67,7 +68,7 @@ fn read_six(bytes: &[u8]) -> u32
 
 fn column_word(bytes: &[u8]) -> u32
     requires { ⌜ length (now bytes) ≡ 6 ⌝ }
-    ensures { λ r. ⌜ r ≡ columnWord (readColumn (now (bytes .entry))) ⌝ }
+    ensures { λ r. ⌜ r ≡ columnWord (readColumn (old bytes)) ⌝ }
 {
     if are_blank(bytes[0], bytes[1], bytes[2], bytes[3]) {
         return read_two(bytes[4], bytes[5]);
@@ -77,7 +78,7 @@ fn column_word(bytes: &[u8]) -> u32
 
 // The number that six bytes say; of more or fewer, none.
 pub fn column_of(bytes: &[u8]) -> Column
-    ensures { λ r. ⌜ r ≡ sixColumn (now (bytes .entry)) ⌝ }
+    ensures { λ r. ⌜ r ≡ sixColumn (old bytes) ⌝ }
 {
     if bytes.len() != 6 {
         return Column::Unreadable;
@@ -91,14 +92,14 @@ pub fn column_of(bytes: &[u8]) -> Column
 
 // The column of six bytes at a place.
 pub fn read_column(bytes: &[u8], at: usize) -> Column
-    ensures { λ r. ⌜ r ≡ columnAt (now (bytes .entry)) at ⌝ }
+    ensures { λ r. ⌜ r ≡ columnAt (old bytes) at ⌝ }
 {
     column_of(column_bytes(bytes, at, 6))
 }
 
 // The bytes after the blanks in front, as far as these are whole fours.
 fn after_fours(bytes: &[u8]) -> &[u8]
-    ensures { λ r. ⌜ afterBlanks (now r) ≡ afterBlanks (now (bytes .entry)) ⌝ }
+    ensures { λ r. ⌜ afterBlanks (now r) ≡ afterBlanks (old bytes) ⌝ }
 {
     let mut i: usize = 0;
     while 4 <= bytes.len() - i {
@@ -111,7 +112,7 @@ fn after_fours(bytes: &[u8]) -> &[u8]
 }
 
 fn signed_number(below: u64, digits: &[u8]) -> SignedColumn
-    ensures { λ r. ⌜ r ≡ signedNumber below (now (digits .entry)) ⌝ }
+    ensures { λ r. ⌜ r ≡ signedNumber below (old digits) ⌝ }
 {
     match read_decimal(digits) {
         Decimal::Number(size) => {
@@ -126,7 +127,7 @@ fn signed_number(below: u64, digits: &[u8]) -> SignedColumn
 
 // The column of twenty bytes at a place, of a number of 64 signed bits.
 pub fn read_signed_column(bytes: &[u8], at: usize) -> SignedColumn
-    ensures { λ r. ⌜ r ≡ signedColumnAt (now (bytes .entry)) at ⌝ }
+    ensures { λ r. ⌜ r ≡ signedColumnAt (old bytes) at ⌝ }
 {
     let number = after_blanks(after_fours(column_bytes(bytes, at, 20)));
     if number.len() == 0 {

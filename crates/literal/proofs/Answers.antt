@@ -12,8 +12,8 @@ use Rattle.literal.specs.Literal.{Literal, null, boolean, number, string
 use Rattle.literal.specs.Order.{bytesOrder, told}
 use Rattle.literal.specs.Text.{decimal, signed, keyText, textCompared, textsCompared}
 use Rattle.literal.specs.Reading.{stringBytes, literalOf, bytesOf, keyTextOf, writtenOver, TextDone}
-use Rattle.literal.specs.Written.{Written}
-use Rattle.literal.specs.Key.{keyOf}
+use Rattle.literal.specs.code.Written.{Written}
+use Rattle.literal.specs.code.Key.{keyOf}
 use Rattle.literal.specs.declared.key.Key.{Key}
 use Rattle.literal.specs.declared.KeyText.{KeyText}
 use Rattle.literal.specs.declared.LiteralRef.{LiteralRef}

@@ -11,7 +11,7 @@ use lib.Dec.{eqb, ltb}
 use lib.ListN.{length, getD, drop, drop-of-length-le}
 use lib.Seq.{drop-cons}
 use Rattle.literal.specs.Order.{Order, then, natOrder, bytesOrder, told}
-use Rattle.literal.specs.Chunks.{Prefix, sameFrom, said, Said}
+use Rattle.literal.specs.code.Chunks.{Prefix, sameFrom, said, Said}
 use Rattle.literal.specs.declared.Comparison.{Comparison}
 use Rattle.literal.proofs.Orders.{three-ways, nat-less, nat-same, nat-more, nat-like, nat-pairs, then-assoc}
 

@@ -13,7 +13,7 @@ use borrow.Author.Tests.{leb-true, leb-false, le-leb, lt-leb}
 use Rattle.literal.specs.Literal.{Literal, null, boolean, number, string, isNumber}
 use Rattle.literal.specs.Order.{same, then, natOrder, numberOrder, bytesOrder, rank, withinRank, keyOrder, told, compared}
 use Rattle.literal.specs.Reading.{numberAt, stringAt, stringBytes, literalOf}
-use Rattle.literal.specs.Key.{plainKey, keyOf}
+use Rattle.literal.specs.code.Key.{plainKey, keyOf}
 use Rattle.literal.specs.declared.key.Key.{Key}
 use Rattle.literal.specs.declared.LiteralRef.{LiteralRef}
 use Rattle.literal.specs.declared.Comparison.{Comparison}

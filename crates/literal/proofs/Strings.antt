@@ -14,7 +14,7 @@ use Rattle.literal.proofs.LiteralRef.{the-type}
 use Rattle.literal.specs.Literal.{number}
 use Rattle.literal.specs.Order.{bytesOrder, told, compared}
 use Rattle.literal.specs.Reading.{hasNumber, numberAt, stringAt, stringBytes, literalOf, bytesOf}
-use Rattle.literal.specs.Key.{keyOf}
+use Rattle.literal.specs.code.Key.{keyOf}
 use Rattle.literal.specs.declared.key.Key.{Key}
 use Rattle.literal.specs.declared.LiteralRef.{LiteralRef}
 use Rattle.literal.specs.declared.LiteralRef.the-variants.{Null, False, True, Number, String, RawString}

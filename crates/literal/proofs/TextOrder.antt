@@ -14,7 +14,7 @@ use borrow.Author.Tests.{eqb-true, ltb-true, ltb-false, eq-eqb, ne-eqb, not-true
 use Rattle.literal.specs.Order.{then, natOrder, bytesOrder, told}
 use Rattle.literal.specs.Text.{digit, digits, decimal, signed, keyText, textCompared, textsCompared}
 use Rattle.literal.specs.Reading.{literalOf}
-use Rattle.literal.specs.Key.{keyOf, sameForm}
+use Rattle.literal.specs.code.Key.{keyOf, sameForm}
 use Rattle.literal.specs.declared.key.Key.{Key}
 use Rattle.literal.specs.declared.LiteralRef.{LiteralRef}
 use Rattle.literal.specs.declared.Comparison.{Comparison}

@@ -11,7 +11,7 @@ use lib.Seq.{drop-cons, drop-set-lt, take-set-le, take-suc-set, getD-set-same, l
 use mir.Syntax.{w64}
 use mir.Val.{Fits}
 use Rattle.literal.specs.Text.{digit, digits, decimal, signed}
-use Rattle.literal.specs.Written.{writeDigits, Written}
+use Rattle.literal.specs.code.Written.{writeDigits, Written}
 use Rattle.literal.specs.declared.KeyText.{KeyText}
 use Rattle.literal.proofs.Decimals.{digits-one, digits-more, few-or-more, below-tenth, more-room, length-more}
 

@@ -3,6 +3,4 @@ pub mod Order
 pub mod Text
 pub mod Reading
 pub mod Laws
-pub mod Key
-pub mod Written
-pub mod Chunks
+pub mod code

@@ -5,17 +5,14 @@ use mathlib.Core.List.{List, [], _++_}
 use mathlib.Core.Option.{Option, none, some}
 use mathlib.Core.Path.{_≡_}
 use lib.Dec.{eqb, leb}
-use lib.ListN.{length, getD, take, drop}
+use lib.ListN.{length, getD, drop}
+use Rattle.base.specs.Lists.{part}
 use Rattle.literal.specs.Literal.{Literal, null, boolean, number, string, isNumber}
 use Rattle.literal.specs.Text.{keyText}
 use Rattle.literal.specs.declared.LiteralRef.{LiteralRef}
 use Rattle.literal.specs.declared.LiteralRef.the-variants.{Null, False, True, Number, String, RawString}
 use Rattle.literal.specs.declared.KeyText.{KeyText}
 use Rattle.literal.specs.declared.KeyText.the-variants.{Lent, Written, NoText}
-
--- `count` bytes from `start` on
-abbrev pub part : List ℕ → ℕ → ℕ → List ℕ
-part bytes start count = take count (drop start bytes)
 
 -- is the place below the count of numbers, and do its two words say one?
 abbrev pub hasNumber : List ℕ → ℕ → Bool

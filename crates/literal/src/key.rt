@@ -1,11 +1,12 @@
 // What a reference says: its literal's rank and number, and the bytes of a string.
 use super::LiteralRef;
 use super::is_number;
+ghost use Rattle.base.specs.Lent.{old};
 ghost use mathlib.Core.Path.{_≡_};
 ghost use Prim.Native.Nat.{_+_};
 ghost use lib.Dec.{leb};
 ghost use Rattle.literal.specs.Reading.{literalOf, numberAt, stringAt, stringBytes};
-ghost use Rattle.literal.specs.Key.{keyOf, plainKey};
+ghost use Rattle.literal.specs.code.Key.{keyOf, plainKey};
 
 // The rank in the order of keys: 0 null, 1 false, 2 true, 3 a number, 4 a string; 5 for no literal.
 // below and size are a number's, false and 0 for the rest.
@@ -35,7 +36,7 @@ pub(crate) fn has_range(length: usize, start: usize, count: usize) -> bool
 }
 
 fn string_key(bytes: &[u8], start: usize, count: usize) -> Key
-    ensures { λ r. ⌜ r ≡ keyOf (stringAt (now (bytes .entry)) start count) ⌝ }
+    ensures { λ r. ⌜ r ≡ keyOf (stringAt (old bytes) start count) ⌝ }
 {
     if has_range(bytes.len(), start, count) {
         return plain_key(4);
@@ -44,7 +45,7 @@ fn string_key(bytes: &[u8], start: usize, count: usize) -> Key
 }
 
 fn number_key(numbers: &[u64], place: usize) -> Key
-    ensures { λ r. ⌜ r ≡ keyOf (numberAt (now (numbers .entry)) place) ⌝ }
+    ensures { λ r. ⌜ r ≡ keyOf (numberAt (old numbers) place) ⌝ }
 {
     if numbers.len() / 2 <= place {
         return plain_key(5);
@@ -62,7 +63,7 @@ fn number_key(numbers: &[u64], place: usize) -> Key
 }
 
 pub(crate) fn key_of(numbers: &[u64], strings: &[u8], text: &[u8], l: LiteralRef) -> Key
-    ensures { λ r. ⌜ r ≡ keyOf (literalOf (now (numbers .entry)) (now (strings .entry)) (now (text .entry)) l) ⌝ }
+    ensures { λ r. ⌜ r ≡ keyOf (literalOf (old numbers) (old strings) (old text) l) ⌝ }
 {
     match l {
         LiteralRef::Null => plain_key(0),
@@ -76,7 +77,7 @@ pub(crate) fn key_of(numbers: &[u64], strings: &[u8], text: &[u8], l: LiteralRef
 
 // Empty for a range that does not lie in the bytes.
 pub(crate) fn part(bytes: &[u8], start: usize, count: usize) -> &[u8]
-    ensures { λ r. ⌜ now r ≡ stringBytes (stringAt (now (bytes .entry)) start count) ⌝ }
+    ensures { λ r. ⌜ now r ≡ stringBytes (stringAt (old bytes) start count) ⌝ }
 {
     if has_range(bytes.len(), start, count) {
         return &bytes[start..start + count];

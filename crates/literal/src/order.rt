@@ -4,12 +4,13 @@ use super::LiteralRef;
 use super::key::has_range;
 use super::key::key_of;
 use super::key::part;
+ghost use Rattle.base.specs.Lent.{old};
 ghost use mathlib.Core.Path.{_≡_};
 ghost use Prim.Native.Nat.{_+_, _^_, _<_, _≤_, min};
 ghost use lib.ListN.{length};
 ghost use Rattle.literal.specs.Order.{natOrder, numberOrder, bytesOrder, told, compared};
 ghost use Rattle.literal.specs.Reading.{literalOf, bytesOf, stringAt};
-ghost use Rattle.literal.specs.Chunks.{Prefix, sameFrom, Said};
+ghost use Rattle.literal.specs.code.Chunks.{Prefix, sameFrom, Said};
 
 pub(crate) fn compare_sizes(a: u64, b: u64) -> Comparison
     ensures { λ r. ⌜ r ≡ told (natOrder a b) ⌝ }
@@ -50,7 +51,7 @@ fn lesser(a: usize, b: usize) -> usize
 // Are the 64 bytes from `at` on the same? No way out of the loop: so it becomes vector code.
 fn same_chunk(a: &[u8], b: &[u8], at: usize) -> bool
     requires { ⌜ (at + 64 ≤ length (now a)) × (at + 64 ≤ length (now b)) ⌝ }
-    ensures { λ r. ⌜ r ≡ sameFrom (now (a .entry)) (now (b .entry)) at 64 ⌝ }
+    ensures { λ r. ⌜ r ≡ sameFrom (old a) (old b) at 64 ⌝ }
 {
     let mut same = true;
     let mut i: usize = 0;
@@ -63,7 +64,7 @@ fn same_chunk(a: &[u8], b: &[u8], at: usize) -> bool
 
 // The bytes of the chunks that are the same at the front.
 fn same_chunks(a: &[u8], b: &[u8]) -> usize
-    ensures { λ r. ⌜ Prefix (now (a .entry)) (now (b .entry)) r ⌝ }
+    ensures { λ r. ⌜ Prefix (old a) (old b) r ⌝ }
 {
     let shorter = lesser(a.len(), b.len());
     let mut i: usize = 0;
@@ -85,7 +86,7 @@ pub fn wide(byte: u8) -> u64
 // A number with four bytes more, the highest first.
 fn four_more(high: u64, bytes: &[u8], at: usize) -> u64
     requires { ⌜ (at + 4 ≤ length (now bytes)) × (high < 2 ^ 32) ⌝ }
-    ensures { λ r. ⌜ Said high (now (bytes .entry)) at 4 r ⌝ }
+    ensures { λ r. ⌜ Said high (old bytes) at 4 r ⌝ }
 {
     let one = high * 256 + wide(bytes[at]);
     let two = one * 256 + wide(bytes[at + 1]);
@@ -96,7 +97,7 @@ fn four_more(high: u64, bytes: &[u8], at: usize) -> u64
 // The number that eight bytes say: a single load.
 fn word_at(bytes: &[u8], at: usize) -> u64
     requires { ⌜ at + 8 ≤ length (now bytes) ⌝ }
-    ensures { λ r. ⌜ Said 0 (now (bytes .entry)) at 8 r ⌝ }
+    ensures { λ r. ⌜ Said 0 (old bytes) at 8 r ⌝ }
 {
     four_more(four_more(0, bytes, at), bytes, at + 4)
 }
@@ -104,7 +105,7 @@ fn word_at(bytes: &[u8], at: usize) -> u64
 // The bytes from `from` on, where those before are the same.
 fn compare_rest(a: &[u8], b: &[u8], from: usize) -> Comparison
     requires { ⌜ Prefix (now a) (now b) from ⌝ }
-    ensures { λ r. ⌜ r ≡ told (bytesOrder (now (a .entry)) (now (b .entry))) ⌝ }
+    ensures { λ r. ⌜ r ≡ told (bytesOrder (old a) (old b)) ⌝ }
 {
     let shorter = lesser(a.len(), b.len());
     let mut i = from;
@@ -119,7 +120,7 @@ fn compare_rest(a: &[u8], b: &[u8], from: usize) -> Comparison
 
 fn compare_words(a: &[u8], b: &[u8], from: usize) -> Comparison
     requires { ⌜ Prefix (now a) (now b) from ⌝ }
-    ensures { λ r. ⌜ r ≡ told (bytesOrder (now (a .entry)) (now (b .entry))) ⌝ }
+    ensures { λ r. ⌜ r ≡ told (bytesOrder (old a) (old b)) ⌝ }
 {
     let shorter = lesser(a.len(), b.len());
     let mut i = from;
@@ -136,7 +137,7 @@ fn compare_words(a: &[u8], b: &[u8], from: usize) -> Comparison
 
 // The first byte that differs decides; a prefix comes first.
 pub fn compare_bytes(a: &[u8], b: &[u8]) -> Comparison
-    ensures { λ r. ⌜ r ≡ told (bytesOrder (now (a .entry)) (now (b .entry))) ⌝ }
+    ensures { λ r. ⌜ r ≡ told (bytesOrder (old a) (old b)) ⌝ }
 {
     compare_words(a, b, same_chunks(a, b))
 }
@@ -148,7 +149,7 @@ pub(crate) fn compare_to_string(
     text: &[u8],
     l: LiteralRef,
 ) -> Comparison
-    ensures { λ r. ⌜ r ≡ told (bytesOrder (now (bytes .entry)) (bytesOf (now (strings .entry)) (now (text .entry)) l)) ⌝ }
+    ensures { λ r. ⌜ r ≡ told (bytesOrder (old bytes) (bytesOf (old strings) (old text) l)) ⌝ }
 {
     match l {
         LiteralRef::String { start, count } => compare_bytes(bytes, part(strings, start, count)),
@@ -158,7 +159,7 @@ pub(crate) fn compare_to_string(
 }
 
 fn compare_strings(strings: &[u8], text: &[u8], a: LiteralRef, b: LiteralRef) -> Comparison
-    ensures { λ r. ⌜ r ≡ told (bytesOrder (bytesOf (now (strings .entry)) (now (text .entry)) a) (bytesOf (now (strings .entry)) (now (text .entry)) b)) ⌝ }
+    ensures { λ r. ⌜ r ≡ told (bytesOrder (bytesOf (old strings) (old text) a) (bytesOf (old strings) (old text) b)) ⌝ }
 {
     match a {
         LiteralRef::String { start, count } => {
@@ -178,7 +179,7 @@ pub fn compare(
     a: LiteralRef,
     b: LiteralRef,
 ) -> Comparison
-    ensures { λ r. ⌜ r ≡ compared (literalOf (now (numbers .entry)) (now (strings .entry)) (now (text .entry)) a) (literalOf (now (numbers .entry)) (now (strings .entry)) (now (text .entry)) b) ⌝ }
+    ensures { λ r. ⌜ r ≡ compared (literalOf (old numbers) (old strings) (old text) a) (literalOf (old numbers) (old strings) (old text) b) ⌝ }
 {
     let x = key_of(numbers, strings, text, a);
     let y = key_of(numbers, strings, text, b);
@@ -211,7 +212,7 @@ pub fn compare_ranges(
     b_start: usize,
     b_count: usize,
 ) -> Comparison
-    ensures { λ r. ⌜ r ≡ compared (stringAt (now (bytes .entry)) «a_start» «a_count») (stringAt (now (bytes .entry)) «b_start» «b_count») ⌝ }
+    ensures { λ r. ⌜ r ≡ compared (stringAt (old bytes) «a_start» «a_count») (stringAt (old bytes) «b_start» «b_count») ⌝ }
 {
     if !has_range(bytes.len(), a_start, a_count) {
         return Comparison::NoLiteral;

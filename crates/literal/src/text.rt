@@ -8,18 +8,19 @@ use super::key::part;
 use super::order::compare_bytes;
 use super::order::compare_sizes;
 use super::order::compare_to_string;
+ghost use Rattle.base.specs.Lent.{old, new};
 ghost use mathlib.Core.Path.{_≡_};
 ghost use Prim.Native.Nat.{_+_, _≤_};
 ghost use lib.Dec.{eqb};
 ghost use lib.ListN.{length};
 ghost use Rattle.literal.specs.Text.{decimal, signed, textCompared, textsCompared};
 ghost use Rattle.literal.specs.Reading.{literalOf, bytesOf, TextDone};
-ghost use Rattle.literal.specs.Written.{writeDigits, Written};
-ghost use Rattle.literal.specs.Key.{sameForm};
+ghost use Rattle.literal.specs.code.Written.{writeDigits, Written};
+ghost use Rattle.literal.specs.code.Key.{sameForm};
 
 // A part of whichever of the two holds the string; empty for every other reference.
 pub fn string_bytes<'a>(strings: &'a [u8], text: &'a [u8], l: LiteralRef) -> &'a [u8]
-    ensures { λ r. ⌜ now r ≡ bytesOf (now (strings .entry)) (now (text .entry)) l ⌝ }
+    ensures { λ r. ⌜ now r ≡ bytesOf (old strings) (old text) l ⌝ }
 {
     match l {
         LiteralRef::String { start, count } => part(strings, start, count),
@@ -43,7 +44,7 @@ fn digit_count(size: u64) -> usize
 // The lowest digits of a number, count of them, from start on.
 fn write_digits(out: &mut [u8], start: usize, count: usize, size: u64)
     requires { ⌜ start + count ≤ length (now out) ⌝ }
-    ensures { λ _. ⌜ now (out .exit) ≡ writeDigits (now (out .entry)) start count size ⌝ }
+    ensures { λ _. ⌜ new out ≡ writeDigits (old out) start count size ⌝ }
 {
     let mut left = count;
     let mut rest = size;
@@ -56,7 +57,7 @@ fn write_digits(out: &mut [u8], start: usize, count: usize, size: u64)
 
 fn write_number(out: &mut [u8], below: bool, size: u64) -> KeyText
     requires { ⌜ length (signed below (decimal size)) ≤ length (now out) ⌝ }
-    ensures { λ r. ⌜ Written (signed below (decimal size)) (now (out .entry)) (now (out .exit)) r ⌝ }
+    ensures { λ r. ⌜ Written (signed below (decimal size)) (old out) (new out) r ⌝ }
 {
     let count = digit_count(size);
     if below {
@@ -70,7 +71,7 @@ fn write_number(out: &mut [u8], below: bool, size: u64) -> KeyText
 
 fn write_word(out: &mut [u8], word: &[u8]) -> KeyText
     requires { ⌜ length (now word) ≤ length (now out) ⌝ }
-    ensures { λ r. ⌜ Written (now (word .entry)) (now (out .entry)) (now (out .exit)) r ⌝ }
+    ensures { λ r. ⌜ Written (old word) (old out) (new out) r ⌝ }
 {
     let mut i = 0;
     while i < word.len() {
@@ -88,7 +89,7 @@ pub fn key_text(
     l: LiteralRef,
     out: &mut [u8; 20],
 ) -> KeyText
-    ensures { λ r. ⌜ TextDone (literalOf (now (numbers .entry)) (now (strings .entry)) (now (text .entry)) l) (now (out .entry)) (now (out .exit)) r ⌝ }
+    ensures { λ r. ⌜ TextDone (literalOf (old numbers) (old strings) (old text) l) (old out) (new out) r ⌝ }
 {
     let x = key_of(numbers, strings, text, l);
     if x.rank == 0 {
@@ -117,7 +118,7 @@ fn compare_to_text(
     text: &[u8],
     l: LiteralRef,
 ) -> Comparison
-    ensures { λ r. ⌜ r ≡ textCompared (now (bytes .entry)) (literalOf (now (numbers .entry)) (now (strings .entry)) (now (text .entry)) l) ⌝ }
+    ensures { λ r. ⌜ r ≡ textCompared (old bytes) (literalOf (old numbers) (old strings) (old text) l) ⌝ }
 {
     let mut out = [0u8; 20];
     match key_text(numbers, strings, text, l, &mut out) {
@@ -134,7 +135,7 @@ fn compare_string_text(
     a: LiteralRef,
     b: LiteralRef,
 ) -> Comparison
-    ensures { λ r. ⌜ r ≡ textCompared (bytesOf (now (strings .entry)) (now (text .entry)) a) (literalOf (now (numbers .entry)) (now (strings .entry)) (now (text .entry)) b) ⌝ }
+    ensures { λ r. ⌜ r ≡ textCompared (bytesOf (old strings) (old text) a) (literalOf (old numbers) (old strings) (old text) b) ⌝ }
 {
     match a {
         LiteralRef::String { start, count } => {
@@ -182,7 +183,7 @@ pub fn compare_key_texts(
     a: LiteralRef,
     b: LiteralRef,
 ) -> Comparison
-    ensures { λ r. ⌜ r ≡ textsCompared (literalOf (now (numbers .entry)) (now (strings .entry)) (now (text .entry)) a) (literalOf (now (numbers .entry)) (now (strings .entry)) (now (text .entry)) b) ⌝ }
+    ensures { λ r. ⌜ r ≡ textsCompared (literalOf (old numbers) (old strings) (old text) a) (literalOf (old numbers) (old strings) (old text) b) ⌝ }
 {
     let x = key_of(numbers, strings, text, a);
     if x.rank == 3 {

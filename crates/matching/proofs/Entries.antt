@@ -13,13 +13,14 @@ use Rattle.table.specs.Tables.{Tables, kindOf, firstOf}
 use Rattle.table.specs.Decode.{expr}
 use Rattle.table.specs.Expr as Expr
 use Rattle.table.specs.Expr.{Expr, literal, name, array, object}
-use Rattle.table.specs.Sound.{WellFormed}
+use Rattle.table.specs.code.Sound.{WellFormed}
 use Rattle.planner.specs.code.Post.{NameNumber}
 use Rattle.planner.proofs.fields.Objects.{node-of}
+use Rattle.planner.specs.Simple.{admitted}
 use Rattle.value.specs.Value.{Value, isValue, valueOf, same}
-use Rattle.value.specs.Post.{SameAsks}
+use Rattle.value.specs.code.Post.{SameAsks}
 use Rattle.matching.specs.Matching.{Outcome, matched, missed, assign, setting, comparing, provided, run}
-use Rattle.matching.specs.Post.{nodeAt, kindAt, readPlan, entryKind, EntryOf, envOf, ListOk, runAt, MatchAsks, EntryAsks, ItemsAsks, FieldsAsks, Came, CompareAsks}
+use Rattle.matching.specs.code.Post.{nodeAt, kindAt, readPlan, entryKind, EntryOf, envOf, ListOk, runAt, MatchAsks, EntryAsks, ItemsAsks, FieldsAsks, Came, CompareAsks}
 use Rattle.matching.proofs.Patterns.{PatternShape, pattern-literal, pattern-wildcard, pattern-name, pattern-array, pattern-object, pattern-shape, visits-self, some-depth}
 use Rattle.matching.proofs.Lists.{node-value, env-at, set-ok, env-set}
 
@@ -166,7 +167,7 @@ module _ {T : Tables} {scratch places : List ℕ} {at value rest : ℕ} {list : 
         go t q (pattern-object h) p = absurd (omega arith)
 
     pub ask-literal : SameAsks T node value
-    unfolding isValue
+    unfolding admitted
     ask-literal = record { table = well; left = record { node = a .asks .node; value = ap isValue (is-literal .1) }; right = a .asks .value-ok }
 
     pub literal-compared : {r : Bool} → r ≡ same (valueOf (expr T node)) (valueOf (expr T value)) → Came T (runAt T scratch places node value list) list r

@@ -3,14 +3,17 @@ use Prim.Native.Nat.{ℕ}
 use mathlib.Core.Bool.{Bool, true, false, _&&_, _||_, false≢true}
 use mathlib.Core.List.{List, _∷_}
 use mathlib.Core.Option.{Option, none, some}
-use mathlib.Core.Path.{_≡_, refl, ap, sym, _∙_}
-use lib.Dec.{T, eqb-refl}
+use mathlib.Core.Path.{_≡_, refl, ap, sym, subst, _∙_}
+use lib.Dec.{T, eqb, eqb-refl}
 use Rattle.literal.specs.Literal.{Literal}
 use Rattle.table.specs.Expr as Expr
 use Rattle.table.specs.Expr.{Expr, literal, name, wildcard, array, set, object, other, Exprs, item, Fields, done, field}
 use Rattle.planner.specs.Plan.{plan, plans, fieldPlans, after, afterAll, afterFields}
 use Rattle.planner.specs.Layout.{literalKey}
-use Rattle.planner.specs.Simple.{sameKey, differing, addKey, keysOf, isLiteral, simple, simpleAll, simpleFields, mentions, mentionsAny, mentionsFields}
+use Rattle.planner.specs.Simple.{sameKey, differing, addKey, keysOf, isLiteral, admitted, simple, simpleAll, simpleFields, mentions}
+use Rattle.planner.specs.Names.{occurrences, namesOf}
+use Rattle.planner.proofs.laws.Mentions.{mentionsAny, mentionsFields, mentions-name, mentions-item, mentions-field}
+use Rattle.base.specs.Lists.{elem}
 use Rattle.value.specs.Value.{Value, literalᵛ, arrayᵛ, objectᵛ, Values, noneᵛ, itemᵛ, ValueFields, doneᵛ, fieldᵛ, filledField, keysᵛ, sameKeys, firstOf, under, proper, properAll, properFields, Proper, holds, same, sameItems, sameFields, Same}
 use Rattle.matching.specs.Matching.{Env, Outcome, next, at, underKey, planKeys, sameLength, run, runItems, runFields, Blanks, BlanksAll, BlanksFields, fill, fillAll, fillFields, SameBlanks, SameBlanksAll, SameBlanksFields}
 use Rattle.value.proofs.Keys.{and-left, and-right, both, or-left, or-right}
@@ -53,7 +56,7 @@ same-keys unbound fs seen ρ b = plan-keys unbound fs seen ∙ sym (fill-keys ρ
 
 -- a literal key holds no name
 pub silent : (x : ℕ) (k : Expr) → T (isLiteral (literalKey k)) → mentions x k ≡ false
-unfolding mentions
+unfolding occurrences namesOf elem
 silent x (literal n l) t = refl
 silent x (name n y) t = absurd t
 silent x (wildcard n) t = absurd t
@@ -88,12 +91,12 @@ module _ (unbound : ℕ → Bool) (Ok : ℕ → Type 0) where
           (andThen unbound Ok (f w (proper-under l gs p w e)) g)
 
   mutual
-    unfolding plan mentions run simple same proper fill sameLength
+    unfolding plan occurrences namesOf elem run admitted same proper fill sameLength
 
     pub good : (e : Expr) (v : Value) (seen : List ℕ) (env : Env) → T (simple e) → Proper v → ((x : ℕ) → T (mentions x e) → Ok x) → State unbound Ok seen env →
         Good unbound Ok env (λ x. mentions x e) (after unbound e seen) (Fits e v) (run (plan unbound e seen) v env)
     good (literal n l) v seen env p q ok s = when unbound Ok (same (literalᵛ n l) v) (λ t. pass unbound Ok s (λ x r. absurd r) (λ ρ a. (tt, t))) (λ ρ a f. f .1)
-    good (name n x) v seen env p q ok s = also unbound Ok (λ y. refl) (λ ρ f. (tt, f)) (λ ρ f. f .1) (named unbound Ok n x v seen env q s (ok x (eqb-refl x)))
+    good (name n x) v seen env p q ok s = also unbound Ok (λ y. sym (mentions-name y n x)) (λ ρ f. (tt, f)) (λ ρ f. f .1) (named unbound Ok n x v seen env q s (ok x (or-left (eqb x x) false (eqb-refl x))))
     good (wildcard n) v seen env p q ok s = pass unbound Ok s (λ x r. absurd r) (λ ρ a. (record { value = v; isProper = q }, same-refl v q))
     good (array n es) (literalᵛ m k) seen env p q ok s = miss (λ ρ a f. f .1)
     good (array n es) (arrayᵛ m vs) seen env p q ok s = when unbound Ok (sameLength (plans unbound es seen) vs) (λ t. goodAll es vs seen env p q ok s t) (λ ρ a f. fits-length unbound es vs seen ρ (f .0) (f .1))
@@ -114,11 +117,11 @@ module _ (unbound : ℕ → Bool) (Ok : ℕ → Type 0) where
     goodAll Expr.none noneᵛ seen env p q ok s t = pass unbound Ok s (λ x r. absurd r) (λ ρ a. (tt, tt))
     goodAll Expr.none (itemᵛ v vs) seen env p q ok s t = absurd t
     goodAll (item e es) noneᵛ seen env p q ok s t = absurd t
-    goodAll (item e es) (itemᵛ v vs) seen env p q ok s t = also unbound Ok (λ x. refl)
+    goodAll (item e es) (itemᵛ v vs) seen env p q ok s t = also unbound Ok (λ x. sym (mentions-item x e es))
         (λ ρ f. ((f .0 .0, f .1 .0), both (same (fill ρ e (f .0 .0)) v) (sameItems (fillAll ρ es (f .1 .0)) vs) (f .0 .1) (f .1 .1)))
         (λ ρ f. ((f .0 .0, and-left (same (fill ρ e (f .0 .0)) v) (sameItems (fillAll ρ es (f .0 .1)) vs) (f .1)), (f .0 .1, and-right (same (fill ρ e (f .0 .0)) v) (sameItems (fillAll ρ es (f .0 .1)) vs) (f .1))))
-        (andThen unbound Ok (good e v seen env (and-left (simple e) (simpleAll es) p) (and-left (proper v) (properAll vs) q) (λ x r. ok x (or-left (mentions x e) (mentionsAny x es) r)) s)
-        (λ env′ s′. goodAll es vs (after unbound e seen) env′ (and-right (simple e) (simpleAll es) p) (and-right (proper v) (properAll vs) q) (λ x r. ok x (or-right (mentions x e) (mentionsAny x es) r)) s′ t))
+        (andThen unbound Ok (good e v seen env (and-left (simple e) (simpleAll es) p) (and-left (proper v) (properAll vs) q) (λ x r. ok x (subst T (sym (mentions-item x e es)) (or-left (mentions x e) (mentionsAny x es) r))) s)
+        (λ env′ s′. goodAll es vs (after unbound e seen) env′ (and-right (simple e) (simpleAll es) p) (and-right (proper v) (properAll vs) q) (λ x r. ok x (subst T (sym (mentions-item x e es)) (or-right (mentions x e) (mentionsAny x es) r))) s′ t))
 
     goodFields : (fs : Fields) (gs : ValueFields) (seen : List ℕ) (env : Env) → T (simpleFields fs) → T (properFields gs) → ((x : ℕ) → T (mentionsFields x fs) → Ok x) → State unbound Ok seen env →
         Good unbound Ok env (λ x. mentionsFields x fs) (afterFields unbound fs seen) (FitsFields fs gs) (runFields (fieldPlans unbound fs seen) gs env)
@@ -126,8 +129,8 @@ module _ (unbound : ℕ → Bool) (Ok : ℕ → Type 0) where
     goodFields (field k v fs) gs seen env p q ok s =
         let i : T (isLiteral (literalKey k)) = and-left (isLiteral (literalKey k)) (simple v && simpleFields fs) p in
         let p′ : T (simple v && simpleFields fs) = and-right (isLiteral (literalKey k)) (simple v && simpleFields fs) p in
-        let ok′ : (x : ℕ) → T (mentions x v || mentionsFields x fs) → Ok x = λ x r. ok x (or-right (mentions x k) (mentions x v || mentionsFields x fs) r) in
-        also unbound Ok (λ x. rw (silent x k i)) (λ ρ f. f) (λ ρ f. f)
+        let ok′ : (x : ℕ) → T (mentions x v || mentionsFields x fs) → Ok x = λ x r. ok x (subst T (sym (mentions-field x k v fs)) (or-right (mentions x k) (mentions x v || mentionsFields x fs) r)) in
+        also unbound Ok (λ x. sym (mentions-field x k v fs ∙ ap (λ (b : Bool). b || (mentions x v || mentionsFields x fs)) (silent x k i))) (λ ρ f. f) (λ ρ f. f)
         (field-step (literalKey k) v fs gs i q
         (λ w q′. good v w seen env (and-left (simple v) (simpleFields fs) p′) q′ (λ x r. ok′ x (or-left (mentions x v) (mentionsFields x fs) r)) s)
         (λ env′ s′. goodFields fs gs (after unbound v seen) env′ (and-right (simple v) (simpleFields fs) p′) q (λ x r. ok′ x (or-right (mentions x v) (mentionsFields x fs) r)) s′))
@@ -144,7 +147,7 @@ field-parts (some l) i u us gs t = go (under l gs) (and-left (holds (λ w. same 
 
 -- Of two fillings that fit, each underscore has equal values.
 mutual
-  unfolding fill same simple
+  unfolding fill same admitted
 
   pub only : (e : Expr) (v : Value) (ρ σ : ℕ → Value) (b c : Blanks e) → T (simple e) → Same (fill ρ e b) v → Same (fill σ e c) v → SameBlanks e b c
   only (literal n l) v ρ σ b c p s t = tt
@@ -179,7 +182,7 @@ mutual
 
 -- A simple pattern that is filled with values is a value.
 mutual
-  unfolding fill simple proper
+  unfolding fill admitted proper
 
   pub filled : (ρ : ℕ → Value) (e : Expr) (b : Blanks e) → T (simple e) → ((x : ℕ) → Proper (ρ x)) → Proper (fill ρ e b)
   filled ρ (literal n l) b p f = tt

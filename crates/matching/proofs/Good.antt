@@ -6,7 +6,7 @@ use mathlib.Core.Option.{Option, none, some}
 use mathlib.Core.Path.{_≡_, refl, ap, sym, _∙_}
 use lib.Dec.{T, eqb, eqb→eq, eqb-refl}
 use Rattle.table.specs.Expr.{name}
-use Rattle.table.specs.Rules.{elem}
+use Rattle.base.specs.Lists.{elem}
 use Rattle.planner.specs.Plan.{var, equalityExpr, fresh}
 use Rattle.value.specs.Value.{Value, Proper, same, Same}
 use Rattle.matching.specs.Matching.{Env, Outcome, matched, missed, pickValue, assign, provided, next, run}

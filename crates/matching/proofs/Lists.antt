@@ -1,20 +1,25 @@
 -- The list of value nodes by name number, as the values that names have.
-use Prim.Native.Nat.{ℕ, _-_, _≤_}
+use Prim.Native.Nat.{ℕ, _+_, _-_, _≤_}
 use mathlib.Core.Path.{_≡_, refl, sym, ap, _∙_, fun-ext}
 use mathlib.Core.List.{List}
-use mathlib.Core.Bool.{Bool, true, false}
-use mathlib.Core.Option.{some}
+use mathlib.Core.Bool.{Bool, true, false, cond}
+use mathlib.Core.Option.{none, some}
 use native.Mathlib.Omega.{arith}
 use borrow.Author.Tests.{eqb-true, eqb-false, ne-eqb}
 use lib.Dec.{eqb}
 use lib.ListN.{getD, set, length-set}
-use lib.Seq.{getD-set-same, getD-set-other}
+use lib.Seq.{getD-set-same, getD-set-other, ext-getD}
 use Rattle.table.specs.Tables.{Tables}
 use Rattle.table.specs.Decode.{expr}
-use Rattle.value.specs.Value.{valueOf, valueAt}
-use Rattle.value.specs.Post.{ValueNode}
+use Rattle.table.specs.code.Sound.{WellFormed}
+use Rattle.base.specs.Lists.{tabulate}
+use Rattle.planner.proofs.buffer.Filling.{length-tabulate, getD-tabulate}
+use Rattle.planner.proofs.fields.Objects.{node-of}
+use Rattle.value.specs.Value.{valueOf, valueAt, nodeIn}
+use Rattle.value.proofs.Node as Node·
+use Rattle.value.specs.code.Post.{ValueNode}
 use Rattle.matching.specs.Matching.{pickValue, assign}
-use Rattle.matching.specs.Post.{envOf, ListOk}
+use Rattle.matching.specs.code.Post.{envOf, ListOk}
 
 -- a value's node has a value
 pub node-value : (T : Tables) (n : ℕ) → (n ≡ 0 → ⊥) → valueAt T n ≡ some (valueOf (expr T n))
@@ -58,3 +63,22 @@ module _ (T : Tables) (x : ℕ) (low : 1 ≤ x) (list : List ℕ) where
             let ny = eqb-false y 0 z in
             let there : getD (set list (x - 1) value) (y - 1) 0 ≡ getD list (y - 1) 0 = getD-set-other list (x - 1) (y - 1) value 0 (λ e. q (omega (arith, ny))) in
             rw (z, there)
+
+-- the node of a name's value is what its place holds
+place-node : {T : Tables} {list : List ℕ} → WellFormed T → ListOk T list → (i : ℕ) → nodeIn (envOf T list (i + 1)) ≡ getD list i 0
+place-node {T} {list} w ok i =
+    let q : i + 1 - 1 ≡ i = omega arith in
+    ap nodeIn (env-at T (i + 1) (omega arith) list) ∙ rw q (go (eqb (getD list i 0) 0) refl)
+  where
+    go : (b : Bool) → eqb (getD list i 0) 0 ≡ b → nodeIn (cond (eqb (getD list i 0) 0) none (some (valueOf (expr T (getD list i 0))))) ≡ getD list i 0
+    go true z = let e = eqb-true (getD list i 0) 0 z in rw z (sym e)
+    go false z =
+        let v = ok .each i (eqb-false (getD list i 0) 0 z) in
+        rw z (Node·.value-node (expr T (getD list i 0)) ∙ node-of T w (getD list i 0) (v .node))
+
+pub whole-list : {T : Tables} {list : List ℕ} → WellFormed T → ListOk T list → list ≡ tabulate (λ i. nodeIn (envOf T list (i + 1))) 0 128
+whole-list {T} {list} w ok =
+    ext-getD 0 list (tabulate (λ i. nodeIn (envOf T list (i + 1))) 0 128) (ok .long ∙ sym (length-tabulate (λ i. nodeIn (envOf T list (i + 1))) 0 128)) (λ i lt.
+    let long = ok .long in
+    let z : 0 + i ≡ i = omega arith in
+    sym (getD-tabulate (λ j. nodeIn (envOf T list (j + 1))) 0 128 i (omega arith) ∙ (ap (λ (j : ℕ). nodeIn (envOf T list (j + 1))) z ∙ place-node w ok i)))

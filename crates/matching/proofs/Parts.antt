@@ -13,24 +13,24 @@ use Rattle.table.specs.Tables.{Tables, kindOf, firstOf, countOf, childAt}
 use Rattle.table.specs.Decode.{expr, items, fields, literalAt, fieldsOf}
 use Rattle.table.specs.Expr as Expr
 use Rattle.table.specs.Expr.{Expr, array, object, Fields, done, field}
-use Rattle.table.specs.Rules.{elem}
-use Rattle.table.specs.Sound.{Node, WellFormed}
+use Rattle.base.specs.Lists.{elem}
+use Rattle.table.specs.code.Sound.{Node, WellFormed}
 use Rattle.table.proofs.tests.Bools.{and-true, told-no, told-yes}
 use Rattle.table.proofs.trees.Trees.{expr-array, expr-object}
 use Rattle.planner.specs.Layout.{literalKey}
 use Rattle.planner.specs.code.Passes.{keyNode, valueNode}
 use Rattle.planner.specs.Plan.{arrayPlan, objectPlan}
-use Rattle.planner.specs.Simple.{addKey, keysOf}
+use Rattle.planner.specs.Simple.{addKey, keysOf, admitted}
 use Rattle.planner.proofs.fields.Objects.{node-of}
 use Rattle.value.specs.Value.{Value, valueOf, valuesOf, valueFieldsOf, valueAt, under, within, sameKeys}
-use Rattle.value.specs.Post.{admitted, underFrom, underIn, KeyedObject, KeySetsAsk, ValueNode}
+use Rattle.value.specs.code.Post.{underFrom, underIn, KeyedObject, KeySetsAsk, ValueNode}
 use Rattle.value.proofs.Keys.{is-true, true-is, within→}
-use Rattle.value.proofs.Admitted.{value-keys, array-item, object-value, array-children, object-children, value-node, keyed-object, value-admitted, admitted-value}
+use Rattle.value.proofs.Admitted.{value-keys, array-item, object-value, array-children, object-children, value-node, keyed-object, admitted-value}
 use Rattle.value.proofs.Under.{Fielded, object-fielded, key-of, found-field, found-key, found-value, has-key-at, position-fits, position-key-fits, position-value-fits}
 use Rattle.value.proofs.SameValues.{ValueShape, value-literal, value-array, value-object, value-shape}
 use Rattle.matching.specs.Matching.{Env, Outcome, missed, fault, provided, next, at, underKey, planKeys, sameLength, run, runItems, runFields}
-use Rattle.matching.specs.Post.{nodeAt, placeOf, kindAt, readPlan, readPlans, readFields, visited, envOf, ListOk, runAt, MatchAsks, EntryAsks, ItemsAsks, FieldsAsks, Came}
-use Rattle.matching.proofs.Patterns.{simple-admitted, admitted-simple, visits-item, visits-value, visits-self, item-deep, value-deep}
+use Rattle.matching.specs.code.Post.{nodeAt, placeOf, kindAt, readPlan, readPlans, readFields, visited, envOf, ListOk, runAt, MatchAsks, EntryAsks, ItemsAsks, FieldsAsks, Came}
+use Rattle.matching.proofs.Patterns.{visits-item, visits-value, visits-self, item-deep, value-deep}
 use Rattle.matching.proofs.Lists.{node-value}
 use Rattle.matching.proofs.Entries.{missed-came, matched-came}
 
@@ -62,7 +62,7 @@ module _ {T : Tables} {scratch places : List ℕ} {n value : ℕ} (rest : ℕ) {
           table = a .table;
           node = v;
           placed = λ j h. a .placed j (below j h);
-          isSimple = admitted-simple (expr T m) is;
+          isSimple = is;
           deep = deep;
           value-ok = part-ok;
           list-ok = ok;
@@ -184,7 +184,7 @@ module _ {T : Tables} {scratch places : List ℕ} {n count value rest : ℕ} {be
         let v = go .asks .asks .value-ok in
         admitted-value T (childAt (T .children) (firstOf (T .nodes) value + i))
         (array-children T table value (v .node) (go .value-array) .each i (let lt = inside-value in omega arith))
-        (array-item T table value (v .node) false (value-admitted v) (go .value-array) i inside-value)
+        (array-item T table value (v .node) false (v .value) (go .value-array) i inside-value)
 
     module _ {child part : ℕ} (is-child : child ≡ childAt (T .children) (place + i)) (is-part : part ≡ childAt (T .children) (from + i)) where
       child-is : child ≡ pattern-item
@@ -224,7 +224,7 @@ module _ {T : Tables} {scratch places : List ℕ} {n count value rest : ℕ} {be
         unfolding pattern-item
         taking-asks =
             part-asks rest (go .asks .asks) pattern-item item-node below
-            (array-item T table n (go .asks .asks .node) true (simple-admitted (expr T n) (go .asks .asks .isSimple)) (go .asks .array) i inside-pattern)
+            (array-item T table n (go .asks .asks .node) true (go .asks .asks .isSimple) (go .asks .array) i inside-pattern)
             (item-deep T table n (go .asks .asks .node) (go .asks .array) i inside-pattern rest (go .asks .asks .deep))
             part (rw part-is value-part) here (go .list-ok) (λ e. no-fault (ap (λ (m : ℕ). runAt T scratch places m part here) child-is ∙ e)) (at-entry ∙ ap (placeOf places) child-is)
 
@@ -277,11 +277,11 @@ module _ {T : Tables} {scratch places : List ℕ} {n value rest : ℕ} {list : L
       go e q (value-object h) = absurd (unlike (is ∙ h))
 
   pattern-keyed : KeyedObject T n
-  pattern-keyed = keyed-object T (a .asks .table) n (a .asks .node) true (simple-admitted (expr T n) (a .asks .isSimple)) (a .object)
+  pattern-keyed = keyed-object T (a .asks .table) n (a .asks .node) true (a .asks .isSimple) (a .object)
 
   module _ {k : ℕ} (is : k ≡ kindOf (T .nodes) value) (nine : k ≡ 9) where
     value-keyed : KeyedObject T value
-    value-keyed = keyed-object T (a .asks .table) value (a .asks .value-ok .node) false (value-admitted (a .asks .value-ok)) (sym is ∙ nine)
+    value-keyed = keyed-object T (a .asks .table) value (a .asks .value-ok .node) false (a .asks .value-ok .value) (sym is ∙ nine)
 
     pub ask-key-sets : KeySetsAsk T n value
     ask-key-sets = record { left = pattern-keyed; right = value-keyed }
@@ -373,7 +373,7 @@ module _ {T : Tables} {scratch places : List ℕ} {n value rest : ℕ} {before :
           let v = go .asks .asks .value-ok in
           let (j, lt, e) = found-field T (literalAt T key) (firstOf (T .nodes) value) (countOf (T .nodes) value) (λ z. found (is-part ∙ z)) in
           rw is-part (rw e (admitted-value T (valueNode T (firstOf (T .nodes) value) j) (value-node (object-fielded (go .value-object) .asks) j lt)
-          (object-value T well value (v .node) false (value-admitted v) (go .value-object .object) j lt)))
+          (object-value T well value (v .node) false (v .value) (go .value-object .object) j lt)))
 
       rest-fields : Env → Outcome
       rest-fields env = runFields (readFields (kindAt scratch places) (fields (expr T) (T .children) (first + (i + 1) * 2) (count - (i + 1)))) (valueFieldsOf (fieldsOf T value)) env
@@ -406,7 +406,7 @@ module _ {T : Tables} {scratch places : List ℕ} {n value rest : ℕ} {before :
         pub fields-asks : EntryAsks T scratch places entry part rest here
         fields-asks =
             part-asks rest (go .asks .asks) (valueNode T (firstOf (T .nodes) n) i) field-node field-below
-            (object-value T well n (go .asks .asks .node) true (simple-admitted (expr T n) (go .asks .asks .isSimple)) (go .asks .object) i in-pattern)
+            (object-value T well n (go .asks .asks .node) true (go .asks .asks .isSimple) (go .asks .object) i in-pattern)
             (value-deep T well n (go .asks .asks .node) (go .asks .object) i in-pattern rest (go .asks .asks .deep))
             part part-ok here (go .list-ok) (λ e. field-no-fault (ap (λ (m : ℕ). runAt T scratch places m part here) field-is ∙ e)) (at-entry ∙ ap (placeOf places) field-is)
 

@@ -1,6 +1,6 @@
 -- The nodes of a simple pattern: what they are, what is below them, how deep they go.
 use Prim.Native.Nat.{ℕ, zero, suc, _+_, _-_, _*_, _≤_, _<_, max}
-use mathlib.Core.Path.{_≡_, refl, sym, _∙_}
+use mathlib.Core.Path.{_≡_, refl}
 use mathlib.Core.List.{List, []}
 use mathlib.Core.Bool.{Bool, true, false, cond, false≢true}
 use native.Mathlib.Omega.{arith}
@@ -12,16 +12,14 @@ use Rattle.table.specs.Tables.{Tables, kindOf, firstOf, countOf, childAt}
 use Rattle.table.specs.Decode.{expr, items, fields, isWildcard, fieldsOf}
 use Rattle.table.specs.Expr as Expr
 use Rattle.table.specs.Expr.{Expr, literal, name, wildcard, array, object, other, depth, depthAll, depthFields}
-use Rattle.table.specs.Rules.{elem}
-use Rattle.table.specs.Sound.{Node, WellFormed}
+use Rattle.base.specs.Lists.{elem}
+use Rattle.table.specs.code.Sound.{Node, WellFormed}
 use Rattle.table.proofs.trees.Lists.{elem-head, elem-tail, elem-left, elem-right}
 use Rattle.table.proofs.trees.Trees.{expr-name, expr-array, expr-object}
 use Rattle.planner.specs.code.Passes.{valueNode}
-use Rattle.planner.specs.Simple.{simple}
+use Rattle.planner.specs.Simple.{admitted, simple}
 use Rattle.planner.proofs.destructuring.NodeKinds.{Plain, plain-literal, plain-set, plain-other, plain-kind}
-use Rattle.value.specs.Post.{admitted}
-use Rattle.value.proofs.Admitted.{admits-simple}
-use Rattle.matching.specs.Post.{visited, visitedAll, visitedFields}
+use Rattle.matching.specs.code.Post.{visited, visitedAll, visitedFields}
 
 pub data PatternShape (T : Tables) (n : ℕ) : Expr → Type 0 where
   pattern-literal : (l : Literal) → kindOf (T .nodes) n ≤ 5 → PatternShape T n (literal n l)
@@ -31,7 +29,7 @@ pub data PatternShape (T : Tables) (n : ℕ) : Expr → Type 0 where
   pattern-object : kindOf (T .nodes) n ≡ 9 → PatternShape T n (object n (fieldsOf T n))
 
 pub pattern-shape : (T : Tables) → WellFormed T → (n : ℕ) → Node T n → simple (expr T n) ≡ true → (e : Expr) × (expr T n ≡ e) × PatternShape T n e
-unfolding simple
+unfolding admitted
 pattern-shape T w n v is = go (eqb (kindOf (T .nodes) n) 6) refl (eqb (kindOf (T .nodes) n) 7) refl (eqb (kindOf (T .nodes) n) 9) refl
   where
     named : kindOf (T .nodes) n ≡ 6 → (c : Bool) → expr T n ≡ cond c (wildcard n) (name n (firstOf (T .nodes) n)) → (e : Expr) × (expr T n ≡ e) × PatternShape T n e
@@ -50,12 +48,6 @@ pattern-shape T w n v is = go (eqb (kindOf (T .nodes) n) 6) refl (eqb (kindOf (T
     go false p false q false r =
         let s = plain-kind T w n v (eqb-false (kindOf (T .nodes) n) 6 p) (eqb-false (kindOf (T .nodes) n) 7 q) (eqb-false (kindOf (T .nodes) n) 9 r) in
         by (s .0) (s .1) (s .2) (rw (s .1) at is)
-
-pub simple-admitted : (e : Expr) → simple e ≡ true → admitted true e ≡ true
-simple-admitted e is = admits-simple e ∙ is
-
-pub admitted-simple : (e : Expr) → admitted true e ≡ true → simple e ≡ true
-admitted-simple e is = sym (admits-simple e) ∙ is
 
 -- items and values are visited, and less deep
 module _ (g : ℕ → Expr) (ch : List ℕ) where

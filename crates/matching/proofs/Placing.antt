@@ -1,41 +1,85 @@
 -- Each node that a plan goes into has its entry at the place that is noted for it.
-use Prim.Native.Nat.{ℕ, _+_, _-_, _*_, _^_, _≤_, _<_}
+use Prim.Native.Nat.{ℕ, zero, suc, _+_, _-_, _*_, _^_, _≤_, _<_}
 use mathlib.Core.Path.{_≡_, refl, sym, ap, subst, _∙_}
 use mathlib.Core.List.{List, []}
 use mathlib.Core.Bool.{Bool, true, false, cond}
 use native.Mathlib.Omega.{arith}
-use borrow.Author.Tests.{eqb-true, eqb-false}
+use borrow.Author.Tests.{eqb-true, eqb-false, eq-eqb}
 use lib.Dec.{eqb}
-use lib.ListN.{length, getD, set, replicate, length-set, length-replicate}
-use lib.Seq.{getD-set-same, getD-set-other}
+use lib.ListN.{length, getD, set, replicate, length-set, length-replicate, getD-replicate}
+use lib.Seq.{getD-set-same, getD-set-other, ext-getD}
 use Rattle.table.specs.Tables.{Tables}
 use Rattle.table.specs.Decode.{expr}
 use Rattle.table.specs.Expr as Expr
 use Rattle.table.specs.Expr.{Expr, literal, name, wildcard, array, object, other, nodeOf}
-use Rattle.table.specs.Rules.{elem}
-use Rattle.table.specs.Sound.{WellFormed}
+use Rattle.base.specs.Lists.{elem, tabulate}
+use Rattle.table.specs.code.Sound.{WellFormed}
 use Rattle.planner.specs.Plan.{DestructuringPlan, var, equalityExpr, fresh, plan}
 use Rattle.planner.specs.Layout.{Entry, entries}
 use Rattle.planner.specs.code.Passes.{bindersOf, layOut}
+use Rattle.planner.proofs.buffer.Filling.{length-tabulate, getD-tabulate}
 use Rattle.planner.proofs.laws.Binders.{lay-plan-of}
 use Rattle.planner.proofs.laws.Sizes.{lay-few-of}
 use Rattle.planner.proofs.fields.Objects.{node-of}
 use Rattle.value.specs.Value.{valueOf}
 use Rattle.matching.specs.Matching.{Outcome, run}
-use Rattle.matching.specs.Post.{nodeAt, placeOf, kindAt, readPlan, visited, entryKind, EntryOf, envOf, runAt, EntryAsks, Came, PlacesAsks, Noted, PlanIn, PatternAsks, PatternCame}
+use Rattle.matching.specs.code.Post.{nodeAt, placeOf, placeFrom, placesOf, kindAt, readPlan, visited, entryKind, EntryOf, envOf, runAt, EntryAsks, Came, PlacesAsks, PlanIn, PatternAsks, isMatch, listAfter, PatternCame}
+use Rattle.matching.proofs.Lists.{whole-list}
 use Rattle.matching.proofs.EntryLists.{all-at, Has, here, has-at, blank, scratch-kind, scratch-node, scratch-count}
 use Rattle.matching.proofs.Shown.{bindsBy, Truthful, entries-true, Shown, plan-shown, visited-has, reads-plan}
+
+-- a node with an entry among the k from entry i on
+pub record Noted (scratch : List ℕ) (count : ℕ) (places : List ℕ) : Type 0 where
+  pub each : (i : ℕ) → i < count → (placeOf places (nodeAt scratch i) < count) × (nodeAt scratch (placeOf places (nodeAt scratch i)) ≡ nodeAt scratch i)
+  pub first : 0 < count → placeOf places (nodeAt scratch 0) ≡ 0
+
+place-found : (scratch : List ℕ) (n i k j : ℕ) → i ≤ j → j < i + k → nodeAt scratch j ≡ n → (placeFrom scratch n i k < i + k) × (nodeAt scratch (placeFrom scratch n i k) ≡ n)
+unfolding placeFrom
+place-found scratch n i zero j le lt e = absurd (omega arith)
+place-found scratch n i (suc k) j le lt e = go (eqb (nodeAt scratch i) n) refl (λ later. place-found scratch n (i + 1) k j later (omega arith) e)
+  where
+    go : (b : Bool) → eqb (nodeAt scratch i) n ≡ b → (i + 1 ≤ j → (placeFrom scratch n (i + 1) k < i + 1 + k) × (nodeAt scratch (placeFrom scratch n (i + 1) k) ≡ n))
+        → (cond b i (placeFrom scratch n (i + 1) k) < i + suc k) × (nodeAt scratch (cond b i (placeFrom scratch n (i + 1) k)) ≡ n)
+    go true p further = (omega arith, eqb-true (nodeAt scratch i) n p)
+    go false p further =
+        let q = eqb-false (nodeAt scratch i) n p in
+        let differs : j ≡ i → ⊥ = λ s. q (rw s at e) in
+        let r = further (omega (arith, differs)) in
+        let l = r .0 in
+        (omega arith, r .1)
+
+pub noted-places : {scratch : List ℕ} {count : ℕ} {places : List ℕ} → PlacesAsks scratch count → places ≡ placesOf scratch count → Noted scratch count places
+unfolding placesOf placeFrom
+noted-places {scratch} {count} {places} a is = record {
+  each = λ i lt. let r = place-found scratch (nodeAt scratch i) 0 count i (omega arith) (omega arith) refl in let l = r .0 in rw (at i lt) (omega arith, r .1);
+  first = λ lt. at 0 lt ∙ first count lt;
+}
+  where
+    at : (i : ℕ) → i < count → placeOf places (nodeAt scratch i) ≡ placeFrom scratch (nodeAt scratch i) 0 count
+    at i lt =
+        let low = a .each i lt .0 in
+        let high = a .each i lt .1 in
+        let z : 0 + (nodeAt scratch i - 1) + 1 ≡ nodeAt scratch i = omega arith in
+        ap (λ (l : List ℕ). placeOf l (nodeAt scratch i)) is
+        ∙ (getD-tabulate (λ m. placeFrom scratch (m + 1) 0 count) 0 512 (nodeAt scratch i - 1) (omega arith)
+        ∙ ap (λ (n : ℕ). placeFrom scratch n 0 count) z)
+
+    first : (count : ℕ) → 0 < count → placeFrom scratch (nodeAt scratch 0) 0 count ≡ 0
+    first zero lt = absurd (omega arith)
+    first (suc k) lt = let e = eq-eqb (nodeAt scratch 0) (nodeAt scratch 0) refl in rw e
 
 -- noting from the last entry on
 pub record Noting (scratch : List ℕ) (count i : ℕ) (places : List ℕ) : Type 0 where
   pub asks : PlacesAsks scratch count
   pub inside : i ≤ count
   pub long : length places ≡ 512
-  pub each : (j : ℕ) → i ≤ j → j < count → (placeOf places (nodeAt scratch j) < count) × (nodeAt scratch (placeOf places (nodeAt scratch j)) ≡ nodeAt scratch j)
-  pub first : i < count → placeOf places (nodeAt scratch i) ≡ i
+  pub each : (m : ℕ) → m < 512 → getD places m 0 ≡ placeFrom scratch (m + 1) i (count - i)
 
 pub noting-start : {scratch : List ℕ} {count : ℕ} → PlacesAsks scratch count → Noting scratch count count (replicate 512 0)
-noting-start a = record { asks = a; inside = omega arith; long = length-replicate {A = ℕ} 512 0; each = λ j le lt. absurd (omega arith); first = λ lt. absurd (omega arith) }
+unfolding placeFrom
+noting-start {scratch} {count} a =
+    let z : count - count ≡ 0 = omega arith in
+    record { asks = a; inside = omega arith; long = length-replicate {A = ℕ} 512 0; each = λ m lt. rw z (getD-replicate {A = ℕ} 512 m 0 0 lt) }
 
 module _ {scratch : List ℕ} {count i : ℕ} {places : List ℕ} (go : Noting scratch count i places) where
   module _ (more : 0 < i) where
@@ -55,37 +99,48 @@ module _ {scratch : List ℕ} {count i : ℕ} {places : List ℕ} (go : Noting s
       pub noting-place : node - 1 < 512
       noting-place = let l = noting-low in let h : node ≤ 512 = rw is (go .asks .each (i - 1) last .1) in omega arith
 
-      own : placeOf (set places (node - 1) (i - 1)) (nodeAt scratch (i - 1)) ≡ i - 1
-      own = let long = go .long in let p = noting-place in rw (← is) (getD-set-same places (node - 1) (i - 1) 0 (omega arith))
-
       pub noting-on : Noting scratch count (i - 1) (set places (node - 1) (i - 1))
+      unfolding placeFrom
       noting-on = record {
         asks = go .asks;
         inside = let l = last in omega arith;
         long = length-set places (node - 1) (i - 1) ∙ go .long;
-        each = λ j le lt. at j le lt (eqb (nodeAt scratch j) node) refl;
-        first = λ lt. own;
+        each = λ m lt. at m lt (eqb (nodeAt scratch (i - 1)) (m + 1)) refl;
       }
         where
-          at : (j : ℕ) → i - 1 ≤ j → j < count → (b : Bool) → eqb (nodeAt scratch j) node ≡ b
-              → (placeOf (set places (node - 1) (i - 1)) (nodeAt scratch j) < count) × (nodeAt scratch (placeOf (set places (node - 1) (i - 1)) (nodeAt scratch j)) ≡ nodeAt scratch j)
-          at j le lt true p =
-              let q : nodeAt scratch j ≡ nodeAt scratch (i - 1) = eqb-true (nodeAt scratch j) node p ∙ is in
-              let h : placeOf (set places (node - 1) (i - 1)) (nodeAt scratch j) ≡ i - 1 = ap (placeOf (set places (node - 1) (i - 1))) q ∙ own in
-              let l = last in
-              rw h (l, sym q)
-          at j le lt false p =
-              let q = eqb-false (nodeAt scratch j) node p in
-              let low = go .asks .each j lt .0 in
-              let low′ = noting-low in
-              let h : placeOf (set places (node - 1) (i - 1)) (nodeAt scratch j) ≡ placeOf places (nodeAt scratch j) = getD-set-other places (node - 1) (nodeAt scratch j - 1) (i - 1) 0 (λ e. q (omega arith)) in
-              rw h (go .each j (go-on j le (λ e. q (ap (nodeAt scratch) e ∙ sym is))) lt)
+          at : (m : ℕ) → m < 512 → (b : Bool) → eqb (nodeAt scratch (i - 1)) (m + 1) ≡ b → getD (set places (node - 1) (i - 1)) m 0 ≡ placeFrom scratch (m + 1) (i - 1) (count - (i - 1))
+          at m lt b p =
+              let n = go .inside in
+              let s : count - (i - 1) ≡ suc (count - i) = omega arith in
+              let y : i - 1 + 1 ≡ i = omega arith in
+              by m lt b p
+              ∙ sym (ap (λ (k : ℕ). placeFrom scratch (m + 1) (i - 1) k) s
+              ∙ (ap (λ (c : Bool). cond c (i - 1) (placeFrom scratch (m + 1) (i - 1 + 1) (count - i))) p
+              ∙ ap (λ (k : ℕ). cond b (i - 1) (placeFrom scratch (m + 1) k (count - i))) y))
             where
-              go-on : (j : ℕ) → i - 1 ≤ j → (j ≡ i - 1 → ⊥) → i ≤ j
-              go-on j le differs = omega (arith, differs)
+              by : (m : ℕ) → m < 512 → (b : Bool) → eqb (nodeAt scratch (i - 1)) (m + 1) ≡ b → getD (set places (node - 1) (i - 1)) m 0 ≡ cond b (i - 1) (placeFrom scratch (m + 1) i (count - i))
+              by m lt true p =
+                  let q : node ≡ m + 1 = is ∙ eqb-true (nodeAt scratch (i - 1)) (m + 1) p in
+                  let z : m ≡ node - 1 = omega arith in
+                  let long = go .long in
+                  ap (λ (k : ℕ). getD (set places (node - 1) (i - 1)) k 0) z ∙ getD-set-same places (node - 1) (i - 1) 0 (omega arith)
+              by m lt false p =
+                  let q = eqb-false (nodeAt scratch (i - 1)) (m + 1) p in
+                  let low = noting-low in
+                  getD-set-other places (node - 1) m (i - 1) 0 (λ e. q (sym is ∙ (omega arith))) ∙ go .each m lt
 
-  pub noting-ends : i ≤ 0 → Noted scratch count places
-  noting-ends le = let z : i ≡ 0 = omega arith in record { each = λ j lt. go .each j (omega arith) lt; first = λ lt. rw z at (go .first (omega arith)) }
+  pub noting-ends : i ≤ 0 → places ≡ placesOf scratch count
+  unfolding placesOf
+  noting-ends le =
+      ext-getD 0 places (tabulate (λ m. placeFrom scratch (m + 1) 0 count) 0 512) (go .long ∙ sym (length-tabulate (λ m. placeFrom scratch (m + 1) 0 count) 0 512)) (λ m lt.
+      let long = go .long in
+      let z : i ≡ 0 = omega arith in
+      let y : count - i ≡ count = omega arith in
+      let x : 0 + m ≡ m = omega arith in
+      go .each m (omega arith)
+      ∙ (ap (λ (k : ℕ). placeFrom scratch (m + 1) k (count - i)) z
+      ∙ (ap (λ (k : ℕ). placeFrom scratch (m + 1) 0 k) y
+      ∙ sym (getD-tabulate (λ m. placeFrom scratch (m + 1) 0 count) 0 512 m (omega arith) ∙ ap (λ (k : ℕ). placeFrom scratch (k + 1) 0 count) x))))
 
 -- a plan in the scratch
 module _ (T : Tables) (w : WellFormed T) (u : ℕ → Bool) (root : ℕ) {scratch : List ℕ} {count : ℕ} (p : PlanIn T u root scratch count) where
@@ -235,7 +290,10 @@ module _ {T : Tables} {scratch : List ℕ} {count value : ℕ} {list : List ℕ}
   pub pattern-places : PlacesAsks scratch count
   pattern-places = ask-places T (a .table) (a .unbound) (a .root) (a .planned)
 
-  module _ {places : List ℕ} (noted : Noted scratch count places) where
+  module _ {places : List ℕ} (is : places ≡ placesOf scratch count) where
+    noted : Noted scratch count places
+    noted = noted-places pattern-places is
+
     root-is : nodeAt scratch 0 ≡ a .root
     root-is = first-node T (a .table) (a .unbound) (a .root) (a .planned)
 
@@ -255,7 +313,19 @@ module _ {T : Tables} {scratch : List ℕ} {count value : ℕ} {list : List ℕ}
       });
     }
 
-    pub pattern-came : {after : List ℕ} {r : Bool} → Came T (runAt T scratch places (nodeAt scratch 0) value list) after r → PatternCame T scratch count value list after r
-    pattern-came {after} {r} c = record {
-      each = λ u root p. subst (λ (o : Outcome). Came T o after r) (ap (λ (n : ℕ). runAt T scratch places n value list) (first-node T (a .table) u root p) ∙ runs-plan T (a .table) u root p noted value list) c;
-    }
+    module _ {after : List ℕ} {r : Bool} (c : Came T (runAt T scratch places (nodeAt scratch 0) value list) after r) where
+      came-as : (u : ℕ → Bool) (root : ℕ) → PlanIn T u root scratch count → Came T (run (plan u (expr T root) []) (valueOf (expr T value)) (envOf T list)) after r
+      came-as u root p = subst (λ (o : Outcome). Came T o after r) (ap (λ (n : ℕ). runAt T scratch places n value list) (first-node T (a .table) u root p) ∙ runs-plan T (a .table) u root p noted value list) c
+
+      pub pattern-matched : r ≡ true → PatternCame T scratch count value list (record { matched = true; list = after })
+      pattern-matched t = record {
+        each = λ u root p.
+            let d = came-as u root p in
+            let e = d .hit t in
+            record { told = sym (ap isMatch e); names = whole-list (a .table) (d .list-ok) ∙ sym (ap (λ (o : Outcome). listAfter o list) e) };
+      }
+
+      pub pattern-missed : r ≡ false → PatternCame T scratch count value list (record { matched = false; list = list })
+      pattern-missed t = record {
+        each = λ u root p. let e = came-as u root p .miss t in record { told = sym (ap isMatch e); names = sym (ap (λ (o : Outcome). listAfter o list) e) };
+      }

@@ -7,7 +7,7 @@ use mathlib.Core.Path.{_≡_, refl, sym, _∙_}
 use lib.Dec.{T}
 use Rattle.literal.specs.Literal.{null}
 use Rattle.table.specs.Expr.{Expr}
-use Rattle.table.specs.Rules.{elem}
+use Rattle.base.specs.Lists.{elem}
 use Rattle.planner.specs.Plan.{after}
 use Rattle.planner.specs.Simple.{mentions}
 use Rattle.value.specs.Value.{Value, literalᵛ, proper, Proper, Same}

@@ -14,18 +14,18 @@ use Rattle.table.specs.Tables.{Tables, kindOf, firstOf, countOf, childAt}
 use Rattle.table.specs.Decode.{expr, items, fields, fieldsOf}
 use Rattle.table.specs.Expr as Expr
 use Rattle.table.specs.Expr.{Expr, literal, name, wildcard, array, object, other, Exprs, item, Fields, done, field, nodeOf}
-use Rattle.table.specs.Rules.{elem}
-use Rattle.table.specs.Sound.{Node, WellFormed}
+use Rattle.base.specs.Lists.{elem}
+use Rattle.table.specs.code.Sound.{Node, WellFormed}
 use Rattle.table.proofs.tests.Bools.{and-true}
 use Rattle.table.proofs.trees.Lists.{elem-nil, elem-cons, elem-append}
 use Rattle.table.proofs.trees.Trees.{child-node, width-array, width-object, count-items}
 use Rattle.planner.specs.Plan.{var, equalityExpr, arrayPlan, objectPlan, itemPlan, fieldPlan, fresh, plan, plans, fieldPlans, after}
 use Rattle.planner.specs.Layout.{Entry, entry, literalKey, FieldOrder, noFields, addField, entries, entriesAll, fieldOrder}
 use Rattle.planner.specs.code.Passes.{binderOf, layOut, layOutAll, layOutFields}
-use Rattle.planner.specs.Simple.{sameKey, hasKey, differing, addKey, keysOf, isLiteral, simple, simpleAll, simpleFields}
+use Rattle.planner.specs.Simple.{sameKey, hasKey, differing, addKey, keysOf, isLiteral, admitted, simple, simpleAll, simpleFields}
 use Rattle.value.proofs.Admitted.{array-item, object-value}
-use Rattle.matching.specs.Post.{visited, visitedAll, visitedFields, entryKind, readPlan, readPlans, readFields}
-use Rattle.matching.proofs.Patterns.{PatternShape, pattern-literal, pattern-wildcard, pattern-name, pattern-array, pattern-object, pattern-shape, simple-admitted, admitted-simple}
+use Rattle.matching.specs.code.Post.{visited, visitedAll, visitedFields, entryKind, readPlan, readPlans, readFields}
+use Rattle.matching.proofs.Patterns.{PatternShape, pattern-literal, pattern-wildcard, pattern-name, pattern-array, pattern-object, pattern-shape}
 use Rattle.matching.proofs.EntryLists.{AllE, all-append, AllOrder, all-none, all-add, all-order, Has, here, there, has-left, has-right, InSlot, slot-new, slot-kept, order-has}
 
 -- does a name's node bind, by `binders`?
@@ -76,11 +76,11 @@ module _ (T : Tables) (w : WellFormed T) (b : List ℕ) where
       go (s .0) (s .1) (s .2)
       (λ k i lt. let wide = width-array (kindOf (T .nodes) n) (countOf (T .nodes) n) k in let below = w .below n v i (omega arith) in
       true-to fuel (childAt (T .children) (firstOf (T .nodes) n + i)) (child-node T w n v i (omega arith)) (omega arith)
-      (admitted-simple (expr T (childAt (T .children) (firstOf (T .nodes) n + i))) (array-item T w n v true (simple-admitted (expr T n) is) k i lt)) 0)
+      (array-item T w n v true is k i lt) 0)
       (λ k i lt key′. let wide = width-object (kindOf (T .nodes) n) (countOf (T .nodes) n) k in let below = w .below n v (i * 2 + 1) (omega arith) in
       let e : firstOf (T .nodes) n + (i * 2 + 1) ≡ firstOf (T .nodes) n + i * 2 + 1 = omega arith in
       true-to fuel (childAt (T .children) (firstOf (T .nodes) n + i * 2 + 1)) (rw e at (child-node T w n v (i * 2 + 1) (omega arith))) (let q = ap (λ (p : ℕ). childAt (T .children) p) e in omega arith)
-      (admitted-simple (expr T (childAt (T .children) (firstOf (T .nodes) n + i * 2 + 1))) (object-value T w n v true (simple-admitted (expr T n) is) k i lt)) key′)
+      (object-value T w n v true is k i lt) key′)
     where
       go : (e : Expr) → expr T n ≡ e → PatternShape T n e
           → (kindOf (T .nodes) n ≡ 7 → (i : ℕ) → i < countOf (T .nodes) n → AllE (Truthful T b) (layOut b (expr T (childAt (T .children) (firstOf (T .nodes) n + i))) 0))
@@ -126,7 +126,7 @@ module _ (u : ℕ → Bool) (whole : List Entry) where
 
   -- a field in order stays there, and a later one of another key leaves it
   stays : {k n : ℕ} (l : Literal) (fs : Fields) (seen : List ℕ) (o : FieldOrder (List Entry)) → simpleFields fs ≡ true → hasKey l (keysOf fs) ≡ false → InSlot k n l (o .literals) → InSlot k n l (fieldOrder (fieldPlans u fs seen) o .literals)
-  unfolding plan entries simple keysOf hasKey
+  unfolding plan entries admitted keysOf hasKey
   stays l done seen o is new h = h
   stays {k} {n} l (field κ v fs) seen o is new h =
       let p = and-true (isLiteral (literalKey κ)) (simple v && simpleFields fs) is in
@@ -145,7 +145,7 @@ module _ (u : ℕ → Bool) (whole : List Entry) where
           f (addField (Option.some j) (entries (plan u v seen) (nodeOf κ)) o) (e .1) (slot-kept l (record { at = j; held = entries (plan u v seen) (nodeOf κ) }) (o .literals) (e .0) h)
 
   mutual
-    unfolding plan entries simple keysOf
+    unfolding plan entries admitted keysOf
 
     shown : (e : Expr) (seen : List ℕ) (key : ℕ) → simple e ≡ true → ((k n : ℕ) → Has k n (entries (plan u e seen) key) → Has k n whole) → Shown e seen
     shown (literal n l) seen key is f = f 4 n (here refl refl)
@@ -221,7 +221,7 @@ module _ (u : ℕ → Bool) (whole : List Entry) where
   -- kinds that agree with the entries say the plan
   module _ (kind : ℕ → ℕ) (agree : (k n : ℕ) → Has k n whole → kind n ≡ k) where
     mutual
-      unfolding readPlan plan simple
+      unfolding readPlan plan admitted
 
       pub reads-plan : (e : Expr) (seen : List ℕ) → Shown e seen → readPlan kind e ≡ plan u e seen
       reads-plan (literal n l) seen s = refl

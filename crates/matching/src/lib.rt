@@ -1,2 +1,2 @@
 // Carrying the plan of a pattern out on a value.
-pub mod walk;
+pub mod inner;

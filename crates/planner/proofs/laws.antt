@@ -4,5 +4,10 @@ pub mod Binders
 pub mod PlanLaws
 pub mod States
 pub mod SamePlan
+pub mod Answers
 pub mod Operations
+pub mod Names
+pub mod Mentions
 pub mod Validating
+pub mod ShortPlans
+pub mod ShortOutcomes

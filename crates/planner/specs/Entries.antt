@@ -1,11 +1,12 @@
 -- Entries in the words of a scratch or a buffer.
-use Prim.Native.Nat.{ℕ, zero, suc, _+_, _*_, _/_, _^_, _≤_}
+use Prim.Native.Nat.{ℕ, zero, suc, _+_, _*_, _/_}
 use mathlib.Core.Path.{_≡_}
 use mathlib.Core.Bool.{cond}
 use mathlib.Core.List.{List, [], _∷_}
 use lib.Dec.{ltb}
 use lib.ListN.{length, getD}
 use lib.Seq.{sets}
+use Rattle.base.specs.Lent.{Slices}
 use Rattle.planner.specs.Layout.{Entry, entry, words}
 
 abbrev pub entryAt : List ℕ → ℕ → Entry
@@ -30,8 +31,6 @@ pub record Wrote (before : List ℕ) (at : ℕ) (es : List Entry) (after : List 
   pub end : r ≡ at + length es
   pub put : after ≡ putEntries before at es
 
--- as many entries stand in a scratch
-pub record CopyAsks (scratch : List ℕ) (at count : ℕ) : Type 0 where
-  pub held : count * 4 ≤ length scratch
-  pub few : count ≤ 512
-  pub low : at ≤ 2 ^ 40
+-- the same of a `&mut` buffer, at entry and at exit
+abbrev pub WroteIn : Slices → ℕ → List Entry → ℕ → Type 0
+WroteIn plan at es r = Wrote (plan .entry .now) at es (plan .exit .now) r

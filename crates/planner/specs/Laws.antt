@@ -2,14 +2,14 @@
 use Prim.Native.Nat.{ℕ}
 use mathlib.Core.Path.{_≡_}
 use mathlib.Core.Bool.{Bool, true, cond}
-use mathlib.Core.List.{List, [], _∷_}
+use mathlib.Core.List.{List, []}
 use mathlib.Core.Option.{Option}
 use mathlib.Core.Option as Option
-use lib.Dec.{eqb}
 use Rattle.table.specs.Expr.{Expr, literal, name, wildcard, array, set, object, other, Exprs, none, item, Fields, done, field}
-use Rattle.table.specs.Rules.{noRepeat}
-use Rattle.planner.specs.Plan.{DestructuringPlan, var, ignore, equalityExpr, equalityValue, arrayPlan, objectPlan, Plans, noPlan, itemPlan, FieldPlans, noField, fieldPlan, fresh, plan, after, boundVars}
-use Rattle.planner.specs.Layout.{Entry}
+use Rattle.base.specs.Lists.{noRepeat}
+use Rattle.planner.specs.declared.PlanAnswer.{PlanAnswer}
+use Rattle.planner.specs.Answer.{lineOf}
+use Rattle.planner.specs.Plan.{DestructuringPlan, var, ignore, equalityExpr, equalityValue, arrayPlan, objectPlan, Plans, noPlan, itemPlan, FieldPlans, noField, fieldPlan, fresh, plan, after, trackedVars}
 
 -- The Rust's create_destructuring_plan_with_tracking may fail: an array or object one of whose parts has no plan has none.
 abbrev pub orFail : {A B C : Type 0} → (A → B → C) → Option A → Option B → Option C
@@ -40,9 +40,8 @@ pub record PlanLaws (unbound : ℕ → Bool) (e : Expr) : Type 0 where
   -- FailedToCreateDestructuringPlan never comes up
   pub exists : (newlyBound : List ℕ) → createPlan unbound e newlyBound ≡ Option.some (plan unbound e newlyBound)
   -- fields that an equal key replaced included
-  pub once : noRepeat (boundVars (plan unbound e [])) ≡ true
+  pub once : noRepeat (trackedVars (plan unbound e [])) ≡ true
 
--- the names of the entries that bind, by their nodes
-unfoldable pub boundNames : (ℕ → ℕ) → List Entry → List ℕ
-boundNames nm [] = []
-boundNames nm (e ∷ es) = cond (eqb (e .kind) 1) (nm (e .node) ∷ boundNames nm es) (boundNames nm es)
+-- document 01's numbers settle the answer
+pub record LineLaws : Type 0 where
+  pub settled : (r q : PlanAnswer) → lineOf r ≡ lineOf q → r ≡ q

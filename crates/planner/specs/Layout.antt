@@ -1,7 +1,7 @@
 -- The entries of a plan, in plan order: parents first, each child followed by its own children before the next child;
 -- an object's literal fields in key order, then its computed ones as written.
 use Prim.Native.Nat.{ℕ, _+_}
-use mathlib.Core.Bool.{Bool, false, _||_}
+use mathlib.Core.Bool.{Bool, false, cond, _||_}
 use mathlib.Core.List.{List, [], _∷_, _++_, map}
 use mathlib.Core.Option.{Option}
 use mathlib.Core.Option as Option
@@ -106,3 +106,8 @@ bindsAny (e ∷ es) = (eqb (e .kind) 1 || eqb (e .kind) 2) || bindsAny es
 
 abbrev pub introducesBinding : DestructuringPlan → Bool
 introducesBinding p = bindsAny (entries p 0)
+
+-- the names of the entries that bind, by their nodes
+unfoldable pub boundNames : (ℕ → ℕ) → List Entry → List ℕ
+boundNames nm [] = []
+boundNames nm (e ∷ es) = cond (eqb (e .kind) 1) (nm (e .node) ∷ boundNames nm es) (boundNames nm es)

@@ -4,7 +4,7 @@ use mathlib.Core.Bool.{Bool, cond, _&&_, not}
 use mathlib.Core.List.{List, [], _∷_, _++_}
 use Rattle.literal.specs.Literal.{Literal}
 use Rattle.table.specs.Expr.{Expr, literal, name, wildcard, array, set, object, other, Exprs, none, item, Fields, done, field}
-use Rattle.table.specs.Rules.{elem}
+use Rattle.base.specs.Lists.{elem}
 
 mutual
   pub data DestructuringPlan : Type 0 where
@@ -69,20 +69,20 @@ module _ (unbound : ℕ → Bool) where
     afterFields done newlyBound = newlyBound
     afterFields (field k v fs) newlyBound = afterFields fs (after v newlyBound)
 
--- The names that a plan binds, as written.
+-- The names that planning binds, as written: those of fields that an equal key replaces too, which the Rust's bound_vars leaves out.
 unfoldable mutual
-  pub boundVars : DestructuringPlan → List ℕ
-  boundVars (var n x) = x ∷ []
-  boundVars (ignore n) = []
-  boundVars (equalityExpr e) = []
-  boundVars (equalityValue n l) = []
-  boundVars (arrayPlan n ps) = boundVarsAll ps
-  boundVars (objectPlan n fs) = boundVarsFields fs
+  pub trackedVars : DestructuringPlan → List ℕ
+  trackedVars (var n x) = x ∷ []
+  trackedVars (ignore n) = []
+  trackedVars (equalityExpr e) = []
+  trackedVars (equalityValue n l) = []
+  trackedVars (arrayPlan n ps) = trackedVarsAll ps
+  trackedVars (objectPlan n fs) = trackedVarsFields fs
 
-  pub boundVarsAll : Plans → List ℕ
-  boundVarsAll noPlan = []
-  boundVarsAll (itemPlan p ps) = boundVars p ++ boundVarsAll ps
+  pub trackedVarsAll : Plans → List ℕ
+  trackedVarsAll noPlan = []
+  trackedVarsAll (itemPlan p ps) = trackedVars p ++ trackedVarsAll ps
 
-  pub boundVarsFields : FieldPlans → List ℕ
-  boundVarsFields noField = []
-  boundVarsFields (fieldPlan k p fs) = boundVars p ++ boundVarsFields fs
+  pub trackedVarsFields : FieldPlans → List ℕ
+  trackedVarsFields noField = []
+  trackedVarsFields (fieldPlan k p fs) = trackedVars p ++ trackedVarsFields fs

@@ -4,12 +4,13 @@ use mathlib.Core.Bool.{Bool, true, false, _&&_, _||_, not}
 use mathlib.Core.List.{List, [], _∷_}
 use mathlib.Core.Option.{Option}
 use mathlib.Core.Option as Option
-use lib.Dec.{eqb}
 use Rattle.literal.specs.Literal.{Literal}
 use Rattle.literal.specs.Order.{keyOrder}
 use Rattle.table.specs.Names.{isSame}
 use Rattle.table.specs.Expr.{Expr, literal, name, wildcard, array, set, object, other, Exprs, none, item, Fields, done, field}
+use Rattle.base.specs.Lists.{elem}
 use Rattle.planner.specs.Layout.{literalKey}
+use Rattle.planner.specs.Names.{namesIn}
 
 -- literals are equal by the order of keys
 abbrev pub sameKey : Literal → Literal → Bool
@@ -37,39 +38,35 @@ abbrev pub isLiteral : Option Literal → Bool
 isLiteral (Option.some l) = true
 isLiteral Option.none = false
 
-unfoldable mutual
-  pub simple : Expr → Bool
-  simple (literal n l) = true
-  simple (name n x) = true
-  simple (wildcard n) = true
-  simple (array n es) = simpleAll es
-  simple (set n es) = false
-  simple (object n fs) = differing (keysOf fs) && simpleFields fs
-  simple (other n) = false
+-- Simple patterns, and without names and underscores values.
+module _ (names : Bool) where
+  unfoldable mutual
+    pub admitted : Expr → Bool
+    admitted (literal n l) = true
+    admitted (name n x) = names
+    admitted (wildcard n) = names
+    admitted (array n es) = admittedAll es
+    admitted (set n es) = false
+    admitted (object n fs) = differing (keysOf fs) && admittedFields fs
+    admitted (other n) = false
 
-  pub simpleAll : Exprs → Bool
-  simpleAll none = true
-  simpleAll (item e es) = simple e && simpleAll es
+    pub admittedAll : Exprs → Bool
+    admittedAll none = true
+    admittedAll (item e es) = admitted e && admittedAll es
 
-  pub simpleFields : Fields → Bool
-  simpleFields done = true
-  simpleFields (field k v fs) = isLiteral (literalKey k) && (simple v && simpleFields fs)
+    pub admittedFields : Fields → Bool
+    admittedFields done = true
+    admittedFields (field k v fs) = isLiteral (literalKey k) && (admitted v && admittedFields fs)
+
+abbrev pub simple : Expr → Bool
+simple = admitted true
+
+abbrev pub simpleAll : Exprs → Bool
+simpleAll = admittedAll true
+
+abbrev pub simpleFields : Fields → Bool
+simpleFields = admittedFields true
 
 -- Does the name x stand at or below the expression, keys and sets included?
-unfoldable mutual
-  pub mentions : ℕ → Expr → Bool
-  mentions x (literal n l) = false
-  mentions x (name n y) = eqb x y
-  mentions x (wildcard n) = false
-  mentions x (array n es) = mentionsAny x es
-  mentions x (set n es) = mentionsAny x es
-  mentions x (object n fs) = mentionsFields x fs
-  mentions x (other n) = false
-
-  pub mentionsAny : ℕ → Exprs → Bool
-  mentionsAny x none = false
-  mentionsAny x (item e es) = mentions x e || mentionsAny x es
-
-  pub mentionsFields : ℕ → Fields → Bool
-  mentionsFields x done = false
-  mentionsFields x (field k v fs) = mentions x k || (mentions x v || mentionsFields x fs)
+abbrev pub mentions : ℕ → Expr → Bool
+mentions x e = elem x (namesIn true true e)

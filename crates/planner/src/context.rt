@@ -1,22 +1,18 @@
 // What the scope says of every name, asked once at the start of an operation (context.rs).
-ghost use Prim.Native.Nat.{_/_, _≤_};
+ghost use Rattle.base.specs.Lent.{old};
 ghost use mathlib.Core.Path.{_≡_};
-ghost use lib.ListN.{length};
-ghost use Rattle.table.specs.Tables.{nameBytes};
-ghost use Rattle.table.specs.Names.{classOf};
 ghost use Rattle.scope.specs.Scope.{isUnbound};
-ghost use Rattle.planner.specs.code.Post.{NameNumber, StatesOf};
-ghost use Rattle.planner.specs.Operations.{isSound};
-ghost use Rattle.planner.specs.code.Passes.{stateBy, unboundMark};
+ghost use Rattle.planner.specs.code.Post.{NameNumber, statesOf};
+ghost use Rattle.planner.specs.code.Passes.{unboundMark};
+ghost use Rattle.planner.specs.code.Validation.{markIf, flagOf, flagsOf};
 use scope::Binding;
 use scope::Scope;
 use scope::ScopingMode;
 use table::NameClass;
-use table::TableAnswer;
 use table::reading::name_class;
 
 // 1 where the scope calls the name unbound.
-pub(crate) fn unbound_mark(scope: Scope, scoping: ScopingMode, name: u32) -> u8
+fn unbound_mark(scope: Scope, scoping: ScopingMode, name: u32) -> u8
     requires { ⌜ NameNumber name ⌝ }
     ensures { λ r. ⌜ r ≡ unboundMark (isUnbound scope scoping name) ⌝ }
 {
@@ -28,42 +24,81 @@ pub(crate) fn unbound_mark(scope: Scope, scoping: ScopingMode, name: u32) -> u8
     }
 }
 
-// 0 known, 1 unbound, 2 `_`.
-fn name_state(names: &[u32], text: &[u8], scope: Scope, scoping: ScopingMode, name: u32) -> u8
+// 1 for an unbound name; if `defined`, for one with no binder that is known.
+fn name_mark(scope: Scope, scoping: ScopingMode, defined: bool, binder: u32, name: u32) -> u8
     requires { ⌜ NameNumber name ⌝ }
-    ensures { λ r. ⌜ r ≡ stateBy (classOf (nameBytes (now (names .entry)) (now (text .entry)) name)) (isUnbound scope scoping name) ⌝ }
+    ensures { λ r. ⌜ r ≡ markIf defined binder (isUnbound scope scoping name) ⌝ }
 {
+    let unbound = unbound_mark(scope, scoping, name);
+    if !defined {
+        return unbound;
+    }
+    if binder != 0 {
+        return 0;
+    }
+    if unbound == 1 {
+        return 0;
+    }
+    1
+}
+
+// 2 `_`, 0 a name that the table does not have, any other by its mark; `input` and `data` are not defined.
+fn name_state(
+    names: &[u32],
+    text: &[u8],
+    scope: Scope,
+    scoping: ScopingMode,
+    defined: bool,
+    binders: &[u32; 128],
+    name: u32,
+) -> u8
+    requires { ⌜ NameNumber name ⌝ }
+    ensures { λ r. ⌜ r ≡ flagOf (old names) (old text) scope scoping defined (old binders) name ⌝ }
+{
+    if names.len() / 2 < name as usize {
+        return 0;
+    }
+    let binder = binders[name as usize - 1];
     let class = name_class(names, text, name);
     match class {
         NameClass::Underscore => 2,
-        NameClass::InputOrData => unbound_mark(scope, scoping, name),
-        NameClass::Ordinary => unbound_mark(scope, scoping, name),
+        NameClass::InputOrData => name_mark(scope, scoping, defined, 1, name),
+        NameClass::Ordinary => name_mark(scope, scoping, defined, binder, name),
     }
 }
 
-// The states of all names, by their numbers.
-pub fn name_states(names: &[u32], text: &[u8], scope: Scope, scoping: ScopingMode) -> [u8; 128]
-    requires { ⌜ length (now names) / 2 ≤ 128 ⌝ }
-    ensures { λ r. ⌜ StatesOf (now (names .entry)) (now (text .entry)) scope scoping r ⌝ }
+// The flags of all names, by their numbers: 1 unbound, or `defined` already, given the binders of a plan.
+pub(crate) fn name_flags(
+    names: &[u32],
+    text: &[u8],
+    scope: Scope,
+    scoping: ScopingMode,
+    defined: bool,
+    binders: &[u32; 128],
+) -> [u8; 128]
+    ensures { λ r. ⌜ r ≡ flagsOf (old names) (old text) scope scoping defined (old binders) ⌝ }
 {
-    let mut states = [0u8; 128];
-    let count = names.len() / 2;
+    let mut flags = [0u8; 128];
     let mut i: usize = 0;
-    while i < count {
-        states[i] = name_state(names, text, scope, scoping, (i + 1) as u32);
+    while i < 128 {
+        flags[i] = name_state(
+            names,
+            text,
+            scope,
+            scoping,
+            defined,
+            binders,
+            (i + 1) as u32,
+        );
         i += 1;
     }
-    states
+    flags
 }
 
-pub fn is_sound(answer: TableAnswer) -> bool
-    ensures { λ r. ⌜ r ≡ isSound answer ⌝ }
+// The states of all names, by their numbers: 0 known or not in the table, 1 unbound, 2 `_`.
+pub fn name_states(names: &[u32], text: &[u8], scope: Scope, scoping: ScopingMode) -> [u8; 128]
+    ensures { λ r. ⌜ r ≡ statesOf (old names) (old text) scope scoping ⌝ }
 {
-    match answer {
-        TableAnswer::Sound => true,
-        TableAnswer::OverLimit => false,
-        TableAnswer::BreaksRules => false,
-        TableAnswer::TooDeep => false,
-        TableAnswer::EqualNames => false,
-    }
+    let none = [0u32; 128];
+    name_flags(names, text, scope, scoping, false, &none)
 }

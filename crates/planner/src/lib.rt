@@ -3,10 +3,10 @@ pub mod buffer;
 pub mod context;
 pub mod destructuring;
 pub mod fields;
+pub mod inner;
 pub mod parameters;
-mod plans;
 
-use table::TableAnswer;
+use table::TableRefusal;
 
 pub enum PlanAnswer {
     Planned {
@@ -14,7 +14,7 @@ pub enum PlanAnswer {
         side: u32,
         entries: usize,
     },
-    TableRefused(TableAnswer),
+    TableRefused(TableRefusal),
     RootOutside,
     PlanTooLarge {
         needed: usize,

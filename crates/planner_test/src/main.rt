@@ -6,7 +6,7 @@ use planner::parameters::create_loop_index_binding_plan;
 use planner::parameters::create_parameter_binding_plan;
 use scope::Scope;
 use scope::ScopingMode;
-use table::TableAnswer;
+use table::TableRefusal;
 use table::refusal_number;
 ghost use mathlib.Core.Path.{_≡_};
 ghost use Prim.Native.Nat.{_<_};
@@ -211,7 +211,7 @@ fn print_row(a: u64, b: u64, c: u64, d: u64) {
     io::write_all(STDOUT_FILENO, b"\n");
 }
 
-fn refusal(answer: TableAnswer) -> u64 {
+fn refusal(answer: TableRefusal) -> u64 {
     refusal_number(answer) as u64
 }
 

@@ -1,12 +1,14 @@
 -- The names that a pattern meets: those that it plans, those in a simple pattern; each is a name of the table.
-use Prim.Native.Nat.{ℕ, _-_}
-use mathlib.Core.Path.{_≡_, refl, sym, ap, ap₂, _∙_}
+use Prim.Native.Nat.{ℕ, _-_, _+_, _<_}
+use mathlib.Core.Path.{_≡_, refl, sym, ap, ap₂, subst, _∙_}
 use mathlib.Core.Logic.{⊎-elim}
-use mathlib.Core.List.{List, [], _∷_, _++_}
+use mathlib.Core.List.{List, [], _∷_}
 use mathlib.Core.Bool.{Bool, true, false, cond, _&&_, _||_, not, false≢true}
 use native.Mathlib.Omega.{arith}
-use borrow.Author.Tests.{eqb-true, eq-eqb, ne-eqb}
+use borrow.Author.Tests.{eqb-true, ne-eqb, lt-ltb}
 use lib.Dec.{T as True, eqb}
+use lib.ListN.{getD}
+use lib.Seq.{ext-getD}
 use Rattle.scope.specs.declared.Scope.{Scope}
 use Rattle.scope.specs.declared.ScopingMode.the-variants.{AllowShadowing}
 use Rattle.scope.specs.Scope.{isUnderscore, isUnbound, newScope}
@@ -15,28 +17,37 @@ use Rattle.table.specs.Tables.{Tables}
 use Rattle.table.specs.Expr as Expr
 use Rattle.table.specs.Expr.{Expr, literal, name, wildcard, array, object, other, Exprs, item, Fields, done, field}
 use Rattle.table.specs.Decode.{expr}
-use Rattle.table.specs.Rules.{elem}
-use Rattle.table.specs.Sound.{Node, Named, WellFormed}
-use Rattle.table.proofs.tests.Bools.{and-true}
-use Rattle.table.proofs.trees.Lists.{elem-nil, elem-cons, elem-append}
+use Rattle.base.specs.Lists.{elem, tabulate}
+use Rattle.table.specs.code.Sound.{Node, Named, WellFormed}
+use Rattle.table.proofs.tests.Bools.{and-true, or-true}
+use Rattle.table.proofs.trees.Lists.{elem-nil}
 use Rattle.planner.specs.Plan.{after, afterAll, afterFields}
 use Rattle.planner.specs.Layout.{literalKey}
-use Rattle.planner.specs.code.Post.{PatternPlanned}
-use Rattle.planner.specs.Simple.{isLiteral, keysOf, differing, simple, simpleAll, simpleFields, mentions, mentionsAny, mentionsFields}
+use Rattle.planner.specs.code.Post.{PatternPlanned, NameNumber, GoodRoot}
+use Rattle.planner.specs.Simple.{isLiteral, keysOf, differing, admitted, simple, simpleAll, simpleFields, mentions}
+use Rattle.planner.specs.Names.{occurrences, occurrencesAll, occurrencesFields, namesOf}
+use Rattle.planner.proofs.laws.Operations.{pattern-tracked}
+use Rattle.planner.proofs.laws.Mentions.{names-or, mentionsAny, mentionsFields, mentions-name, mentions-item, mentions-field}
 use Rattle.planner.proofs.laws.Binders.{AllNames, AllNamesAll, AllNamesFields, names-all}
 use Rattle.value.proofs.Keys.{or-left, or-right, or-elim, is-true, true-is}
 use Rattle.matching.proofs.Fits.{silent}
-use Rattle.report.specs.Report.{namesMet, namesMetAll, namesMetFields}
-use Rattle.report.specs.Post.{MetBy}
+use Rattle.report.specs.Report.{namesMet}
+use Rattle.planner.proofs.buffer.Filling.{length-tabulate, getD-tabulate}
+use Rattle.report.specs.code.Post.{metWords, metMark}
 
-elem-or : (x : ℕ) (xs ys : List ℕ) → elem x (xs ++ ys) ≡ (elem x xs || elem x ys)
-unfolding elem
-elem-or x [] ys = refl
-elem-or x (y ∷ xs) ys = ap (λ (b : Bool). eqb x y || b) (elem-or x xs ys) ∙ assoc (eqb x y) (elem x xs) (elem x ys)
-  where
-    assoc : (a b c : Bool) → (a || (b || c)) ≡ ((a || b) || c)
-    assoc true b c = refl
-    assoc false b c = refl
+abbrev namesMetAll : Exprs → List ℕ
+namesMetAll es = namesOf (occurrencesAll false false es)
+
+abbrev namesMetFields : Fields → List ℕ
+namesMetFields fs = namesOf (occurrencesFields false false fs)
+
+met-or : (x : ℕ) (e : Expr) (es : Exprs) → elem x (namesMetAll (item e es)) ≡ (elem x (namesMet e) || elem x (namesMetAll es))
+unfolding occurrences
+met-or x e es = names-or x (occurrences false false e) (occurrencesAll false false es)
+
+met-field : (x : ℕ) (k v : Expr) (fs : Fields) → elem x (namesMetFields (field k v fs)) ≡ (elem x (namesMet v) || elem x (namesMetFields fs))
+unfolding occurrences
+met-field x k v fs = names-or x (occurrences false false v) (occurrencesFields false false fs)
 
 module _ (u : ℕ → Bool) (x : ℕ) where
   two : (a b c d : Bool) → ((b && c) || ((a && c) || d)) ≡ (((a || b) && c) || d)
@@ -49,7 +60,7 @@ module _ (u : ℕ → Bool) (x : ℕ) where
   two false false c d = refl
 
   mutual
-    unfolding after namesMet elem
+    unfolding after occurrences namesOf elem
 
     -- the names planned once a pattern is: those that it meets and the scope doesn't know, and those of before
     pub after-met : (e : Expr) (seen : List ℕ) → elem x (after u e seen) ≡ ((elem x (namesMet e) && u x) || elem x seen)
@@ -74,27 +85,23 @@ module _ (u : ℕ → Bool) (x : ℕ) where
     after-met-all (item e es) seen =
         after-met-all es (after u e seen)
         ∙ (ap (λ (b : Bool). (elem x (namesMetAll es) && u x) || b) (after-met e seen)
-        ∙ (two (elem x (namesMet e)) (elem x (namesMetAll es)) (u x) (elem x seen) ∙ ap (λ (b : Bool). (b && u x) || elem x seen) (sym (elem-or x (namesMet e) (namesMetAll es)))))
+        ∙ (two (elem x (namesMet e)) (elem x (namesMetAll es)) (u x) (elem x seen) ∙ ap (λ (b : Bool). (b && u x) || elem x seen) (sym (met-or x e es))))
 
     after-met-fields : (fs : Fields) (seen : List ℕ) → elem x (afterFields u fs seen) ≡ ((elem x (namesMetFields fs) && u x) || elem x seen)
     after-met-fields done seen = refl
     after-met-fields (field k v fs) seen =
         after-met-fields fs (after u v seen)
         ∙ (ap (λ (b : Bool). (elem x (namesMetFields fs) && u x) || b) (after-met v seen)
-        ∙ (two (elem x (namesMet v)) (elem x (namesMetFields fs)) (u x) (elem x seen) ∙ ap (λ (b : Bool). (b && u x) || elem x seen) (sym (elem-or x (namesMet v) (namesMetFields fs)))))
+        ∙ (two (elem x (namesMet v)) (elem x (namesMetFields fs)) (u x) (elem x seen) ∙ ap (λ (b : Bool). (b && u x) || elem x seen) (sym (met-field x k v fs))))
 
 module _ (x : ℕ) where
   mutual
-    unfolding mentions namesMet simple elem
+    unfolding occurrences namesOf admitted elem
 
     -- a simple pattern meets every name in it
     pub mentions-met : (e : Expr) → simple e ≡ true → mentions x e ≡ elem x (namesMet e)
     mentions-met (literal n l) is = refl
-    mentions-met (name n y) is = go (eqb x y)
-      where
-        go : (b : Bool) → b ≡ (b || false)
-        go true = refl
-        go false = refl
+    mentions-met (name n y) is = refl
     mentions-met (wildcard n) is = refl
     mentions-met (array n es) is = mentions-met-all es is
     mentions-met (Expr.set n es) is = absurd (false≢true is)
@@ -105,7 +112,7 @@ module _ (x : ℕ) where
     mentions-met-all Expr.none is = refl
     mentions-met-all (item e es) is =
         let p = and-true (simple e) (simpleAll es) is in
-        ap₂ (λ (a b : Bool). a || b) (mentions-met e (p .0)) (mentions-met-all es (p .1)) ∙ sym (elem-or x (namesMet e) (namesMetAll es))
+        mentions-item x e es ∙ (ap₂ (λ (a b : Bool). a || b) (mentions-met e (p .0)) (mentions-met-all es (p .1)) ∙ sym (met-or x e es))
 
     mentions-met-fields : (fs : Fields) → simpleFields fs ≡ true → mentionsFields x fs ≡ elem x (namesMetFields fs)
     mentions-met-fields done is = refl
@@ -113,32 +120,67 @@ module _ (x : ℕ) where
         let p = and-true (isLiteral (literalKey k)) (simple v && simpleFields fs) is in
         let q = and-true (simple v) (simpleFields fs) (p .1) in
         let s = silent x k (true-is (p .0)) in
-        ap (λ (b : Bool). b || (mentions x v || mentionsFields x fs)) s
-        ∙ (ap₂ (λ (a b : Bool). a || b) (mentions-met v (q .0)) (mentions-met-fields fs (q .1)) ∙ sym (elem-or x (namesMet v) (namesMetFields fs)))
+        mentions-field x k v fs
+        ∙ (ap (λ (b : Bool). b || (mentions x v || mentionsFields x fs)) s
+        ∙ (ap₂ (λ (a b : Bool). a || b) (mentions-met v (q .0)) (mentions-met-fields fs (q .1)) ∙ sym (met-field x k v fs)))
 
 -- where no name is known
-pub met-by : (T : Tables) (root : ℕ) {s : Scope} {at : ℕ} {before met scratch : List ℕ} {r : ℕ} → s ≡ newScope 0 false → PatternPlanned T s AllowShadowing root at before met scratch r → MetBy (expr T root) met
-unfolding isUnderscore newScope elem
-met-by T root {s} {before} {met} {scratch} {r} is p = record {
-  each = λ x v.
-      let low = v .low in
-      let z : eqb x 0 ≡ false = ne-eqb x 0 (λ e. omega arith) in
-      let free : isUnbound s AllowShadowing x ≡ true = ap (λ (t : Scope). isUnbound t AllowShadowing x) is ∙ (new-promise 0 false .is-unbound AllowShadowing x ∙ ap not z) in
-      sym (after-met (isUnbound s AllowShadowing) x (expr T root) [] ∙ (ap (λ (b : Bool). (elem x (namesMet (expr T root)) && b) || false) free ∙ plain (elem x (namesMet (expr T root))))) ∙ p .tracked x v;
-}
+pub met-by : (T : Tables) (root : ℕ) {s : Scope} {at : ℕ} {before binders scratch met : List ℕ} {r : ℕ} → GoodRoot T root → s ≡ newScope 0 false → PatternPlanned T s AllowShadowing root at before binders scratch r
+    → met ≡ tabulate (metMark binders) 0 128 → met ≡ metWords (expr T root)
+unfolding isUnderscore newScope elem metWords
+met-by T root {s} {binders = binders} {met = met} g is p of =
+    of ∙ ext-getD 0 (tabulate (metMark binders) 0 128) (tabulate (λ i. cond (elem (i + 1) (namesMet (expr T root))) 2 0) 0 128)
+    (length-tabulate (metMark binders) 0 128 ∙ sym (length-tabulate (λ i. cond (elem (i + 1) (namesMet (expr T root))) 2 0) 0 128))
+    (λ i lt.
+    let long = length-tabulate (metMark binders) 0 128 in
+    let small : i < 128 = omega arith in
+    let z : 0 + i ≡ i = omega arith in
+    let q : i + 1 - 1 ≡ i = omega arith in
+    let e = lt-ltb i 128 small in
+    let known : elem (i + 1) (namesMet (expr T root)) ≡ not (eqb (getD binders i 0) 0) = rw q at (each (i + 1) (record { low = omega arith; high = omega arith })) in
+    getD-tabulate (metMark binders) 0 128 i small
+    ∙ (ap (metMark binders) z
+    ∙ (rw e (turn (eqb (getD binders i 0) 0))
+    ∙ sym (getD-tabulate (λ j. cond (elem (j + 1) (namesMet (expr T root))) 2 0) 0 128 i small ∙ (ap (λ (j : ℕ). cond (elem (j + 1) (namesMet (expr T root))) 2 0) z ∙ ap (λ (b : Bool). cond b 2 0) known)))))
   where
     plain : (b : Bool) → ((b && true) || false) ≡ b
     plain true = refl
     plain false = refl
 
+    turn : (b : Bool) → _≡_ {A = ℕ} (cond b 0 2) (cond (not b) 2 0)
+    turn true = refl
+    turn false = refl
+
+    each : (x : ℕ) → NameNumber x → elem x (namesMet (expr T root)) ≡ not (eqb (getD binders (x - 1) 0) 0)
+    each x v =
+        let low = v .low in
+        let z : eqb x 0 ≡ false = ne-eqb x 0 (λ e. omega arith) in
+        let free : isUnbound s AllowShadowing x ≡ true = ap (λ (t : Scope). isUnbound t AllowShadowing x) is ∙ (new-promise 0 false .is-unbound AllowShadowing x ∙ ap not z) in
+        sym (after-met (isUnbound s AllowShadowing) x (expr T root) [] ∙ (ap (λ (b : Bool). (elem x (namesMet (expr T root)) && b) || false) free ∙ plain (elem x (namesMet (expr T root))))) ∙ pattern-tracked (g .table) (g .node) p x v
+
+-- the word of a name
+pub met-at : (e : Expr) {met : List ℕ} → met ≡ metWords e → (x : ℕ) → NameNumber x → elem x (namesMet e) ≡ not (eqb (getD met (x - 1) 0) 0)
+unfolding metWords
+met-at e {met} is x v =
+    let low = v .low in
+    let high = v .high in
+    let z : 0 + (x - 1) + 1 ≡ x = omega arith in
+    sym (ap (λ (l : List ℕ). not (eqb (getD l (x - 1) 0) 0)) is
+    ∙ (ap (λ (n : ℕ). not (eqb n 0)) (getD-tabulate (λ i. cond (elem (i + 1) (namesMet e)) 2 0) 0 128 (x - 1) (omega arith))
+    ∙ (ap (λ (y : ℕ). not (eqb (cond (elem y (namesMet e)) 2 0) 0)) z ∙ told (elem x (namesMet e)))))
+  where
+    told : (b : Bool) → not (eqb (cond b 2 0) 0) ≡ b
+    told true = refl
+    told false = refl
+
 -- a name that is met stands in the pattern
 module _ (x : ℕ) where
   mutual
-    unfolding namesMet mentions elem
+    unfolding occurrences namesOf elem
 
     pub met-mentioned : (e : Expr) → elem x (namesMet e) ≡ true → True (mentions x e)
     met-mentioned (literal n l) h = absurd (elem-nil x h)
-    met-mentioned (name n y) h = ⊎-elim (λ q. true-is (eq-eqb x y q)) (λ q. absurd (elem-nil x q)) (elem-cons x y [] h)
+    met-mentioned (name n y) h = true-is h
     met-mentioned (wildcard n) h = absurd (elem-nil x h)
     met-mentioned (array n es) h = met-mentioned-all es h
     met-mentioned (Expr.set n es) h = absurd (elem-nil x h)
@@ -148,22 +190,24 @@ module _ (x : ℕ) where
     met-mentioned-all : (es : Exprs) → elem x (namesMetAll es) ≡ true → True (mentionsAny x es)
     met-mentioned-all Expr.none h = absurd (elem-nil x h)
     met-mentioned-all (item e es) h =
-        ⊎-elim (λ q. or-left (mentions x e) (mentionsAny x es) (met-mentioned e q)) (λ q. or-right (mentions x e) (mentionsAny x es) (met-mentioned-all es q)) (elem-append x (namesMet e) (namesMetAll es) h)
+        subst True (sym (mentions-item x e es))
+        (⊎-elim (λ q. or-left (mentions x e) (mentionsAny x es) (met-mentioned e q)) (λ q. or-right (mentions x e) (mentionsAny x es) (met-mentioned-all es q)) (or-true (elem x (namesMet e)) (elem x (namesMetAll es)) (sym (met-or x e es) ∙ h)))
 
     met-mentioned-fields : (fs : Fields) → elem x (namesMetFields fs) ≡ true → True (mentionsFields x fs)
     met-mentioned-fields done h = absurd (elem-nil x h)
     met-mentioned-fields (field k v fs) h =
-        or-right (mentions x k) (mentions x v || mentionsFields x fs)
-        (⊎-elim (λ q. or-left (mentions x v) (mentionsFields x fs) (met-mentioned v q)) (λ q. or-right (mentions x v) (mentionsFields x fs) (met-mentioned-fields fs q)) (elem-append x (namesMet v) (namesMetFields fs) h))
+        subst True (sym (mentions-field x k v fs))
+        (or-right (mentions x k) (mentions x v || mentionsFields x fs)
+        (⊎-elim (λ q. or-left (mentions x v) (mentionsFields x fs) (met-mentioned v q)) (λ q. or-right (mentions x v) (mentionsFields x fs) (met-mentioned-fields fs q)) (or-true (elem x (namesMet v)) (elem x (namesMetFields fs)) (sym (met-field x k v fs) ∙ h))))
 
 -- what holds of each name of a pattern holds of the names in it
 module _ (P : ℕ → Type 0) where
   mutual
-    unfolding AllNames mentions
+    unfolding AllNames occurrences namesOf elem
 
-    mentioned : (e : Expr) → AllNames (λ n x. P x) e → (x : ℕ) → True (mentions x e) → P x
+    pub mentioned : (e : Expr) → AllNames (λ n x. P x) e → (x : ℕ) → True (mentions x e) → P x
     mentioned (literal n l) all x t = absurd t
-    mentioned (name n y) all x t = let q = eqb-true x y (is-true t) in rw q all
+    mentioned (name n y) all x t = let q = eqb-true x y (sym (mentions-name x n y) ∙ is-true t) in rw q all
     mentioned (wildcard n) all x t = absurd t
     mentioned (array n es) all x t = mentioned-all es all x t
     mentioned (Expr.set n es) all x t = mentioned-all es all x t
@@ -172,12 +216,12 @@ module _ (P : ℕ → Type 0) where
 
     mentioned-all : (es : Exprs) → AllNamesAll (λ n x. P x) es → (x : ℕ) → True (mentionsAny x es) → P x
     mentioned-all Expr.none all x t = absurd t
-    mentioned-all (item e es) all x t = or-elim (mentions x e) (mentionsAny x es) t (λ h. mentioned e (all .0) x h) (λ h. mentioned-all es (all .1) x h)
+    mentioned-all (item e es) all x t = or-elim (mentions x e) (mentionsAny x es) (subst True (mentions-item x e es) t) (λ h. mentioned e (all .0) x h) (λ h. mentioned-all es (all .1) x h)
 
     mentioned-fields : (fs : Fields) → AllNamesFields (λ n x. P x) fs → (x : ℕ) → True (mentionsFields x fs) → P x
     mentioned-fields done all x t = absurd t
     mentioned-fields (field k v fs) all x t =
-        or-elim (mentions x k) (mentions x v || mentionsFields x fs) t (λ h. mentioned k (all .0) x h)
+        or-elim (mentions x k) (mentions x v || mentionsFields x fs) (subst True (mentions-field x k v fs) t) (λ h. mentioned k (all .0) x h)
         (λ h. or-elim (mentions x v) (mentionsFields x fs) h (λ g. mentioned v (all .1) x g) (λ g. mentioned-fields fs (all .2) x g))
 
 pub mentioned-named : (T : Tables) → WellFormed T → (n : ℕ) → Node T n → (x : ℕ) → True (mentions x (expr T n)) → Named T x

@@ -1,39 +1,44 @@
 -- The names report, from its marks to the list at the end.
 use Prim.Native.Nat.{ℕ, suc, _+_, _-_, _*_, _/_, _≤_, _<_}
-use mathlib.Core.Path.{_≡_, refl, sym, ap, ap₂, _∙_}
+use mathlib.Core.Path.{_≡_, refl, sym, ap, _∙_}
 use mathlib.Core.List.{List, [], _∷_}
-use mathlib.Core.Bool.{Bool, true, false, cond, _||_, not, false≢true}
+use mathlib.Core.Bool.{Bool, true, false, cond, _||_, not}
 use native.Mathlib.Omega.{arith}
-use borrow.Author.Tests.{eqb-true, eqb-false, eq-eqb, ne-eqb, le-leb, lt-leb, lt-ltb, le-ltb, ltb-true, ltb-false, not-true}
+use borrow.Author.Tests.{eqb-true, eqb-false, eq-eqb, ne-eqb, le-leb, lt-leb, lt-ltb, le-ltb, ltb-true, ltb-false}
 use lib.Dec.{eqb, leb, ltb}
-use lib.ListN.{length, getD, set, replicate, length-set}
+use lib.ListN.{length, getD, set, replicate, length-set, length-replicate}
 use lib.Seq.{getD-set-same, getD-set-other, ext-getD}
 use Rattle.scope.specs.declared.Scope.{Scope}
 use Rattle.scope.specs.declared.ScopingMode.{ScopingMode}
 use Rattle.scope.specs.Scope.{isUnbound}
 use Rattle.table.specs.declared.TableAnswer.{TableAnswer}
-use Rattle.table.specs.declared.TableAnswer.the-variants.{Sound, OverLimit, BreaksRules, TooDeep, EqualNames}
+use Rattle.table.specs.declared.TableAnswer.the-variants.{Sound, Refused}
+use Rattle.table.specs.declared.TableRefusal.{TableRefusal}
 use Rattle.table.specs.Tables.{Tables, firstOf, nameCount, isNode}
 use Rattle.table.specs.Expr as Expr
 use Rattle.table.specs.Expr.{Expr, literal, name, wildcard, array, object, other, Exprs, item, Fields, done, field, nodeOf}
 use Rattle.table.specs.Decode.{expr}
-use Rattle.table.specs.Rules.{elem}
-use Rattle.table.specs.Check.{checked}
-use Rattle.table.specs.Sound.{Named}
+use Rattle.base.specs.Lists.{elem, tabulate}
+use Rattle.table.specs.Check.{tableRefused, TableAnswered, testedOf, allNodes}
+use Rattle.table.specs.code.Sound.{Named}
 use Rattle.table.proofs.tests.Bools.{told-no, told-yes}
+use Rattle.base.specs.Refusal.{rootOutside, listTooShort, Tested, testedOr}
 use Rattle.planner.specs.Plan.{var, equalityExpr, fresh, plan, plans, fieldPlans, after}
-use Rattle.planner.specs.Layout.{Entry, literalKey, FieldOrder, noFields, addField, concat, entries, entriesAll, fieldOrder}
-use Rattle.planner.specs.Operations.{isSound, planOf}
-use Rattle.planner.specs.code.Post.{Laid, PatternPlanned, tabulate}
+use Rattle.planner.specs.Layout.{Entry, literalKey, FieldOrder, noFields, addField, concat, entries, entriesAll, fieldOrder, boundNames}
+use Rattle.planner.specs.Operations.{planOf}
+use Rattle.planner.specs.code.Post.{Laid, PatternPlanned}
+use Rattle.planner.specs.Entries.{readEntries}
 use Rattle.planner.proofs.laws.Binders.{AllNames, AllNamesAll, AllNamesFields, names-all}
+use Rattle.planner.proofs.buffer.Copies.{wrote-read}
 use Rattle.planner.proofs.buffer.Filling.{length-tabulate, getD-tabulate}
-use Rattle.planner.proofs.laws.Operations.{table-passes, sound-well, root-node}
+use Rattle.planner.proofs.laws.Operations.{sound-well, root-node}
 use Rattle.matching.proofs.EntryLists.{AllE, all-append, all-at, AllOrder, all-none, all-add, all-order, blank, scratch-laid, scratch-kind, scratch-node}
 use Rattle.report.specs.declared.ReportAnswer.{ReportAnswer}
 use Rattle.report.specs.declared.ReportAnswer.the-variants.{Reported, TableRefused, RootOutside, ListTooShort}
-use Rattle.report.specs.Report.{boundIn, namesMet, reported, answerAfter, reportAnswer, reportList, ReportedBy}
-use Rattle.report.specs.Post.{MetBy, metMark, EntryBound, markedBy, boundFrom, BoundAsks, BoundMarked, ReportAsks, PlannedMarked, ReportMarked}
-use Rattle.report.proofs.Meeting.{met-mentioned, mentioned-named}
+use Rattle.report.specs.Answer.{reportLine}
+use Rattle.report.specs.Report.{namesMet, reported, ReportOutcome, refused, filled, require, reportOutcome, reportAnswer, reportList, ReportedBy}
+use Rattle.report.specs.code.Post.{metWords, metMark, EntryBound, markedBy, BoundAsks, BoundMarked, ReportAsks, PlannedMarked, ReportMarked}
+use Rattle.report.proofs.Meeting.{met-at, met-mentioned, mentioned-named}
 
 -- the mark of a name that is met
 module _ (met : List ℕ) (i : ℕ) where
@@ -66,7 +71,7 @@ pub record MarkingBound (nodes scratch : List ℕ) (count : ℕ) (before : List 
   pub asks : BoundAsks nodes scratch count before
   pub inside : i ≤ count
   pub long : length here ≡ length before
-  pub same : (k : ℕ) → cond (elem (k + 1) (boundFrom nodes scratch i (count - i))) 1 (getD here k 0) ≡ cond (elem (k + 1) (boundFrom nodes scratch 0 count)) 1 (getD before k 0)
+  pub same : (k : ℕ) → cond (elem (k + 1) (boundNames (firstOf nodes) (readEntries scratch i (count - i)))) 1 (getD here k 0) ≡ cond (elem (k + 1) (boundNames (firstOf nodes) (readEntries scratch 0 count))) 1 (getD before k 0)
 
 pub bound-start : {nodes scratch : List ℕ} {count : ℕ} {before : List ℕ} → BoundAsks nodes scratch count before → MarkingBound nodes scratch count before 0 before
 bound-start {nodes} {scratch} {count} {before} a = let z : count - 0 ≡ count = omega arith in record { asks = a; inside = omega arith; long = refl; same = λ k. rw z }
@@ -83,19 +88,19 @@ module _ {nodes scratch : List ℕ} {count : ℕ} {before : List ℕ} {i : ℕ} 
     bound-entry = record { inside = λ one. let p = go .asks .each i more .inside one in let l = go .long in (p .0, rw l (p .1)) }
 
     pub bound-on : {after : List ℕ} → after ≡ markedBy nodes (getD scratch (i * 4) 0) (getD scratch (i * 4 + 1) 0) here → MarkingBound nodes scratch count before (i + 1) after
-    unfolding boundFrom elem
+    unfolding boundNames readEntries elem
     bound-on {after} e = by (eqb (getD scratch (i * 4) 0) 1) refl
       where
         rest : ℕ → Bool
-        rest k = elem (k + 1) (boundFrom nodes scratch (i + 1) (count - (i + 1)))
+        rest k = elem (k + 1) (boundNames (firstOf nodes) (readEntries scratch (i + 1) (count - (i + 1))))
 
         x : ℕ
         x = firstOf nodes (getD scratch (i * 4 + 1) 0)
 
-        unrolled : (b : Bool) → eqb (getD scratch (i * 4) 0) 1 ≡ b → boundFrom nodes scratch i (count - i) ≡ cond b (x ∷ boundFrom nodes scratch (i + 1) (count - (i + 1))) (boundFrom nodes scratch (i + 1) (count - (i + 1)))
+        unrolled : (b : Bool) → eqb (getD scratch (i * 4) 0) 1 ≡ b → boundNames (firstOf nodes) (readEntries scratch i (count - i)) ≡ cond b (x ∷ boundNames (firstOf nodes) (readEntries scratch (i + 1) (count - (i + 1)))) (boundNames (firstOf nodes) (readEntries scratch (i + 1) (count - (i + 1))))
         unrolled b p =
             let s : count - i ≡ suc (count - (i + 1)) = omega arith in
-            ap (boundFrom nodes scratch i) s ∙ ap (λ (c : Bool). cond c (x ∷ boundFrom nodes scratch (i + 1) (count - (i + 1))) (boundFrom nodes scratch (i + 1) (count - (i + 1)))) p
+            ap (λ (n : ℕ). boundNames (firstOf nodes) (readEntries scratch i n)) s ∙ ap (λ (c : Bool). cond c (x ∷ boundNames (firstOf nodes) (readEntries scratch (i + 1) (count - (i + 1)))) (boundNames (firstOf nodes) (readEntries scratch (i + 1) (count - (i + 1))))) p
 
         either : (c : Bool) → _≡_ {A = ℕ} (cond c 1 1) 1
         either true = refl
@@ -138,7 +143,7 @@ module _ {nodes scratch : List ℕ} {count : ℕ} {before : List ℕ} {i : ℕ} 
   bound-long = go .long
 
   pub bound-ends : count ≤ i → BoundMarked nodes scratch count before here
-  unfolding boundFrom elem
+  unfolding boundNames readEntries elem
   bound-ends le = let z : count - i ≡ 0 = omega arith in record { long = go .long; each = λ k. rw z at (go .same k) }
 
 -- a bind entry's node is that of a name
@@ -175,18 +180,6 @@ module _ (T : Tables) (u : ℕ → Bool) where
         binds-names-fields fs (all .2) (after u v seen) (addField (literalKey k) (entries (plan u v seen) (nodeOf k)) o)
         (all-add BindsName (literalKey k) (entries (plan u v seen) (nodeOf k)) o (binds-names v (all .1) seen (nodeOf k)) a)
 
--- the names of the bind entries, as the scratch has them
-bound-entries : (nodes scratch : List ℕ) (i : ℕ) (es : List Entry) → ((j : ℕ) → j < length es → (getD scratch ((i + j) * 4) 0 ≡ getD es j blank .kind) × (getD scratch ((i + j) * 4 + 1) 0 ≡ getD es j blank .node))
-    → boundFrom nodes scratch i (length es) ≡ boundIn nodes es
-unfolding boundFrom boundIn
-bound-entries nodes scratch i [] each = refl
-bound-entries nodes scratch i (e ∷ es) each =
-    let z : i + 0 ≡ i = omega arith in
-    let p = rw z at (each 0 (omega arith)) in
-    let r = bound-entries nodes scratch (i + 1) es (λ j lt. let q : i + (j + 1) ≡ i + 1 + j = omega arith in let s : j + 1 ≡ suc j = omega arith in rw s at (rw q at (each (j + 1) (omega arith)))) in
-    ap₂ (λ (k n : ℕ). cond (eqb k 1) (firstOf nodes n ∷ boundFrom nodes scratch (i + 1) (length es)) (boundFrom nodes scratch (i + 1) (length es))) (p .0) (p .1)
-    ∙ ap (λ (l : List ℕ). cond (eqb (e .kind) 1) (firstOf nodes (e .node) ∷ l) l) r
-
 module _ (T : Tables) (s : Scope) (mode : ScopingMode) (pattern : ℕ) {list : List ℕ} (a : ReportAsks T pattern list) where
   module _ {binders scratch : List ℕ} {count : ℕ} (p : PatternPlanned T s mode pattern 0 (replicate 2048 0) binders scratch count) where
     abbrev es : List Entry
@@ -219,13 +212,12 @@ module _ (T : Tables) (s : Scope) (mode : ScopingMode) (pattern : ℕ) {list : L
 
     pub planned-marked : {after : List ℕ} → BoundMarked (T .nodes) scratch count list after → PlannedMarked T s mode pattern list after
     planned-marked m =
-        let z = size in
-        let e = bound-entries (T .nodes) scratch 0 es (λ j lt. let y : 0 + j ≡ j = omega arith in rw y (scratch-kind es few (laid .stored) j lt, scratch-node es few (laid .stored) j lt)) in
-        let q : boundFrom (T .nodes) scratch 0 count ≡ boundIn (T .nodes) es = ap (boundFrom (T .nodes) scratch 0) z ∙ e in
-        record { long = m .long; each = λ k. m .each k ∙ ap (λ (l : List ℕ). cond (elem (k + 1) l) 1 (getD list k 0)) q }
+        let f = p .few in
+        let q = wrote-read (p .wrote) (omega (arith, length-replicate {A = ℕ} 2048 0)) in
+        record { long = m .long; each = λ k. m .each k ∙ ap (λ (l : List Entry). cond (elem (k + 1) (boundNames (firstOf (T .nodes)) l)) 1 (getD list k 0)) q }
 
 -- met, then bound
-module _ (T : Tables) (s : Scope) (mode : ScopingMode) (pattern : ℕ) {before : List ℕ} (a : ReportAsks T pattern before) {met : List ℕ} (by : MetBy (expr T pattern) met) where
+module _ (T : Tables) (s : Scope) (mode : ScopingMode) (pattern : ℕ) {before : List ℕ} (a : ReportAsks T pattern before) {met : List ℕ} (by : met ≡ metWords (expr T pattern)) where
   module _ {mid : List ℕ} (is : mid ≡ tabulate (metMark met) 0 (length before)) where
     mid-long : length mid ≡ length before
     mid-long = ap length is ∙ length-tabulate (metMark met) 0 (length before)
@@ -249,7 +241,7 @@ module _ (T : Tables) (s : Scope) (mode : ScopingMode) (pattern : ℕ) {before :
         go true e =
             let lt = ltb-true k 128 e in
             let q : k + 1 - 1 ≡ k = omega arith in
-            let m : elem (k + 1) (namesMet (expr T pattern)) ≡ not (eqb (getD met k 0) 0) = rw q at (by .each (k + 1) (record { low = omega arith; high = omega arith })) in
+            let m : elem (k + 1) (namesMet (expr T pattern)) ≡ not (eqb (getD met k 0) 0) = rw q at (met-at (expr T pattern) by (k + 1) (record { low = omega arith; high = omega arith })) in
             pick (eqb (getD met k 0) 0) ∙ sym (ap (λ (c : Bool). cond c 2 0) m)
         go false e = none-met (elem (k + 1) (namesMet (expr T pattern))) refl (ltb-false k 128 e)
 
@@ -264,45 +256,38 @@ module _ (T : Tables) (s : Scope) (mode : ScopingMode) (pattern : ℕ) {before :
           let z : 0 + k ≡ k = omega arith in
           let here : getD mid k 0 ≡ cond (elem (k + 1) (namesMet (expr T pattern))) 2 0 = ap (λ (l : List ℕ). getD l k 0) is ∙ (getD-tabulate (metMark met) 0 (length before) k inside ∙ (ap (metMark met) z ∙ met-is k)) in
           m .each k
-          ∙ (ap (λ (v : ℕ). cond (elem (k + 1) (boundIn (T .nodes) (entries (planOf T s mode pattern) 0))) 1 v) here
+          ∙ (ap (λ (v : ℕ). cond (elem (k + 1) (boundNames (firstOf (T .nodes)) (entries (planOf T s mode pattern) 0))) 1 v) here
           ∙ sym (getD-tabulate (λ i. reported T s mode pattern (i + 1)) 0 (length before) k inside ∙ ap (λ (j : ℕ). reported T s mode pattern (j + 1)) z)));
     }
 
 -- the refusals
-module _ (T : Tables) (s : Scope) (mode : ScopingMode) (pattern : ℕ) (before : List ℕ) {c : TableAnswer} (is : c ≡ checked T s) {ok : Bool} (of : ok ≡ isSound c) where
-  reports : {after : List ℕ} (r : ReportAnswer) → reportAnswer T s pattern before ≡ r → after ≡ reportList r T s mode pattern before → ReportedBy T s mode pattern before after r
-  reports r e f = record { answer = sym e; list = f ∙ sym (ap (λ (x : ReportAnswer). reportList x T s mode pattern before) e) }
+module _ (T : Tables) (s : Scope) (mode : ScopingMode) (pattern : ℕ) (before : List ℕ) {c : TableAnswer} (is : TableAnswered T s c) where
+  reports : {after : List ℕ} (o : ReportOutcome) {r : ReportAnswer} → reportOutcome T s pattern before ≡ o → reportLine r ≡ reportAnswer o → after ≡ reportList o T s mode pattern before → ReportedBy T s mode pattern before after r
+  reports o e l f = record { answer = l ∙ sym (ap reportAnswer e); list = f ∙ sym (ap (λ (x : ReportOutcome). reportList x T s mode pattern before) e) }
 
-  pub report-table : {after : List ℕ} → not ok ≡ true → after ≡ replicate (length before) 0 → ReportedBy T s mode pattern before after (TableRefused c)
-  report-table {after} t z = go c refl
-    where
-      after-check : TableAnswer → ReportAnswer
-      after-check d = answerAfter d (cond (isNode T pattern) (cond (leb (nameCount T) (length before)) Reported ListTooShort) RootOutside)
+  abbrev sound : ReportOutcome
+  sound = require (allNodes T (pattern ∷ [])) rootOutside (require (leb (nameCount T) (length before)) listTooShort filled)
 
-      at : (d : TableAnswer) → c ≡ d → after-check d ≡ TableRefused d → ReportedBy T s mode pattern before after (TableRefused c)
-      at d p e = reports (TableRefused c) (ap after-check (sym is ∙ p) ∙ (e ∙ ap TableRefused (sym p))) z
+  by-check : {d : TableAnswer} → c ≡ d → reportOutcome T s pattern before ≡ testedOr refused (testedOf d) sound
+  by-check p = ap (λ (t : Tested). testedOr refused t sound) (sym (is .answer) ∙ ap testedOf p)
 
-      go : (d : TableAnswer) → c ≡ d → ReportedBy T s mode pattern before after (TableRefused c)
-      go Sound p = absurd (false≢true (sym (not-true ok t) ∙ (of ∙ ap isSound p)))
-      go OverLimit p = at OverLimit p refl
-      go BreaksRules p = at BreaksRules p refl
-      go TooDeep p = at TooDeep p refl
-      go EqualNames p = at EqualNames p refl
+  pub report-table : {d : TableRefusal} {after : List ℕ} → c ≡ Refused d → after ≡ replicate (length before) 0 → ReportedBy T s mode pattern before after (TableRefused d)
+  report-table {d} p z = reports (refused (tableRefused d)) (by-check p) refl z
 
-  module _ (passes : not ok ≡ false) {inside : Bool} (told : inside ≡ isNode T pattern) where
-    passed : reportAnswer T s pattern before ≡ cond (isNode T pattern) (cond (leb (nameCount T) (length before)) Reported ListTooShort) RootOutside
-    passed = ap (λ (d : TableAnswer). answerAfter d (cond (isNode T pattern) (cond (leb (nameCount T) (length before)) Reported ListTooShort) RootOutside)) (sym is ∙ table-passes of passes)
+  module _ (told-sound : c ≡ Sound) {inside : Bool} (told : inside ≡ isNode T pattern) where
+    passed : reportOutcome T s pattern before ≡ sound
+    passed = by-check told-sound
 
     pub report-root : {after : List ℕ} → not inside ≡ true → after ≡ replicate (length before) 0 → ReportedBy T s mode pattern before after RootOutside
-    report-root t z = let e = told-no told t in reports RootOutside (passed ∙ rw e) z
+    report-root t z = let e = told-no told t in reports (refused rootOutside) (passed ∙ rw e) refl z
 
     module _ (in-table : not inside ≡ false) where
       pub report-short : {after : List ℕ} → length before < length (T .names) / 2 → after ≡ replicate (length before) 0 → ReportedBy T s mode pattern before after ListTooShort
-      report-short lt z = let e = told-yes told in-table in let f = lt-leb (nameCount T) (length before) lt in reports ListTooShort (passed ∙ rw (e, f)) z
+      report-short lt z = let e = told-yes told in-table in let f = lt-leb (nameCount T) (length before) lt in reports (refused listTooShort) (passed ∙ rw (e, f)) refl z
 
       module _ (long : length (T .names) / 2 ≤ length before) where
         pub ask-report : ReportAsks T pattern before
-        ask-report = record { good = record { table = sound-well T s is of passes; node = root-node T pattern told in-table }; long = long }
+        ask-report = record { good = record { table = sound-well T s is told-sound; node = root-node T pattern told in-table }; long = long }
 
         pub report-done : {after : List ℕ} → ReportMarked T s mode pattern before after → ReportedBy T s mode pattern before after Reported
-        report-done m = let e = told-yes told in-table in let f = le-leb (nameCount T) (length before) long in reports Reported (passed ∙ rw (e, f)) (m .list)
+        report-done m = let e = told-yes told in-table in let f = le-leb (nameCount T) (length before) long in reports filled (passed ∙ rw (e, f)) refl (m .list)

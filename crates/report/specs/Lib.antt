@@ -1,3 +1,3 @@
 pub mod Answer
 pub mod Report
-pub mod Post
+pub mod code

@@ -1,22 +1,21 @@
 -- Demand 3, proved.
 use Prim.Native.Nat.{ℕ, _+_, _-_, _/_, _≤_, _<_}
-use mathlib.Core.Path.{_≡_, refl, sym, ap, subst, _∙_}
+use mathlib.Core.Path.{_≡_, refl, sym, ap, ap₂, subst, _∙_}
 use mathlib.Core.Logic.{_⊎_, inl, inr}
 use mathlib.Core.List.{List, []}
 use mathlib.Core.Bool.{Bool, true, false, cond, _&&_, _||_, not, false≢true}
 use mathlib.Core.Option.{none, some}
 use native.Mathlib.Omega.{arith}
 use borrow.Author.Tests.{eqb-true, eqb-false, le-leb, leb-true, leb-false}
-use lib.Dec.{eqb, leb}
+use lib.Dec.{T as True, eqb, leb}
 use lib.ListN.{length, getD, List·getD-eq-default}
 use Rattle.scope.specs.declared.Scope.{Scope}
 use Rattle.scope.specs.declared.ScopingMode.{ScopingMode}
-use Rattle.scope.specs.Scope.{isUnbound}
-use Rattle.table.specs.declared.TableAnswer.{TableAnswer}
-use Rattle.table.specs.Tables.{Tables, nodeCount, nameCount, isNode}
+use Rattle.scope.specs.Scope.{isUnbound, known}
+use Rattle.base.specs.Refusal.{Tested}
+use Rattle.table.specs.Tables.{Tables, nodeCount, nameCount}
 use Rattle.table.specs.Decode.{expr}
-use Rattle.table.specs.Rules.{allFrom}
-use Rattle.table.specs.Sound.{Node}
+use Rattle.base.specs.Lists.{allFrom}
 use Rattle.table.proofs.tests.Scan.{all-of}
 use Rattle.table.proofs.tests.Bools.{and-true}
 use Rattle.planner.specs.Layout.{entries}
@@ -24,25 +23,23 @@ use Rattle.planner.specs.Operations.{planOf, fits}
 use Rattle.planner.specs.Plan.{plan}
 use Rattle.planner.specs.Simple.{mentions}
 use Rattle.planner.proofs.buffer.Filling.{length-tabulate, getD-tabulate}
-use Rattle.value.specs.Value.{Value, valueOf, nodeᵛ, Same}
+use Rattle.value.specs.Value.{Value, valueOf, nodeᵛ, nodeIn, Same}
 use Rattle.value.proofs.Keys.{is-true, true-is}
 use Rattle.value.proofs.Equal.{laws}
 use Rattle.matching.specs.Matching.{Env, Outcome, matched, missed, fault, pickValue, start, Filling, Promise}
 use Rattle.matching.proofs.Fits.{filled}
 use Rattle.report.proofs.Meeting.{mentioned-named}
-use Rattle.run.specs.declared.RunAnswer.{RunAnswer}
-use Rattle.run.specs.declared.RunAnswer.the-variants.{Match, NoMatch}
-use Rattle.run.specs.Operations.{listedNode, isName, isValueNode, listed, valuesListed, knownListed, RunOutcome, carriedOut, tableFirst, ran, runChecked, runOutcome, answerOf, runAnswer, nodeIn, setNames, plannedName, valuesAfter}
-use Rattle.run.specs.Post.{RunAsks}
+use Rattle.run.specs.Answer.{RunResult, aMatch, noMatch}
+use Rattle.run.specs.Operations.{listedNode, isName, isValueNode, listed, valuesListed, knownListed, RunOutcome, carriedOut, tableFirst, ran, runChecked, runOutcome, carriedResult, runAnswer, setNames, plannedName, valuesAfter}
+use Rattle.run.specs.code.Post.{RunAsks, toBind}
 use Rattle.run.specs.Demand.{Hypotheses, answer, list, isPlanned, Fills, Promised, Demand}
+use Rattle.run.proofs.Checking.{node-of-test}
+use Rattle.run.proofs.Known.{planned-is}
 use Rattle.run.proofs.Running.{run-table, promised, listed-value, value-ok}
 use Rattle.run.proofs.Tabled.{Tabled, run-tabled, value-tabled}
 
 all-true : (p : ℕ → Bool) (from k : ℕ) → ((j : ℕ) → from ≤ j → j < from + k → p j ≡ true) → allFrom p from k ≡ true
 all-true p from k each = all-of p from k (λ j lt. each (from + j) (omega arith) (omega arith))
-
-node-in : (T : Tables) (n : ℕ) → isNode T n ≡ true → Node T n
-node-in T n e = let b = and-true (leb 1 n) (leb n (nodeCount T)) e in record { low = leb-true 1 n (b .0); high = leb-true n (nodeCount T) (b .1) }
 
 module _ (T : Tables) (s : Scope) (mode : ScopingMode) (pattern value : ℕ) (values buffer : List ℕ) (h : Hypotheses T s mode pattern value values buffer) where
   in-names : (x : ℕ) → 1 ≤ x → x < 1 + nameCount T → isName T x ≡ true
@@ -56,22 +53,22 @@ module _ (T : Tables) (s : Scope) (mode : ScopingMode) (pattern value : ℕ) (va
       at x n true e = refl
       at x n false e = h .listedAreValues x n (eqb-false (listedNode values x) 0 e)
 
-  all-known : knownListed T (isUnbound s mode) (expr T pattern) values ≡ true
+  all-known : knownListed T (known s mode) (expr T pattern) values ≡ true
   unfolding knownListed
-  all-known = all-true (λ x. not (mentions x (expr T pattern) && not (isUnbound s mode x)) || not (eqb (listedNode values x) 0)) 1 (nameCount T)
-      (λ x low lt. at x (mentions x (expr T pattern)) refl (isUnbound s mode x) refl (eqb (listedNode values x) 0) refl)
+  all-known = all-true (λ x. not (mentions x (expr T pattern) && known s mode x) || not (eqb (listedNode values x) 0)) 1 (nameCount T)
+      (λ x low lt. at x (mentions x (expr T pattern)) refl (known s mode x) refl (eqb (listedNode values x) 0) refl)
     where
-      at : (x : ℕ) (m : Bool) → mentions x (expr T pattern) ≡ m → (u : Bool) → isUnbound s mode x ≡ u → (z : Bool) → eqb (listedNode values x) 0 ≡ z → (not (m && not u) || not z) ≡ true
-      at x false m u p z q = refl
-      at x true m true p z q = refl
-      at x true m false p true q = absurd (h .knownAreListed x m p (eqb-true (listedNode values x) 0 q))
-      at x true m false p false q = refl
+      at : (x : ℕ) (m : Bool) → mentions x (expr T pattern) ≡ m → (k : Bool) → known s mode x ≡ k → (z : Bool) → eqb (listedNode values x) 0 ≡ z → (not (m && k) || not z) ≡ true
+      at x false m k p z q = refl
+      at x true m false p z q = refl
+      at x true m true p true q = absurd (h .knownAreListed x m p (eqb-true (listedNode values x) 0 q))
+      at x true m true p false q = refl
 
   asks : RunAsks T s mode pattern value values
   asks = record {
     sound = h .tablesPass;
-    pattern-node = node-in T pattern (h .patternInside);
-    value-node = node-in T value (h .valueInside);
+    pattern-node = node-of-test T pattern (h .patternInside);
+    value-node = node-of-test T value (h .valueInside);
     long = h .listLong;
     isSimple = h .patternSimple;
     aValue = h .valueIsValue;
@@ -83,7 +80,7 @@ module _ (T : Tables) (s : Scope) (mode : ScopingMode) (pattern value : ℕ) (va
   kept = promised asks
 
   -- nothing is refused
-  outcome-is : runOutcome T s mode pattern value values ≡ carriedOut (entries (planOf T s mode pattern) 0) (ran T s mode pattern value values)
+  pub outcome-is : runOutcome T s mode pattern value values ≡ carriedOut (entries (planOf T s mode pattern) 0) (ran T s mode pattern value values)
   outcome-is =
       let p = h .patternInside in
       let v = h .valueInside in
@@ -92,31 +89,39 @@ module _ (T : Tables) (s : Scope) (mode : ScopingMode) (pattern value : ℕ) (va
       let a = h .valueIsValue in
       let b = all-listed in
       let k = all-known in
-      ap (λ (c : TableAnswer). tableFirst c (runChecked T s mode pattern value values)) (h .tablesPass) ∙ rw (p, v, l, i, a, b, k)
+      ap (λ (c : Tested). tableFirst c (runChecked T s mode pattern value values)) (h .tablesPass) ∙ rw (p, v, l, i, a, b, k)
+
+  planned : plannedName (known s mode) (expr T pattern) ≡ toBind (isUnbound s mode) (expr T pattern)
+  planned = planned-is T s mode (h .tablesPass) pattern (asks .pattern-node)
+
+  bound-name : (x : ℕ) → isPlanned T s mode pattern value values buffer x → True (toBind (isUnbound s mode) (expr T pattern) x)
+  bound-name x p = subst (λ (f : ℕ → Bool). True (f x)) planned p
 
   space : fits (entries (planOf T s mode pattern) 0) buffer ≡ true
   space = let b = h .bufferLong in le-leb (length (entries (planOf T s mode pattern) 0)) (length buffer / 4) (omega arith)
 
-  answer-is : answer T s mode pattern value values buffer ≡ answerOf (ran T s mode pattern value values)
+  answer-is : answer T s mode pattern value values buffer ≡ carriedResult (ran T s mode pattern value values)
   unfolding runAnswer
   answer-is = let f = space in ap (λ (o : RunOutcome). runAnswer o buffer) outcome-is ∙ rw f
 
-  list-is : list T s mode pattern value values buffer ≡ setNames (plannedName (isUnbound s mode) (expr T pattern)) (ran T s mode pattern value values) values
+  list-is : list T s mode pattern value values buffer ≡ setNames (toBind (isUnbound s mode) (expr T pattern)) (ran T s mode pattern value values) values
   unfolding valuesAfter
-  list-is = let f = space in ap (λ (o : RunOutcome). valuesAfter (plannedName (isUnbound s mode) (expr T pattern)) o buffer values) outcome-is ∙ rw f
+  list-is =
+      let f = space in
+      ap₂ (λ (toSet : ℕ → Bool) (o : RunOutcome). valuesAfter toSet o buffer values) planned outcome-is ∙ rw f
 
   -- match or no match
-  decided : (o : Outcome) → (answerOf o ≡ Match) ⊎ (answerOf o ≡ NoMatch)
+  decided : (o : Outcome) → (carriedResult o ≡ aMatch) ⊎ (carriedResult o ≡ noMatch)
   decided (matched env) = inl refl
   decided missed = inr refl
   decided fault = inr refl
 
-  match-env : (o : Outcome) → answerOf o ≡ Match → (env : Env) × (o ≡ matched env)
+  match-env : (o : Outcome) → carriedResult o ≡ aMatch → (env : Env) × (o ≡ matched env)
   match-env (matched env) e = (env, refl)
   match-env missed e = absurd (false≢true (cc))
   match-env fault e = absurd (false≢true (cc))
 
-  matching : answer T s mode pattern value values buffer ≡ Match → (env : Env) × (ran T s mode pattern value values ≡ matched env)
+  matching : answer T s mode pattern value values buffer ≡ aMatch → (env : Env) × (ran T s mode pattern value values ≡ matched env)
   matching e = match-env (ran T s mode pattern value values) (sym answer-is ∙ e)
 
   -- the values at the start are the table's
@@ -136,24 +141,25 @@ module _ (T : Tables) (s : Scope) (mode : ScopingMode) (pattern value : ℕ) (va
 
   -- an entry of the list at exit
   entry-at : (env : Env) → ran T s mode pattern value values ≡ matched env → (i : ℕ) → i < length values
-      → getD (list T s mode pattern value values buffer) i 0 ≡ cond (plannedName (isUnbound s mode) (expr T pattern) (i + 1)) (nodeIn (env (i + 1))) (getD values i 0)
+      → getD (list T s mode pattern value values buffer) i 0 ≡ cond (toBind (isUnbound s mode) (expr T pattern) (i + 1)) (nodeIn (env (i + 1))) (getD values i 0)
   entry-at env e i lt =
       let z : 0 + i ≡ i = omega arith in
-      ap (λ (l : List ℕ). getD l i 0) (list-is ∙ ap (λ (o : Outcome). setNames (plannedName (isUnbound s mode) (expr T pattern)) o values) e)
-      ∙ (getD-tabulate (λ j. cond (plannedName (isUnbound s mode) (expr T pattern) (j + 1)) (nodeIn (env (j + 1))) (getD values j 0)) 0 (length values) i lt
-      ∙ ap (λ (j : ℕ). cond (plannedName (isUnbound s mode) (expr T pattern) (j + 1)) (nodeIn (env (j + 1))) (getD values j 0)) z)
+      ap (λ (l : List ℕ). getD l i 0) (list-is ∙ ap (λ (o : Outcome). setNames (toBind (isUnbound s mode) (expr T pattern)) o values) e)
+      ∙ (getD-tabulate (λ j. cond (toBind (isUnbound s mode) (expr T pattern) (j + 1)) (nodeIn (env (j + 1))) (getD values j 0)) 0 (length values) i lt
+      ∙ ap (λ (j : ℕ). cond (toBind (isUnbound s mode) (expr T pattern) (j + 1)) (nodeIn (env (j + 1))) (getD values j 0)) z)
 
-  list-long : (o : Outcome) → length (setNames (plannedName (isUnbound s mode) (expr T pattern)) o values) ≡ length values
-  list-long (matched env) = length-tabulate (λ j. cond (plannedName (isUnbound s mode) (expr T pattern) (j + 1)) (nodeIn (env (j + 1))) (getD values j 0)) 0 (length values)
+  list-long : (o : Outcome) → length (setNames (toBind (isUnbound s mode) (expr T pattern)) o values) ≡ length values
+  list-long (matched env) = length-tabulate (λ j. cond (toBind (isUnbound s mode) (expr T pattern) (j + 1)) (nodeIn (env (j + 1))) (getD values j 0)) 0 (length values)
   list-long missed = refl
   list-long fault = refl
 
-  sets : answer T s mode pattern value values buffer ≡ Match → (x : ℕ) → isPlanned T s mode pattern value values buffer x
+  sets : answer T s mode pattern value values buffer ≡ aMatch → (x : ℕ) → isPlanned T s mode pattern value values buffer x
       → (isValueNode T (listedNode (list T s mode pattern value values buffer) x) ≡ true)
       × ((f : Filling (expr T pattern)) → Fills T s mode pattern value values buffer f → Same (valueOf (expr T (listedNode (list T s mode pattern value values buffer) x))) (f .names x .value))
-  sets m x p =
+  sets m x t =
       let (env, e) = matching m in
-      let b : plannedName (isUnbound s mode) (expr T pattern) x ≡ true = is-true p in
+      let p = bound-name x t in
+      let b : toBind (isUnbound s mode) (expr T pattern) x ≡ true = is-true p in
       let stands = true-is (and-true (mentions x (expr T pattern)) (isUnbound s mode x) b .0) in
       let v = mentioned-named T (run-table asks) pattern (asks .pattern-node) x stands in
       let low = v .low in
@@ -164,7 +170,7 @@ module _ (T : Tables) (s : Scope) (mode : ScopingMode) (pattern value : ℕ) (va
       let y : x - 1 + 1 ≡ x = omega arith in
       let n : listedNode (list T s mode pattern value values buffer) x ≡ nodeᵛ w =
       entry-at env e (x - 1) (omega arith)
-      ∙ (ap (λ (z : ℕ). cond (plannedName (isUnbound s mode) (expr T pattern) z) (nodeIn (env z)) (getD values (x - 1) 0)) y ∙ rw (b, q)) in
+      ∙ (ap (λ (z : ℕ). cond (toBind (isUnbound s mode) (expr T pattern) z) (nodeIn (env z)) (getD values (x - 1) 0)) y ∙ rw (b, q)) in
       let one = le-leb 1 (nodeᵛ w) (t .node-ok .node .low) in
       let two = le-leb (nodeᵛ w) (nodeCount T) (t .node-ok .node .high) in
       let val = t .node-ok .value in
@@ -173,42 +179,42 @@ module _ (T : Tables) (s : Scope) (mode : ScopingMode) (pattern value : ℕ) (va
   keeps : (i : ℕ) → (isPlanned T s mode pattern value values buffer (i + 1) → ⊥) → getD (list T s mode pattern value values buffer) i 0 ≡ getD values i 0
   keeps i no-plan = ap (λ (l : List ℕ). getD l i 0) list-is ∙ go (ran T s mode pattern value values) (leb (length values) i) refl
     where
-      unplanned : (b : Bool) → plannedName (isUnbound s mode) (expr T pattern) (i + 1) ≡ b → b ≡ false
-      unplanned true e = absurd (no-plan (true-is e))
+      unplanned : (b : Bool) → toBind (isUnbound s mode) (expr T pattern) (i + 1) ≡ b → b ≡ false
+      unplanned true e = absurd (no-plan (subst (λ (f : ℕ → Bool). True (f (i + 1))) (sym planned) (true-is e)))
       unplanned false e = refl
 
-      go : (o : Outcome) (b : Bool) → leb (length values) i ≡ b → getD (setNames (plannedName (isUnbound s mode) (expr T pattern)) o values) i 0 ≡ getD values i 0
+      go : (o : Outcome) (b : Bool) → leb (length values) i ≡ b → getD (setNames (toBind (isUnbound s mode) (expr T pattern)) o values) i 0 ≡ getD values i 0
       go (matched env) true e =
           let le = leb-true (length values) i e in
           let l = list-long (matched env) in
-          List·getD-eq-default (setNames (plannedName (isUnbound s mode) (expr T pattern)) (matched env) values) 0 (omega arith) ∙ sym (List·getD-eq-default values 0 le)
+          List·getD-eq-default (setNames (toBind (isUnbound s mode) (expr T pattern)) (matched env) values) 0 (omega arith) ∙ sym (List·getD-eq-default values 0 le)
       go (matched env) false e =
           let lt = leb-false (length values) i e in
           let z : 0 + i ≡ i = omega arith in
-          let n = unplanned (plannedName (isUnbound s mode) (expr T pattern) (i + 1)) refl in
-          getD-tabulate (λ j. cond (plannedName (isUnbound s mode) (expr T pattern) (j + 1)) (nodeIn (env (j + 1))) (getD values j 0)) 0 (length values) i lt
-          ∙ (ap (λ (j : ℕ). cond (plannedName (isUnbound s mode) (expr T pattern) (j + 1)) (nodeIn (env (j + 1))) (getD values j 0)) z ∙ ap (λ (b : Bool). cond b (nodeIn (env (i + 1))) (getD values i 0)) n)
+          let n = unplanned (toBind (isUnbound s mode) (expr T pattern) (i + 1)) refl in
+          getD-tabulate (λ j. cond (toBind (isUnbound s mode) (expr T pattern) (j + 1)) (nodeIn (env (j + 1))) (getD values j 0)) 0 (length values) i lt
+          ∙ (ap (λ (j : ℕ). cond (toBind (isUnbound s mode) (expr T pattern) (j + 1)) (nodeIn (env (j + 1))) (getD values j 0)) z ∙ ap (λ (b : Bool). cond b (nodeIn (env (i + 1))) (getD values i 0)) n)
       go missed b e = refl
       go fault b e = refl
 
-  unmatched : answer T s mode pattern value values buffer ≡ NoMatch → list T s mode pattern value values buffer ≡ values
+  unmatched : answer T s mode pattern value values buffer ≡ noMatch → list T s mode pattern value values buffer ≡ values
   unmatched e = list-is ∙ go (ran T s mode pattern value values) (sym answer-is ∙ e)
     where
-      go : (o : Outcome) → answerOf o ≡ NoMatch → setNames (plannedName (isUnbound s mode) (expr T pattern)) o values ≡ values
+      go : (o : Outcome) → carriedResult o ≡ noMatch → setNames (toBind (isUnbound s mode) (expr T pattern)) o values ≡ values
       go (matched env) q = absurd (false≢true (cc))
       go missed q = refl
       go fault q = refl
 
-  pub run-promised : Promised T s mode pattern value values buffer
+  pub run-promised : Promised T s mode pattern value values buffer (answer T s mode pattern value values buffer) (list T s mode pattern value values buffer)
   run-promised = record {
-    decided = subst (λ (a : RunAnswer). (a ≡ Match) ⊎ (a ≡ NoMatch)) (sym answer-is) (decided (ran T s mode pattern value values));
+    decided = subst (λ (a : RunResult). (a ≡ aMatch) ⊎ (a ≡ noMatch)) (sym answer-is) (decided (ran T s mode pattern value values));
     noFault = kept .noFault;
     ifMatched = λ m. let (env, e) = matching m in kept .ifMatched env e;
-    ifFilled = λ f k. let (env, e) = kept .ifMade f k in answer-is ∙ ap answerOf e;
+    ifFilled = λ f k. let (env, e) = kept .ifMade f k in answer-is ∙ ap carriedResult e;
     sets = sets;
     keeps = keeps;
     unmatched = unmatched;
-    onlyNames = kept .onlyNames;
+    onlyNames = λ f g k l x p. kept .onlyNames f g k l x (bound-name x p);
     onlyBlanks = kept .onlyBlanks;
   }
 

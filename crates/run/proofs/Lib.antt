@@ -1,3 +1,5 @@
+pub mod Known
+pub mod Answers
 pub mod Valued
 pub mod Checking
 pub mod Running

@@ -11,46 +11,49 @@ use lib.ListN.{length, getD, replicate, length-replicate}
 use lib.Seq.{ext-getD}
 use Rattle.scope.specs.declared.Scope.{Scope}
 use Rattle.scope.specs.declared.ScopingMode.{ScopingMode}
-use Rattle.scope.specs.Scope.{isUnbound}
+use Rattle.scope.specs.Scope.{isUnbound, known}
 use Rattle.table.specs.declared.TableAnswer.{TableAnswer}
-use Rattle.table.specs.declared.TableAnswer.the-variants.{Sound, OverLimit, BreaksRules, TooDeep, EqualNames}
-use Rattle.table.specs.Tables.{Tables, nodeCount, nameCount, isNode}
+use Rattle.table.specs.declared.TableAnswer.the-variants.{Sound, Refused}
+use Rattle.table.specs.declared.TableRefusal.{TableRefusal}
+use Rattle.table.specs.Tables.{Tables, nameCount, isNode}
 use Rattle.table.specs.Decode.{expr}
-use Rattle.table.specs.Rules.{elem}
-use Rattle.table.specs.Check.{checked}
-use Rattle.table.specs.Sound.{Node, Named, WellFormed, SoundTable}
+use Rattle.base.specs.Lists.{elem, tabulate}
+use Rattle.table.specs.Check.{checked, tableRefused, TableAnswered, testedOf}
+use Rattle.table.specs.code.Sound.{Named, WellFormed, SoundTable}
 use Rattle.table.proofs.tests.Bools.{and-true, told-no, told-yes}
 use Rattle.table.proofs.trees.Facts.{sound-table}
 use Rattle.table.proofs.tests.Scan.{all-at}
+use Rattle.base.specs.Refusal.{Refusal, rootOutside, planTooLarge, listTooShort, patternNotSimple, notAValue, nameWithoutValue, Tested, passed}
 use Rattle.planner.specs.Plan.{plan, after}
 use Rattle.planner.specs.Layout.{entries}
 use Rattle.planner.specs.Entries.{readEntries, Wrote}
-use Rattle.planner.specs.Operations.{isSound, planned, fits, written, planOf}
-use Rattle.planner.specs.code.Post.{GoodRoot, Laid, PatternAsks, PatternPlanned, Closed, wordAt, tabulate}
+use Rattle.planner.specs.Operations.{planned, fits, written, planOf}
+use Rattle.planner.specs.code.Post.{GoodRoot, Laid, PatternAsks, PatternPlanned, Closed, wordAt}
 use Rattle.planner.specs.declared.PlanAnswer.{PlanAnswer}
 use Rattle.planner.specs.Simple.{simple, mentions}
 use Rattle.planner.proofs.buffer.Filling.{length-tabulate, getD-tabulate}
 use Rattle.planner.proofs.buffer.Copies.{wrote-long, wrote-read, wrote-closed}
-use Rattle.planner.proofs.laws.Operations.{ask-pattern, table-passes, root-node}
-use Rattle.planner.proofs.fields.Objects.{node-of}
-use Rattle.value.specs.Value.{Value, isValue, valueOf, valueAt, Proper}
-use Rattle.value.specs.Post.{ValueNode}
+use Rattle.planner.proofs.laws.Operations.{ask-pattern, check-passes, root-node, pattern-tracked}
+use Rattle.value.specs.Value.{Value, isValue, valueOf, valueAt, Proper, nodeIn}
+use Rattle.value.specs.code.Post.{ValueNode}
 use Rattle.value.proofs.Keys.{true-is, is-true}
 use Rattle.value.proofs.Admitted.{value-proper}
-use Rattle.value.proofs.Node as Node·
-use Rattle.matching.specs.Matching.{Env, Outcome, matched, pickValue, run, start, Asked, Promise}
-use Rattle.matching.specs.Post as Post
-use Rattle.matching.specs.Post.{envOf, ListOk, PlanIn, Came, PatternCame}
+use Rattle.matching.specs.declared.inner.Matched.{Matched}
+use Rattle.matching.specs.Matching.{Env, Outcome, matched, missed, fault, pickValue, run, start, Asked, Promise}
+use Rattle.matching.specs.code.Post as Post
+use Rattle.matching.specs.code.Post.{envOf, ListOk, PlanIn, isMatch, listAfter, Ended, PatternCame}
 use Rattle.matching.proofs.Promise as Promise·
-use Rattle.matching.proofs.Lists.{env-at}
 use Rattle.matching.proofs.EntryLists.{scratch-laid}
 use Rattle.report.proofs.Meeting.{after-met, mentions-met, mentioned-named}
 use Rattle.run.specs.declared.RunAnswer.{RunAnswer}
 use Rattle.run.specs.declared.RunAnswer.the-variants.{Match, NoMatch, TableRefused, RootOutside, ListTooShort, PatternNotSimple, NotAValue, NameWithoutValue, PlanTooLarge}
-use Rattle.run.specs.Operations.{listedNode, isName, allNames, isValueNode, listed, valuesListed, knownListed, RunOutcome, refused, carriedOut, tableFirst, ran, runChecked, runOutcome, answerOf, runAnswer, planAfter, nodeIn, setNames, plannedName, valuesAfter, Ran}
-use Rattle.run.specs.Post.{RunAsks, MatchValuesAsks, ValuesCame, CheckedAsks}
-use Rattle.run.specs.NamesPost.{ListAsks, StartOf, NamesSet, KnownAsks}
-use Rattle.run.specs.ChecksPost.{AllAsks}
+use Rattle.run.specs.Answer.{turnedBack, aMatch, noMatch, resultOf}
+use Rattle.run.specs.Operations.{listedNode, isName, allNames, isValueNode, listed, valuesListed, knownListed, RunOutcome, refused, carriedOut, require, tableFirst, ran, runChecked, runOutcome, carriedResult, runAnswer, planAfter, setNames, plannedName, valuesAfter, Ran}
+use Rattle.run.specs.code.Post.{RunAsks, MatchValuesAsks, toBind, ValuesCame, CheckedAsks}
+use Rattle.run.specs.code.NamesPost.{ListAsks, StartOf, NamesSet, KnownAsks}
+use Rattle.run.specs.code.ChecksPost.{AllAsks}
+use Rattle.run.proofs.Checking.{node-of-test, test-of-node}
+use Rattle.run.proofs.Known.{known-is, planned-is}
 
 name-test : (T : Tables) (x : ℕ) → Named T x → isName T x ≡ true
 name-test T x v = let a = le-leb 1 x (v .low) in let b = le-leb x (nameCount T) (v .high) in rw (a, b)
@@ -81,17 +84,17 @@ module _ {T : Tables} {s : Scope} {mode : ScopingMode} {pattern value : ℕ} {va
       let z = ne-eqb (listedNode values x) 0 nz in
       let b : isValueNode T (listedNode values x) ≡ true = rw z at e in
       let p = and-true (isNode T (listedNode values x)) (isValue (expr T (listedNode values x))) b in
-      let n = and-true (leb 1 (listedNode values x)) (leb (listedNode values x) (nodeCount T)) (p .0) in
-      record { node = record { low = leb-true 1 (listedNode values x) (n .0); high = leb-true (listedNode values x) (nodeCount T) (n .1) }; value = p .1 }
+      record { node = node-of-test T (listedNode values x) (p .0); value = p .1 }
 
   value-listed : (x : ℕ) → True (mentions x (expr T pattern)) → isUnbound s mode x ≡ false → listedNode values x ≡ 0 → ⊥
   unfolding knownListed
-  value-listed x t known z =
+  value-listed x t bound z =
       let v = mentioned-named T run-table pattern (a .pattern-node) x t in
-      let e = name-at T (λ y. not (mentions y (expr T pattern) && not (isUnbound s mode y)) || not (eqb (listedNode values y) 0)) (a .knownValues) x v in
+      let e = name-at T (λ y. not (mentions y (expr T pattern) && known s mode y) || not (eqb (listedNode values y) 0)) (a .knownValues) x v in
       let m : mentions x (expr T pattern) ≡ true = is-true t in
+      let k : known s mode x ≡ true = known-is T s mode (a .sound) pattern (a .pattern-node) x t ∙ ap not bound in
       let q = eq-eqb (listedNode values x) 0 z in
-      false≢true (rw (m, known, q) at e)
+      false≢true (rw (m, k, q) at e)
 
   -- what demand 3 asks
   pub asked : Asked (isUnbound s mode) (listed T values) (expr T pattern) (valueOf (expr T value))
@@ -198,30 +201,18 @@ module _ {T : Tables} {s : Scope} {mode : ScopingMode} {pattern value : ℕ} {va
         no-fault = λ e. promised .noFault (sym ran-here ∙ e);
       }
 
--- the node of a name's value is what its place holds
-place-node : {T : Tables} {list : List ℕ} → WellFormed T → ListOk T list → (i : ℕ) → nodeIn (envOf T list (i + 1)) ≡ getD list i 0
-place-node {T} {list} w ok i =
-    let q : i + 1 - 1 ≡ i = omega arith in
-    ap nodeIn (env-at T (i + 1) (omega arith) list) ∙ rw q (go (eqb (getD list i 0) 0) refl)
-  where
-    go : (b : Bool) → eqb (getD list i 0) 0 ≡ b → nodeIn (cond (eqb (getD list i 0) 0) none (some (valueOf (expr T (getD list i 0))))) ≡ getD list i 0
-    go true z = let e = eqb-true (getD list i 0) 0 z in rw z (sym e)
-    go false z =
-        let v = ok .each i (eqb-false (getD list i 0) 0 z) in
-        rw z (Node·.value-node (expr T (getD list i 0)) ∙ node-of T w (getD list i 0) (v .node))
-
 -- the names with a binder are the ones to be set
 module _ {T : Tables} {s : Scope} {mode : ScopingMode} {root value : ℕ} {before : List ℕ} (a : RunAsks T s mode root value before) {binders scratch : List ℕ} {count : ℕ} (p : PatternPlanned T s mode root 0 (replicate 2048 0) binders scratch count) where
-  binder-planned : (i : ℕ) → i < nameCount T → eqb (getD binders i 0) 0 ≡ not (plannedName (isUnbound s mode) (expr T root) (i + 1))
+  binder-planned : (i : ℕ) → i < nameCount T → eqb (getD binders i 0) 0 ≡ not (toBind (isUnbound s mode) (expr T root) (i + 1))
   unfolding elem
   binder-planned i lt =
       let few = run-table a .limits .names in
       let q : i + 1 - 1 ≡ i = omega arith in
-      let t = p .tracked (i + 1) (record { low = omega arith; high = omega arith }) in
+      let t = pattern-tracked (run-table a) (a .pattern-node) p (i + 1) (record { low = omega arith; high = omega arith }) in
       let m = after-met (isUnbound s mode) (i + 1) (expr T root) [] in
       let w = mentions-met (i + 1) (expr T root) (a .isSimple) in
       let e : not (eqb (getD binders i 0) 0) ≡ ((mentions (i + 1) (expr T root) && isUnbound s mode (i + 1)) || false) = sym (rw q at t) ∙ (m ∙ ap (λ (b : Bool). (b && isUnbound s mode (i + 1)) || false) (sym w)) in
-      flip (eqb (getD binders i 0) 0) (plannedName (isUnbound s mode) (expr T root) (i + 1)) e
+      flip (eqb (getD binders i 0) 0) (toBind (isUnbound s mode) (expr T root) (i + 1)) e
     where
       flip : (b c : Bool) → not b ≡ (c || false) → b ≡ not c
       flip true true e = absurd (false≢true e)
@@ -229,39 +220,46 @@ module _ {T : Tables} {s : Scope} {mode : ScopingMode} {root value : ℕ} {befor
       flip false true e = refl
       flip false false e = absurd (false≢true (sym e))
 
-  none-past : (i : ℕ) → nameCount T ≤ i → plannedName (isUnbound s mode) (expr T root) (i + 1) ≡ false
+  none-past : (i : ℕ) → nameCount T ≤ i → toBind (isUnbound s mode) (expr T root) (i + 1) ≡ false
   none-past i le = go (mentions (i + 1) (expr T root)) refl
     where
       go : (b : Bool) → mentions (i + 1) (expr T root) ≡ b → (b && isUnbound s mode (i + 1)) ≡ false
       go true e = let v = mentioned-named T (run-table a) root (a .pattern-node) (i + 1) (true-is e) in let h = v .high in absurd (omega arith)
       go false e = refl
 
-  names-set : {list after : List ℕ} → ListOk T list → NamesSet (nameCount T) binders list before after → after ≡ setNames (plannedName (isUnbound s mode) (expr T root)) (matched (envOf T list)) before
-  names-set {list} {after} ok set =
-      ext-getD 0 after (setNames (plannedName (isUnbound s mode) (expr T root)) (matched (envOf T list)) before)
-      (set .long ∙ sym (length-tabulate (λ i. cond (plannedName (isUnbound s mode) (expr T root) (i + 1)) (nodeIn (envOf T list (i + 1))) (getD before i 0)) 0 (length before)))
+  -- from the nodes of the names' values
+  names-set : (env : Env) {list after : List ℕ} → list ≡ tabulate (λ i. nodeIn (env (i + 1))) 0 128 → NamesSet (nameCount T) binders list before after → after ≡ setNames (toBind (isUnbound s mode) (expr T root)) (matched env) before
+  names-set env {list} {after} is set =
+      ext-getD 0 after (setNames (toBind (isUnbound s mode) (expr T root)) (matched env) before)
+      (set .long ∙ sym (length-tabulate (λ i. cond (toBind (isUnbound s mode) (expr T root) (i + 1)) (nodeIn (env (i + 1))) (getD before i 0)) 0 (length before)))
       (λ i lt.
       let long = set .long in
       let z : 0 + i ≡ i = omega arith in
       at i (leb (nameCount T) i) refl
-      ∙ sym (getD-tabulate (λ j. cond (plannedName (isUnbound s mode) (expr T root) (j + 1)) (nodeIn (envOf T list (j + 1))) (getD before j 0)) 0 (length before) i (omega arith)
-      ∙ ap (λ (j : ℕ). cond (plannedName (isUnbound s mode) (expr T root) (j + 1)) (nodeIn (envOf T list (j + 1))) (getD before j 0)) z))
+      ∙ sym (getD-tabulate (λ j. cond (toBind (isUnbound s mode) (expr T root) (j + 1)) (nodeIn (env (j + 1))) (getD before j 0)) 0 (length before) i (omega arith)
+      ∙ ap (λ (j : ℕ). cond (toBind (isUnbound s mode) (expr T root) (j + 1)) (nodeIn (env (j + 1))) (getD before j 0)) z))
     where
       pick : (b : Bool) (x y : ℕ) → cond (not b) x y ≡ cond b y x
       pick true x y = refl
       pick false x y = refl
 
-      at : (i : ℕ) (b : Bool) → leb (nameCount T) i ≡ b → getD after i 0 ≡ cond (plannedName (isUnbound s mode) (expr T root) (i + 1)) (nodeIn (envOf T list (i + 1))) (getD before i 0)
+      held : (i : ℕ) → i < nameCount T → getD list i 0 ≡ nodeIn (env (i + 1))
+      held i lt =
+          let few = run-table a .limits .names in
+          let z : 0 + i ≡ i = omega arith in
+          ap (λ (l : List ℕ). getD l i 0) is ∙ (getD-tabulate (λ j. nodeIn (env (j + 1))) 0 128 i (omega arith) ∙ ap (λ (j : ℕ). nodeIn (env (j + 1))) z)
+
+      at : (i : ℕ) (b : Bool) → leb (nameCount T) i ≡ b → getD after i 0 ≡ cond (toBind (isUnbound s mode) (expr T root) (i + 1)) (nodeIn (env (i + 1))) (getD before i 0)
       at i true e =
           let le = leb-true (nameCount T) i e in
           let n = none-past i le in
-          set .rest i le ∙ sym (ap (λ (b : Bool). cond b (nodeIn (envOf T list (i + 1))) (getD before i 0)) n)
+          set .rest i le ∙ sym (ap (λ (b : Bool). cond b (nodeIn (env (i + 1))) (getD before i 0)) n)
       at i false e =
           let lt = leb-false (nameCount T) i e in
           set .each i lt
           ∙ (ap (λ (b : Bool). cond b (getD before i 0) (getD list i 0)) (binder-planned i lt)
-          ∙ (pick (plannedName (isUnbound s mode) (expr T root) (i + 1)) (getD before i 0) (getD list i 0)
-          ∙ ap (λ (m : ℕ). cond (plannedName (isUnbound s mode) (expr T root) (i + 1)) m (getD before i 0)) (sym (place-node (run-table a) ok i))))
+          ∙ (pick (toBind (isUnbound s mode) (expr T root) (i + 1)) (getD before i 0) (getD list i 0)
+          ∙ ap (λ (m : ℕ). cond (toBind (isUnbound s mode) (expr T root) (i + 1)) m (getD before i 0)) (held i lt)))
 
 -- matching, from the values in the list
 module _ {T : Tables} {s : Scope} {mode : ScopingMode} {scratch : List ℕ} {count value : ℕ} {before : List ℕ} (a : MatchValuesAsks T s mode scratch count value before) where
@@ -272,24 +270,28 @@ module _ {T : Tables} {s : Scope} {mode : ScopingMode} {scratch : List ℕ} {cou
     pub ask-match : Post.PatternAsks T scratch count value list
     ask-match = match-asks (a .asks) of (a .laid)
 
-    module _ {later : List ℕ} {r : Bool} (came : PatternCame T scratch count value list later r) (binders : List ℕ) where
-      of-root : (root : ℕ) → RunAsks T s mode root value before → PatternPlanned T s mode root 0 (replicate 2048 0) binders scratch count → Came T (ran T s mode root value before) later r
-      of-root root b p = subst (λ (o : Outcome). Came T o later r) (ran-here b of) (came .each (isUnbound s mode) root (plan-in b of (scratch-laid (p .wrote) (p .few))))
+    module _ {r : Matched} (came : PatternCame T scratch count value list r) (binders : List ℕ) where
+      of-root : (root : ℕ) → RunAsks T s mode root value before → PatternPlanned T s mode root 0 (replicate 2048 0) binders scratch count → Ended (ran T s mode root value before) list r
+      of-root root b p = subst (λ (o : Outcome). Ended o list r) (ran-here b of) (came .each (isUnbound s mode) root (plan-in b of (scratch-laid (p .wrote) (p .few))))
 
-      pub values-missed : not r ≡ true → ValuesCame T s mode scratch count binders value before before NoMatch
-      values-missed t = record {
-        each = λ root b p.
-            let e = of-root root b p .miss (not-true r t) in
-            (sym (ap answerOf e), sym (ap (λ (o : Outcome). setNames (plannedName (isUnbound s mode) (expr T root)) o before) e));
-      }
+      pub values-missed : not (r .matched) ≡ true → ValuesCame T s mode scratch count binders value before before NoMatch
+      values-missed t = record { each = λ root b p. by root (ran T s mode root value before) (sym (of-root root b p .told) ∙ not-true (r .matched) t) }
+        where
+          by : (root : ℕ) (o : Outcome) → isMatch o ≡ false → (noMatch ≡ carriedResult o) × (before ≡ setNames (toBind (isUnbound s mode) (expr T root)) o before)
+          by root (matched env) e = absurd (false≢true (sym e))
+          by root missed e = (refl, refl)
+          by root fault e = (refl, refl)
 
-      pub values-matched : {after : List ℕ} → not r ≡ false → NamesSet (length (T .names) / 2) binders later before after → ValuesCame T s mode scratch count binders value before after Match
-      values-matched t set = record {
-        each = λ root b p.
-            let c = of-root root b p in
-            let e = c .hit (not-false r t) in
-            (sym (ap answerOf e), names-set b p (c .list-ok) set ∙ sym (ap (λ (o : Outcome). setNames (plannedName (isUnbound s mode) (expr T root)) o before) e));
+      pub values-matched : {after : List ℕ} → not (r .matched) ≡ false → NamesSet (length (T .names) / 2) binders (r .list) before after → ValuesCame T s mode scratch count binders value before after Match
+      values-matched {after} t set = record {
+        each = λ root b p. let d = of-root root b p in by root b p (ran T s mode root value before) (sym (d .told) ∙ not-false (r .matched) t) (d .names);
       }
+        where
+          by : (root : ℕ) → RunAsks T s mode root value before → PatternPlanned T s mode root 0 (replicate 2048 0) binders scratch count → (o : Outcome) → isMatch o ≡ true → r .list ≡ listAfter o list
+              → (aMatch ≡ carriedResult o) × (after ≡ setNames (toBind (isUnbound s mode) (expr T root)) o before)
+          by root b p (matched env) e l = (refl, names-set b p env l set)
+          by root b p missed e l = absurd (false≢true e)
+          by root b p fault e l = absurd (false≢true e)
 
 -- the plan and what carrying it out came to
 module _ (T : Tables) (s : Scope) (mode : ScopingMode) (pattern value : ℕ) {values : List ℕ} (a : RunAsks T s mode pattern value values) where
@@ -322,28 +324,26 @@ module _ (T : Tables) (s : Scope) (mode : ScopingMode) (pattern value : ℕ) {va
               let f : filled ≡ replicate (length mid) 0 = rw e at (d .buffer) in
               ap length f ∙ length-replicate {A = ℕ} (length mid) 0
 
-      pub too-large : length filled / 4 < count → Ran (plannedName (isUnbound s mode) (expr T pattern)) (carriedOut (entries (planOf T s mode pattern) 0) (ran T s mode pattern value values)) values buffer values filled (PlanTooLarge count)
+      pub too-large : length filled / 4 < count → Ran (plannedName (known s mode) (expr T pattern)) (carriedOut (entries (planOf T s mode pattern) 0) (ran T s mode pattern value values)) values buffer values filled (PlanTooLarge count)
       unfolding runAnswer planAfter valuesAfter
       too-large lt =
           let z = size in
           let space : length filled / 4 ≡ length buffer / 4 = ap (λ (k : ℕ). k / 4) same-space in
           let f : fits (entries (planOf T s mode pattern) 0) buffer ≡ false = lt-leb (length (entries (planOf T s mode pattern) 0)) (length buffer / 4) (rw z at (rw space at lt)) in
-          record { answer = rw f (ap PlanTooLarge z); plan = in-buffer; list = rw f }
+          record { answer = rw f (ap (λ (n : ℕ). turnedBack (planTooLarge n)) z); plan = in-buffer; list = rw f }
 
       pub carried : {after : List ℕ} {answer : RunAnswer} → count ≤ length filled / 4 → ValuesCame T s mode scratch count binders value values after answer
-          → Ran (plannedName (isUnbound s mode) (expr T pattern)) (carriedOut (entries (planOf T s mode pattern) 0) (ran T s mode pattern value values)) values buffer after filled answer
+          → Ran (plannedName (known s mode) (expr T pattern)) (carriedOut (entries (planOf T s mode pattern) 0) (ran T s mode pattern value values)) values buffer after filled answer
       unfolding runAnswer planAfter valuesAfter
       carried le came =
           let z = size in
           let space : length filled / 4 ≡ length buffer / 4 = ap (λ (k : ℕ). k / 4) same-space in
           let f : fits (entries (planOf T s mode pattern) 0) buffer ≡ true = le-leb (length (entries (planOf T s mode pattern) 0)) (length buffer / 4) (rw z at (rw space at le)) in
           let c = came .each pattern a p in
-          record { answer = rw f (c .0); plan = in-buffer; list = rw f (c .1) }
+          let names = planned-is T s mode (a .sound) pattern (a .pattern-node) in
+          record { answer = rw f (c .0); plan = in-buffer; list = rw f (c .1 ∙ sym (ap (λ (toSet : ℕ → Bool). setNames toSet (ran T s mode pattern value values) values) names)) }
 
 -- the checks of a run, one after the other
-node-test : (T : Tables) (n : ℕ) → Node T n → isNode T n ≡ true
-node-test T n v = let a = le-leb 1 n (v .low) in let b = le-leb n (nodeCount T) (v .high) in rw (a, b)
-
 module _ (T : Tables) (s : Scope) (mode : ScopingMode) (pattern value : ℕ) (values : List ℕ) (a : CheckedAsks T s pattern value values) where
   good : WellFormed T
   good = sound-table T s (a .sound) .wellFormed
@@ -356,41 +356,40 @@ module _ (T : Tables) (s : Scope) (mode : ScopingMode) (pattern value : ℕ) (va
 
   -- roots and length passed
   inside : runChecked T s mode pattern value values ≡
-      cond (simple (expr T pattern))
-      (cond (isValue (expr T value) && valuesListed T values)
-      (cond (knownListed T (isUnbound s mode) (expr T pattern) values) (carriedOut (entries (planOf T s mode pattern) 0) (ran T s mode pattern value values)) (refused NameWithoutValue))
-      (refused NotAValue))
-      (refused PatternNotSimple)
+      require (simple (expr T pattern)) patternNotSimple
+      (require (isValue (expr T value) && valuesListed T values) notAValue
+      (require (knownListed T (known s mode) (expr T pattern) values) nameWithoutValue
+      (carriedOut (entries (planOf T s mode pattern) 0) (ran T s mode pattern value values))))
   inside =
-      let p = node-test T pattern (a .pattern-node) in
-      let v = node-test T value (a .value-node) in
+      let p = test-of-node T pattern (a .pattern-node) in
+      let v = test-of-node T value (a .value-node) in
       let l = le-leb (nameCount T) (length values) (a .long) in
       rw (p, v, l)
 
   abbrev Runs : RunOutcome → List ℕ → List ℕ → List ℕ → RunAnswer → Type 0
-  Runs o buffer valuesExit bufferExit r = Ran (plannedName (isUnbound s mode) (expr T pattern)) o values buffer valuesExit bufferExit r
+  Runs o buffer valuesExit bufferExit r = Ran (plannedName (known s mode) (expr T pattern)) o values buffer valuesExit bufferExit r
 
-  refuses : (answer : RunAnswer) {buffer cleared : List ℕ} → runChecked T s mode pattern value values ≡ refused answer → cleared ≡ replicate (length buffer) 0 → Runs (runChecked T s mode pattern value values) buffer values cleared answer
+  refuses : (a : Refusal) {answer : RunAnswer} {buffer cleared : List ℕ} → runChecked T s mode pattern value values ≡ refused a → resultOf answer ≡ turnedBack a → cleared ≡ replicate (length buffer) 0 → Runs (runChecked T s mode pattern value values) buffer values cleared answer
   unfolding runAnswer planAfter valuesAfter
-  refuses answer {buffer} {cleared} e z = rw e (record { answer = refl; plan = z; list = refl })
+  refuses a e l z = rw e (record { answer = l; plan = z; list = refl })
 
   module _ {ok : Bool} (is : ok ≡ simple (expr T pattern)) where
     pub not-simple : {buffer cleared : List ℕ} → not ok ≡ true → cleared ≡ replicate (length buffer) 0 → Runs (runChecked T s mode pattern value values) buffer values cleared PatternNotSimple
-    not-simple t z = let e = told-no is t in refuses PatternNotSimple (inside ∙ rw e) z
+    not-simple t z = let e = told-no is t in refuses patternNotSimple (inside ∙ rw e) refl z
 
     module _ (passed : not ok ≡ false) where
-      pub ask-known : KnownAsks T pattern values
-      ask-known = record { good = ask-simple; isSimple = told-yes is passed; list-ok = record { few = good .limits .names; long = a .long } }
+      pub ask-known : KnownAsks T s pattern values
+      ask-known = record { sound = a .sound; good = ask-simple; isSimple = told-yes is passed; list-ok = record { few = good .limits .names; long = a .long } }
 
       module _ {all : Bool} (of : all ≡ (isValue (expr T value) && valuesListed T values)) where
         pub no-value : {buffer cleared : List ℕ} → not all ≡ true → cleared ≡ replicate (length buffer) 0 → Runs (runChecked T s mode pattern value values) buffer values cleared NotAValue
-        no-value t z = let e = told-yes is passed in let f = told-no of t in refuses NotAValue (inside ∙ rw (e, f)) z
+        no-value t z = let e = told-yes is passed in let f = told-no of t in refuses notAValue (inside ∙ rw (e, f)) refl z
 
-        module _ (good-values : not all ≡ false) {known : Bool} (by : known ≡ knownListed T (isUnbound s mode) (expr T pattern) values) where
-          pub unlisted : {buffer cleared : List ℕ} → not known ≡ true → cleared ≡ replicate (length buffer) 0 → Runs (runChecked T s mode pattern value values) buffer values cleared NameWithoutValue
-          unlisted t z = let e = told-yes is passed in let f = told-yes of good-values in let g = told-no by t in refuses NameWithoutValue (inside ∙ rw (e, f, g)) z
+        module _ (good-values : not all ≡ false) {valued : Bool} (by : valued ≡ knownListed T (known s mode) (expr T pattern) values) where
+          pub unlisted : {buffer cleared : List ℕ} → not valued ≡ true → cleared ≡ replicate (length buffer) 0 → Runs (runChecked T s mode pattern value values) buffer values cleared NameWithoutValue
+          unlisted t z = let e = told-yes is passed in let f = told-yes of good-values in let g = told-no by t in refuses nameWithoutValue (inside ∙ rw (e, f, g)) refl z
 
-          module _ (all-known : not known ≡ false) where
+          module _ (all-known : not valued ≡ false) where
             pub ask-carry : RunAsks T s mode pattern value values
             ask-carry =
                 let f = and-true (isValue (expr T value)) (valuesListed T values) (told-yes of good-values) in
@@ -415,42 +414,34 @@ module _ (T : Tables) (s : Scope) (mode : ScopingMode) (pattern value : ℕ) (va
                 rw q r
 
 -- the table check, the roots, the length of the list
-module _ (T : Tables) (s : Scope) (mode : ScopingMode) (pattern value : ℕ) (values : List ℕ) {c : TableAnswer} (is : c ≡ checked T s) {ok : Bool} (of : ok ≡ isSound c) where
+module _ (T : Tables) (s : Scope) (mode : ScopingMode) (pattern value : ℕ) (values : List ℕ) {c : TableAnswer} (is : TableAnswered T s c) where
   abbrev Ends : List ℕ → List ℕ → List ℕ → RunAnswer → Type 0
-  Ends buffer valuesExit bufferExit r = Ran (plannedName (isUnbound s mode) (expr T pattern)) (runOutcome T s mode pattern value values) values buffer valuesExit bufferExit r
+  Ends buffer valuesExit bufferExit r = Ran (plannedName (known s mode) (expr T pattern)) (runOutcome T s mode pattern value values) values buffer valuesExit bufferExit r
 
-  pub table-refused : {buffer cleared : List ℕ} → not ok ≡ true → cleared ≡ replicate (length buffer) 0 → Ends buffer values cleared (TableRefused c)
+  ends : {d : TableAnswer} → c ≡ d → runOutcome T s mode pattern value values ≡ tableFirst (testedOf d) (runChecked T s mode pattern value values)
+  ends p = ap (λ (t : Tested). tableFirst t (runChecked T s mode pattern value values)) (sym (is .answer) ∙ ap testedOf p)
+
+  ends-refused : (a : Refusal) {answer : RunAnswer} {buffer cleared : List ℕ} → runOutcome T s mode pattern value values ≡ refused a → resultOf answer ≡ turnedBack a → cleared ≡ replicate (length buffer) 0 → Ends buffer values cleared answer
   unfolding runAnswer planAfter valuesAfter
-  table-refused {buffer} {cleared} t z = go c refl
-    where
-      refuses-by : (d : TableAnswer) → c ≡ d → tableFirst (checked T s) (runChecked T s mode pattern value values) ≡ refused (TableRefused d) → Ends buffer values cleared (TableRefused c)
-      refuses-by d p q = rw q (record { answer = ap TableRefused p; plan = z; list = refl })
+  ends-refused a q l z = rw q (record { answer = l; plan = z; list = refl })
 
-      go : (d : TableAnswer) → c ≡ d → Ends buffer values cleared (TableRefused c)
-      go Sound p = absurd (false≢true (sym (not-true ok t) ∙ (of ∙ ap isSound p)))
-      go OverLimit p = refuses-by OverLimit p (ap (λ (d : TableAnswer). tableFirst d (runChecked T s mode pattern value values)) (sym is ∙ p))
-      go BreaksRules p = refuses-by BreaksRules p (ap (λ (d : TableAnswer). tableFirst d (runChecked T s mode pattern value values)) (sym is ∙ p))
-      go TooDeep p = refuses-by TooDeep p (ap (λ (d : TableAnswer). tableFirst d (runChecked T s mode pattern value values)) (sym is ∙ p))
-      go EqualNames p = refuses-by EqualNames p (ap (λ (d : TableAnswer). tableFirst d (runChecked T s mode pattern value values)) (sym is ∙ p))
+  pub table-refused : {d : TableRefusal} {buffer cleared : List ℕ} → c ≡ Refused d → cleared ≡ replicate (length buffer) 0 → Ends buffer values cleared (TableRefused d)
+  table-refused {d} p z = ends-refused (tableRefused d) (ends p) refl z
 
-  module _ (passes : not ok ≡ false) where
-    is-sound : checked T s ≡ Sound
-    is-sound = sym is ∙ table-passes of passes
+  module _ (sound : c ≡ Sound) where
+    is-sound : checked T s ≡ passed
+    is-sound = check-passes T s is sound
 
     outcome-is : runOutcome T s mode pattern value values ≡ runChecked T s mode pattern value values
-    outcome-is = ap (λ (d : TableAnswer). tableFirst d (runChecked T s mode pattern value values)) is-sound
-
-    ends-refused : (answer : RunAnswer) {buffer cleared : List ℕ} → runChecked T s mode pattern value values ≡ refused answer → cleared ≡ replicate (length buffer) 0 → Ends buffer values cleared answer
-    unfolding runAnswer planAfter valuesAfter
-    ends-refused answer {buffer} {cleared} e z = let q : runOutcome T s mode pattern value values ≡ refused answer = outcome-is ∙ e in rw q (record { answer = refl; plan = z; list = refl })
+    outcome-is = ends sound
 
     module _ {one : Bool} (told : one ≡ isNode T pattern) where
       pub pattern-outside : {buffer cleared : List ℕ} → not one ≡ true → cleared ≡ replicate (length buffer) 0 → Ends buffer values cleared RootOutside
-      pattern-outside t z = let e = told-no told t in ends-refused RootOutside (rw e) z
+      pattern-outside t z = let e = told-no told t in ends-refused rootOutside (outcome-is ∙ rw e) refl z
 
       module _ (one-inside : not one ≡ false) {two : Bool} (told′ : two ≡ isNode T value) where
         pub value-outside : {buffer cleared : List ℕ} → not two ≡ true → cleared ≡ replicate (length buffer) 0 → Ends buffer values cleared RootOutside
-        value-outside t z = let e = told-yes told one-inside in let f = told-no told′ t in ends-refused RootOutside (rw (e, f)) z
+        value-outside t z = let e = told-yes told one-inside in let f = told-no told′ t in ends-refused rootOutside (outcome-is ∙ rw (e, f)) refl z
 
         module _ (two-inside : not two ≡ false) where
           pub list-short : {buffer cleared : List ℕ} → length values < length (T .names) / 2 → cleared ≡ replicate (length buffer) 0 → Ends buffer values cleared ListTooShort
@@ -458,11 +449,11 @@ module _ (T : Tables) (s : Scope) (mode : ScopingMode) (pattern value : ℕ) (va
               let e = told-yes told one-inside in
               let f = told-yes told′ two-inside in
               let g = lt-leb (nameCount T) (length values) lt in
-              ends-refused ListTooShort (rw (e, f, g)) z
+              ends-refused listTooShort (outcome-is ∙ rw (e, f, g)) refl z
 
           module _ (long : length (T .names) / 2 ≤ length values) where
             pub ask-checked : CheckedAsks T s pattern value values
             ask-checked = record { sound = is-sound; pattern-node = root-node T pattern told one-inside; value-node = root-node T value told′ two-inside; long = long }
 
-            pub run-ends : {buffer after filled : List ℕ} {answer : RunAnswer} → Ran (plannedName (isUnbound s mode) (expr T pattern)) (runChecked T s mode pattern value values) values buffer after filled answer → Ends buffer after filled answer
+            pub run-ends : {buffer after filled : List ℕ} {answer : RunAnswer} → Ran (plannedName (known s mode) (expr T pattern)) (runChecked T s mode pattern value values) values buffer after filled answer → Ends buffer after filled answer
             run-ends r = rw outcome-is r

@@ -10,16 +10,16 @@ use Rattle.table.specs.Tables.{Tables, kindOf, firstOf, countOf, childAt}
 use Rattle.table.specs.Expr as Expr
 use Rattle.table.specs.Expr.{Expr}
 use Rattle.table.specs.Decode.{expr, items, fields}
-use Rattle.table.specs.Sound.{Node, WellFormed}
+use Rattle.table.specs.code.Sound.{WellFormed}
 use Rattle.table.proofs.trees.Trees.{width-array, width-object}
 use Rattle.planner.specs.Layout.{literalKey}
 use Rattle.planner.specs.Plan.{DestructuringPlan, var, ignore, equalityExpr, equalityValue, arrayPlan, objectPlan, Plans, noPlan, itemPlan, FieldPlans, noField, fieldPlan}
 use Rattle.planner.specs.Simple.{sameKey}
 use Rattle.planner.proofs.fields.Objects.{node-of}
 use Rattle.value.specs.Value.{Value, literalᵛ, arrayᵛ, objectᵛ, Values, noneᵛ, itemᵛ, ValueFields, doneᵛ, fieldᵛ, filledField, valueOf, valuesOf, valueFieldsOf, nodeᵛ, firstOf as firstUnder, under, keysᵛ, sameKeys, same}
-use Rattle.value.specs.Post.{ValueNode}
+use Rattle.value.specs.code.Post.{ValueNode}
 use Rattle.value.proofs.Node as Node·
-use Rattle.value.proofs.Admitted.{array-item, object-value, array-children, object-children, value-node, value-admitted, admitted-value}
+use Rattle.value.proofs.Admitted.{array-item, object-value, array-children, object-children, value-node, admitted-value}
 use Rattle.value.proofs.SameValues.{ValueShape, value-literal, value-array, value-object, value-shape}
 use Rattle.matching.specs.Matching.{Env, Outcome, matched, missed, fault, pickValue, assign, setting, provided, comparing, nameIn, next, at, underKey, planKeys, sameLength, run, runItems, runFields}
 
@@ -166,10 +166,10 @@ module _ (T : Tables) where
         let s = value-shape T w n v in
         go (s .0) (s .1) (s .2) (node-tabled n v)
         (λ k i lt. let wide = width-array (kindOf (T .nodes) n) (countOf (T .nodes) n) k in let below = w .below n (v .node) i (omega arith) in
-        tabled-to fuel (childAt (T .children) (firstOf (T .nodes) n + i)) (admitted-value T (childAt (T .children) (firstOf (T .nodes) n + i)) (array-children T w n (v .node) k .each i (omega arith)) (array-item T w n (v .node) false (value-admitted v) k i lt)) (omega arith))
+        tabled-to fuel (childAt (T .children) (firstOf (T .nodes) n + i)) (admitted-value T (childAt (T .children) (firstOf (T .nodes) n + i)) (array-children T w n (v .node) k .each i (omega arith)) (array-item T w n (v .node) false (v .value) k i lt)) (omega arith))
         (λ k i lt. let wide = width-object (kindOf (T .nodes) n) (countOf (T .nodes) n) k in let below = w .below n (v .node) (i * 2 + 1) (omega arith) in
         let e : firstOf (T .nodes) n + (i * 2 + 1) ≡ firstOf (T .nodes) n + i * 2 + 1 = omega arith in
-        tabled-to fuel (childAt (T .children) (firstOf (T .nodes) n + i * 2 + 1)) (admitted-value T (childAt (T .children) (firstOf (T .nodes) n + i * 2 + 1)) (value-node (object-children T w n (v .node) k) i lt) (object-value T w n (v .node) false (value-admitted v) k i lt))
+        tabled-to fuel (childAt (T .children) (firstOf (T .nodes) n + i * 2 + 1)) (admitted-value T (childAt (T .children) (firstOf (T .nodes) n + i * 2 + 1)) (value-node (object-children T w n (v .node) k) i lt) (object-value T w n (v .node) false (v .value) k i lt))
         (let q = ap (λ (p : ℕ). childAt (T .children) p) e in omega arith))
       where
         go : (e : Expr) → expr T n ≡ e → ValueShape T n e → Tabled T (valueOf (expr T n))

@@ -4,43 +4,40 @@ use mathlib.Core.Path.{_≡_, refl, sym, ap, ap₂, _∙_}
 use mathlib.Core.List.{List}
 use mathlib.Core.Bool.{Bool, true, false, cond, _&&_, _||_, not}
 use native.Mathlib.Omega.{arith}
-use borrow.Author.Tests.{eqb-true, eqb-false, eq-eqb, ne-eqb, not-true, not-false}
+use borrow.Author.Tests.{eq-eqb, ne-eqb, not-true, not-false}
 use lib.Dec.{eqb}
-use lib.ListN.{length, getD, set, replicate, length-set, length-replicate}
-use lib.Seq.{getD-set-same, getD-set-other}
+use lib.ListN.{length, getD, set, replicate}
 use Rattle.scope.specs.declared.Scope.{Scope}
 use Rattle.scope.specs.declared.ScopingMode.{ScopingMode}
 use Rattle.scope.specs.declared.Binding.{Binding}
 use Rattle.scope.specs.declared.Binding.the-variants as Binding
-use Rattle.scope.specs.Scope.{isUnbound, bindingOf}
-use Rattle.scope.proofs.Laws.{answer-promise}
+use Rattle.scope.specs.Scope.{isUnbound, asked, questionOf, known}
+use Rattle.scope.proofs.Laws.{says-yes, says-no}
 use Rattle.table.specs.Tables.{Tables, nameCount}
 use Rattle.table.specs.Decode.{expr}
-use Rattle.table.specs.Rules.{allFrom}
+use Rattle.base.specs.Lists.{allFrom}
 use Rattle.table.proofs.tests.Scan.{Scan, scan-start, scan-on, scan-fails, scan-ends}
-use Rattle.planner.specs.code.Passes.{unboundMark}
 use Rattle.planner.specs.code.Post.{NameNumber}
 use Rattle.planner.specs.Simple.{mentions}
-use Rattle.planner.proofs.laws.States.{mark-never}
-use Rattle.report.specs.Post.{MetBy}
-use Rattle.report.proofs.Meeting.{mentions-met}
+use Rattle.planner.proofs.laws.States.{name-never}
+use Rattle.report.proofs.Meeting.{mentions-met, met-at}
+use Rattle.value.proofs.Changing.{Changing, changing-zeros, changing-on}
+use Rattle.value.proofs.Keys.{true-is}
+use Rattle.report.specs.code.Post.{metWords}
 use Rattle.run.specs.Operations.{listedNode, knownListed}
-use Rattle.run.specs.NamesPost.{ListAsks, StartOf, NamesSet, hasValue, allHaveValues, KnownAsks}
+use Rattle.run.proofs.Known.{known-is}
+use Rattle.run.specs.code.NamesPost.{ListAsks, StartOf, NamesSet, hasValue, allHaveValues, KnownAsks}
 
 -- what a scope says of a name
-module _ (x : ℕ) (u : Bool) {b : Binding} (is : b ≡ bindingOf x u) where
+module _ (x : ℕ) (u : Bool) {b : Binding} (is : questionOf b ≡ asked x u) where
   pub unbound-yes : b ≡ Binding.Yes → true ≡ u
-  unbound-yes e = sym (answer-promise x u .is-yes (sym is ∙ e))
+  unbound-yes e = sym (says-yes x u (ap questionOf (sym e) ∙ is) .1)
 
   pub unbound-no : b ≡ Binding.No → false ≡ u
-  unbound-no e = sym (answer-promise x u .is-no (sym is ∙ e))
+  unbound-no e = sym (says-no x u (ap questionOf (sym e) ∙ is) .1)
 
   pub unbound-never : NameNumber x → b ≡ Binding.NameOutside → false ≡ u
-  unbound-never v e = go u (mark-never x u is v e)
-    where
-      go : (u : Bool) → 0 ≡ unboundMark u → false ≡ u
-      go true z = absurd (omega arith)
-      go false z = refl
+  unbound-never v e = absurd (name-never x u is v e)
 
 pub starts-none : (u : Bool) (listed : ℕ) {r : Bool} → r ≡ u → r ≡ true → 0 ≡ cond u 0 listed
 starts-none u listed is t = let e : u ≡ true = sym is ∙ t in rw e
@@ -54,33 +51,6 @@ old-value binder old new z = let e = eq-eqb binder 0 z in rw e
 pub set-value : (binder old new : ℕ) → (binder ≡ 0 → ⊥) → new ≡ cond (eqb binder 0) old new
 set-value binder old new nz = let e = ne-eqb binder 0 nz in rw e
 
--- a list whose first places are f's, the others still g's
-pub record Changing (f g : ℕ → ℕ) (size i : ℕ) (here : List ℕ) : Type 0 where
-  pub long : length here ≡ size
-  pub each : (k : ℕ) → k < i → getD here k 0 ≡ f k
-  pub rest : (k : ℕ) → i ≤ k → getD here k 0 ≡ g k
-
-changing-on : {f g : ℕ → ℕ} {size i : ℕ} {here : List ℕ} {v : ℕ} → Changing f g size i here → i < size → v ≡ f i → Changing f g size (i + 1) (set here i v)
-changing-on {f} {g} {size} {i} {here} {v} go lt e = record {
-  long = length-set here i v ∙ go .long;
-  each = λ k below. at k below (eqb k i) refl;
-  rest = λ k le. getD-set-other here i k v 0 (λ q. omega arith) ∙ go .rest k (omega arith);
-}
-  where
-    at : (k : ℕ) → k < i + 1 → (b : Bool) → eqb k i ≡ b → getD (set here i v) k 0 ≡ f k
-    at k below true p =
-        let k-is = eqb-true k i p in
-        let long = go .long in
-        rw k-is (getD-set-same here i v 0 (omega arith) ∙ e)
-    at k below false p =
-        let differs = eqb-false k i p in
-        getD-set-other here i k v 0 differs ∙ go .each k (omega (arith, differs))
-
-zero-at : (n k : ℕ) → _≡_ {A = ℕ} (getD (replicate n 0) k 0) 0
-zero-at zero k = refl
-zero-at (suc n) zero = refl
-zero-at (suc n) (suc k) = zero-at n k
-
 -- the values at the start
 pub record Starting (names : List ℕ) (s : Scope) (mode : ScopingMode) (values : List ℕ) (count i : ℕ) (list : List ℕ) : Type 0 where
   pub asks : ListAsks names values
@@ -89,7 +59,7 @@ pub record Starting (names : List ℕ) (s : Scope) (mode : ScopingMode) (values 
   pub going : Changing (λ k. cond (isUnbound s mode (k + 1)) 0 (getD values k 0)) (λ k. 0) 128 i list
 
 pub starting : {names : List ℕ} (s : Scope) (mode : ScopingMode) {values : List ℕ} {count : ℕ} → ListAsks names values → count ≡ length names / 2 → Starting names s mode values count 0 (replicate 128 0)
-starting s mode a is = record { asks = a; counted = is; inside = omega arith; going = record { long = length-replicate {A = ℕ} 128 0; each = λ k lt. absurd (omega arith); rest = λ k le. zero-at 128 k } }
+starting {names} s mode {values} a is = record { asks = a; counted = is; inside = omega arith; going = changing-zeros (λ k. cond (isUnbound s mode (k + 1)) 0 (getD values k 0)) 128 }
 
 module _ {names : List ℕ} {s : Scope} {mode : ScopingMode} {values : List ℕ} {count i : ℕ} {list : List ℕ} (go : Starting names s mode values count i list) where
   module _ (more : i < count) where
@@ -200,14 +170,19 @@ all-same p q from zero same = refl
 all-same p q from (suc k) same = ap₂ (λ (a b : Bool). a && b) (same from (omega arith) (omega arith)) (all-same p q (from + 1) k (λ j le lt. same j (omega arith) (omega arith)))
 
 -- the known names of a simple pattern
-pub known-told : (T : Tables) (unbound : ℕ → Bool) (pattern : ℕ) (values : List ℕ) {met : List ℕ} {r : Bool} → KnownAsks T pattern values → MetBy (expr T pattern) met → r ≡ allHaveValues (length (T .names) / 2) unbound met values → r ≡ knownListed T unbound (expr T pattern) values
+pub known-told : (T : Tables) (s : Scope) (mode : ScopingMode) (pattern : ℕ) (values : List ℕ) {met : List ℕ} {r : Bool} → KnownAsks T s pattern values → met ≡ metWords (expr T pattern)
+    → r ≡ allHaveValues (length (T .names) / 2) (isUnbound s mode) met values → r ≡ knownListed T (known s mode) (expr T pattern) values
 unfolding allHaveValues knownListed
-known-told T unbound pattern values {met} {r} a m e =
-    e ∙ all-same (λ x. hasValue unbound x (getD met (x - 1) 0) (getD values (x - 1) 0)) (λ x. not (mentions x (expr T pattern) && not (unbound x)) || not (eqb (listedNode values x) 0)) 1 (nameCount T) (λ x low lt.
+known-told T s mode pattern values {met} {r} a m e =
+    e ∙ all-same (λ x. hasValue (isUnbound s mode) x (getD met (x - 1) 0) (getD values (x - 1) 0)) (λ x. not (mentions x (expr T pattern) && known s mode x) || not (eqb (listedNode values x) 0)) 1 (nameCount T) (λ x low lt.
     let few = a .list-ok .few in
-    let w : mentions x (expr T pattern) ≡ not (eqb (getD met (x - 1) 0) 0) = mentions-met x (expr T pattern) (a .isSimple) ∙ m .each x (record { low = low; high = omega arith }) in
-    sym (ap (λ (b : Bool). not (b && not (unbound x)) || not (eqb (listedNode values x) 0)) w ∙ shuffle (eqb (getD met (x - 1) 0) 0) (unbound x) (eqb (getD values (x - 1) 0) 0)))
+    let w : mentions x (expr T pattern) ≡ not (eqb (getD met (x - 1) 0) 0) = mentions-met x (expr T pattern) (a .isSimple) ∙ met-at (expr T pattern) m x (record { low = low; high = omega arith }) in
+    sym (at x (mentions x (expr T pattern)) refl ∙ (ap (λ (b : Bool). not (b && not (isUnbound s mode x)) || not (eqb (listedNode values x) 0)) w ∙ shuffle (eqb (getD met (x - 1) 0) 0) (isUnbound s mode x) (eqb (getD values (x - 1) 0) 0))))
   where
+    at : (x : ℕ) (b : Bool) → mentions x (expr T pattern) ≡ b → (not (mentions x (expr T pattern) && known s mode x) || not (eqb (listedNode values x) 0)) ≡ (not (mentions x (expr T pattern) && not (isUnbound s mode x)) || not (eqb (listedNode values x) 0))
+    at x true p = ap (λ (k : Bool). not (mentions x (expr T pattern) && k) || not (eqb (listedNode values x) 0)) (known-is T s mode (a .sound) pattern (a .good .node) x (true-is p))
+    at x false p = rw p
+
     shuffle : (m u l : Bool) → (not (not m && not u) || not l) ≡ (m || (not l || u))
     shuffle true u l = refl
     shuffle false true true = refl

@@ -2,28 +2,27 @@
 use Prim.Native.Nat.{ℕ, _+_, _-_}
 use mathlib.Core.Path.{_≡_}
 use mathlib.Core.Bool.{Bool, cond, _&&_, _||_, not}
-use mathlib.Core.List.{List}
-use mathlib.Core.Option.{Option, none, some}
+use mathlib.Core.List.{List, [], _∷_}
+use mathlib.Core.Option.{none}
 use lib.Dec.{eqb, leb}
 use lib.ListN.{length, getD}
 use Rattle.scope.specs.declared.Scope.{Scope}
 use Rattle.scope.specs.declared.ScopingMode.{ScopingMode}
-use Rattle.scope.specs.Scope.{isUnbound}
-use Rattle.table.specs.declared.TableAnswer.{TableAnswer}
-use Rattle.table.specs.declared.TableAnswer.the-variants.{Sound, OverLimit, BreaksRules, TooDeep, EqualNames}
+use Rattle.scope.specs.Scope.{isUnbound, known}
+use Rattle.base.specs.Lent.{Slices, old, new}
 use Rattle.table.specs.Tables.{Tables, nameCount, isNode}
 use Rattle.table.specs.Expr.{Expr}
 use Rattle.table.specs.Decode.{expr}
-use Rattle.table.specs.Rules.{allFrom}
-use Rattle.table.specs.Check.{checked}
+use Rattle.base.specs.Lists.{allFrom, tabulate}
+use Rattle.base.specs.Refusal.{Refusal, planTooLarge, rootOutside, listTooShort, patternNotSimple, notAValue, nameWithoutValue, requireOr, Tested, testedOr}
+use Rattle.table.specs.Check.{checkedOr, allNodes}
 use Rattle.planner.specs.Layout.{Entry, entries}
 use Rattle.planner.specs.Operations.{planOf, planned, fits, zeros, written}
-use Rattle.planner.specs.code.Post.{tabulate}
 use Rattle.planner.specs.Simple.{simple, mentions}
-use Rattle.value.specs.Value.{Value, isValue, valueOf, valueAt, nodeᵛ}
+use Rattle.value.specs.Value.{isValue, valueOf, valueAt, nodeIn}
 use Rattle.matching.specs.Matching.{Env, Outcome, matched, missed, fault, outcome}
 use Rattle.run.specs.declared.RunAnswer.{RunAnswer}
-use Rattle.run.specs.declared.RunAnswer.the-variants.{Match, NoMatch, TableRefused, RootOutside, ListTooShort, PatternNotSimple, NotAValue, NameWithoutValue, PlanTooLarge}
+use Rattle.run.specs.Answer.{RunResult, turnedBack, aMatch, noMatch, resultOf}
 
 -- The list has at place x - 1 the node of name x's value, or 0.
 abbrev pub listedNode : List ℕ → ℕ → ℕ
@@ -48,63 +47,58 @@ valuesListed T values = allNames T (λ x. eqb (listedNode values x) 0 || isValue
 
 -- 23: each known name of the pattern is listed
 unfoldable pub knownListed : Tables → (ℕ → Bool) → Expr → List ℕ → Bool
-knownListed T unbound e values = allNames T (λ x. not (mentions x e && not (unbound x)) || not (eqb (listedNode values x) 0))
+knownListed T isKnown e values = allNames T (λ x. not (mentions x e && isKnown x) || not (eqb (listedNode values x) 0))
 
 -- What a run comes to before the buffer is looked at: a refusal, or the plan's entries and what carrying it out came to.
 pub data RunOutcome : Type 0 where
-  refused : RunAnswer → RunOutcome
+  refused : Refusal → RunOutcome
   carriedOut : List Entry → Outcome → RunOutcome
 
--- the table check first
-abbrev pub tableFirst : TableAnswer → RunOutcome → RunOutcome
-tableFirst Sound o = o
-tableFirst OverLimit o = refused (TableRefused OverLimit)
-tableFirst BreaksRules o = refused (TableRefused BreaksRules)
-tableFirst TooDeep o = refused (TableRefused TooDeep)
-tableFirst EqualNames o = refused (TableRefused EqualNames)
+-- a test, its refusal, and the rest
+abbrev pub require : Bool → Refusal → RunOutcome → RunOutcome
+require = requireOr refused
+
+abbrev pub tableFirst : Tested → RunOutcome → RunOutcome
+tableFirst = testedOr refused
 
 module _ (T : Tables) (s : Scope) (mode : ScopingMode) (pattern value : ℕ) (values : List ℕ) where
   -- the pattern's plan, run on the value from the listed values of the known names
   abbrev pub ran : Outcome
   ran = outcome (isUnbound s mode) (listed T values) (expr T pattern) (valueOf (expr T value))
 
-  -- of a table that passed the check
+  abbrev pub roots : List ℕ
+  roots = pattern ∷ (value ∷ [])
+
+  -- of a table that passed the check, with the roots inside
+  abbrev pub runInside : RunOutcome
+  runInside =
+      require (leb (nameCount T) (length values)) listTooShort
+      (require (simple (expr T pattern)) patternNotSimple
+      (require (isValue (expr T value) && valuesListed T values) notAValue
+      (require (knownListed T (known s mode) (expr T pattern) values) nameWithoutValue
+      (carriedOut (entries (planOf T s mode pattern) 0) ran))))
+
   abbrev pub runChecked : RunOutcome
-  runChecked =
-      cond (isNode T pattern && isNode T value)
-      (cond (leb (nameCount T) (length values))
-      (cond (simple (expr T pattern))
-      (cond (isValue (expr T value) && valuesListed T values)
-      (cond (knownListed T (isUnbound s mode) (expr T pattern) values)
-      (carriedOut (entries (planOf T s mode pattern) 0) ran)
-      (refused NameWithoutValue))
-      (refused NotAValue))
-      (refused PatternNotSimple))
-      (refused ListTooShort))
-      (refused RootOutside)
+  runChecked = require (allNodes T roots) rootOutside runInside
 
   abbrev pub runOutcome : RunOutcome
-  runOutcome = tableFirst (checked T s) runChecked
+  runOutcome = checkedOr refused T s roots runInside
 
 -- A fault never comes up (demand 3).
-abbrev pub answerOf : Outcome → RunAnswer
-answerOf (matched env) = Match
-answerOf missed = NoMatch
-answerOf fault = NoMatch
+abbrev pub carriedResult : Outcome → RunResult
+carriedResult (matched env) = aMatch
+carriedResult missed = noMatch
+carriedResult fault = noMatch
 
 -- the last refusal: a plan larger than the buffer
-unfoldable pub runAnswer : RunOutcome → List ℕ → RunAnswer
-runAnswer (refused a) buffer = a
-runAnswer (carriedOut es o) buffer = cond (fits es buffer) (answerOf o) (PlanTooLarge (length es))
+unfoldable pub runAnswer : RunOutcome → List ℕ → RunResult
+runAnswer (refused a) buffer = turnedBack a
+runAnswer (carriedOut es o) buffer = cond (fits es buffer) (carriedResult o) (turnedBack (planTooLarge (length es)))
 
 -- the plan, then zeros; of a refusal, all zeros
 unfoldable pub planAfter : RunOutcome → List ℕ → List ℕ
 planAfter (refused a) buffer = zeros buffer
 planAfter (carriedOut es o) buffer = written (planned 0 0 es) buffer
-
-abbrev pub nodeIn : Option Value → ℕ
-nodeIn none = 0
-nodeIn (some v) = nodeᵛ v
 
 -- The names to be set have the nodes of their values, the others what stood there.
 abbrev pub setNames : (ℕ → Bool) → Outcome → List ℕ → List ℕ
@@ -114,7 +108,7 @@ setNames toSet fault values = values
 
 -- the pattern's names, `_` aside, that are not known
 abbrev pub plannedName : (ℕ → Bool) → Expr → ℕ → Bool
-plannedName unbound e x = mentions x e && unbound x
+plannedName isKnown e x = mentions x e && not (isKnown x)
 
 -- a match sets the names given, and nothing else does
 unfoldable pub valuesAfter : (ℕ → Bool) → RunOutcome → List ℕ → List ℕ → List ℕ
@@ -123,6 +117,11 @@ valuesAfter toSet (carriedOut es o) buffer values = cond (fits es buffer) (setNa
 
 -- the answer, the plan buffer and the list at exit
 pub record Ran (names : ℕ → Bool) (o : RunOutcome) (values buffer valuesExit bufferExit : List ℕ) (r : RunAnswer) : Type 0 where
-  pub answer : r ≡ runAnswer o buffer
+  pub answer : resultOf r ≡ runAnswer o buffer
   pub plan : bufferExit ≡ planAfter o buffer
   pub list : valuesExit ≡ valuesAfter names o buffer values
+
+-- the same of a `&mut` list and a `&mut` buffer, at entry and at exit
+abbrev pub RanIn : Slices → Slices → Tables → Scope → ScopingMode → ℕ → ℕ → RunAnswer → Type 0
+RanIn values plan T s mode pattern value r =
+    Ran (plannedName (known s mode) (expr T pattern)) (runOutcome T s mode pattern value (old values)) (old values) (old plan) (new values) (new plan) r

@@ -1,25 +1,22 @@
 // Run: a pattern's plan, carried out on a value.
-ghost use Rattle.scope.specs.Scope.{isUnbound};
-ghost use Rattle.table.specs.Tables.{tables};
-ghost use Rattle.table.specs.Decode.{expr};
-ghost use Rattle.planner.specs.Layout.{entries};
-ghost use Rattle.planner.specs.Operations.{planOf};
-ghost use Rattle.run.specs.Operations.{carriedOut, ran, runChecked, runOutcome, plannedName, Ran};
-ghost use Rattle.run.specs.Post.{RunAsks, MatchValuesAsks, ValuesCame, CheckedAsks};
+ghost use Rattle.base.specs.Lent.{old};
+ghost use Rattle.table.specs.Lent.{given, lent};
+ghost use Rattle.run.specs.Operations.{RanIn};
+ghost use Rattle.run.specs.code.Post.{RunAsks, MatchValuesAsks, ValuesCameIn, CarriedIn, CheckedAsks, CheckedIn};
 use checks::all_values;
 use checks::is_simple;
-use matching::walk::match_pattern;
+use matching::inner::match_pattern;
 use names::known_listed;
 use names::set_names;
 use names::start_list;
 use planner::buffer::clear;
 use planner::buffer::close;
 use planner::buffer::copy_entries;
-use planner::context::is_sound;
-use planner::destructuring::plan_pattern;
+use planner::inner::destructuring::plan_pattern;
 use scope::Scope;
 use scope::ScopingMode;
 use table::TableAnswer;
+use table::TableRefusal;
 use table::check;
 use table::reading::is_node;
 
@@ -29,7 +26,7 @@ mod names;
 pub enum RunAnswer {
     Match,
     NoMatch,
-    TableRefused(TableAnswer),
+    TableRefused(TableRefusal),
     RootOutside,
     ListTooShort,
     PatternNotSimple,
@@ -54,11 +51,11 @@ fn match_values(
     value: u32,
     values: &mut [u32],
 ) -> RunAnswer
-    requires { ⌜ MatchValuesAsks (tables (now nodes) (now children) (now numbers) (now names) (now strings) (now text)) scope scoping (now scratch) count value (now values) ⌝ }
-    ensures { λ r. ⌜ ValuesCame (tables (now (nodes .entry)) (now (children .entry)) (now (numbers .entry)) (now (names .entry)) (now (strings .entry)) (now (text .entry))) scope scoping (now (scratch .entry)) count (now (binders .entry)) value (now (values .entry)) (now (values .exit)) r ⌝ }
+    requires { ⌜ MatchValuesAsks (given nodes children numbers names strings text) scope scoping (now scratch) count value (now values) ⌝ }
+    ensures { λ r. let T = lent nodes children numbers names strings text in ⌜ ValuesCameIn values T scope scoping (old scratch) count (old binders) value r ⌝ }
 {
-    let mut list = start_list(names, scope, scoping, values);
-    let matched = match_pattern(
+    let start = start_list(names, scope, scoping, values);
+    let done = match_pattern(
         nodes,
         children,
         numbers,
@@ -68,11 +65,12 @@ fn match_values(
         scratch,
         count,
         value,
-        &mut list,
+        start,
     );
-    if !matched {
+    if !done.matched {
         return RunAnswer::NoMatch;
     }
+    let list = done.list;
     set_names(names, binders, &list, values);
     RunAnswer::Match
 }
@@ -92,8 +90,8 @@ fn carry_out(
     values: &mut [u32],
     plan: &mut [u32],
 ) -> RunAnswer
-    requires { ⌜ RunAsks (tables (now nodes) (now children) (now numbers) (now names) (now strings) (now text)) scope scoping pattern value (now values) ⌝ }
-    ensures { λ r. ⌜ Ran (plannedName (isUnbound scope scoping) (expr (tables (now (nodes .entry)) (now (children .entry)) (now (numbers .entry)) (now (names .entry)) (now (strings .entry)) (now (text .entry))) pattern)) (carriedOut (entries (planOf (tables (now (nodes .entry)) (now (children .entry)) (now (numbers .entry)) (now (names .entry)) (now (strings .entry)) (now (text .entry))) scope scoping pattern) 0) (ran (tables (now (nodes .entry)) (now (children .entry)) (now (numbers .entry)) (now (names .entry)) (now (strings .entry)) (now (text .entry))) scope scoping pattern value (now (values .entry)))) (now (values .entry)) (now (plan .entry)) (now (values .exit)) (now (plan .exit)) r ⌝ }
+    requires { ⌜ RunAsks (given nodes children numbers names strings text) scope scoping pattern value (now values) ⌝ }
+    ensures { λ r. ⌜ CarriedIn values plan (lent nodes children numbers names strings text) scope scoping pattern value r ⌝ }
 {
     let mut binders = [0u32; 128];
     let mut scratch = [0u32; 2048];
@@ -111,8 +109,8 @@ fn carry_out(
         &mut scratch,
         0,
     );
-    let end = copy_entries(plan, 0, &scratch, count);
-    close(plan, 0, end);
+    copy_entries(plan, 0, &scratch, count);
+    close(plan, 0, count);
     if plan.len() / 4 < count {
         return RunAnswer::PlanTooLarge { needed: count };
     }
@@ -148,8 +146,8 @@ fn run_checked(
     values: &mut [u32],
     plan: &mut [u32],
 ) -> RunAnswer
-    requires { ⌜ CheckedAsks (tables (now nodes) (now children) (now numbers) (now names) (now strings) (now text)) scope pattern value (now values) ⌝ }
-    ensures { λ r. ⌜ Ran (plannedName (isUnbound scope scoping) (expr (tables (now (nodes .entry)) (now (children .entry)) (now (numbers .entry)) (now (names .entry)) (now (strings .entry)) (now (text .entry))) pattern)) (runChecked (tables (now (nodes .entry)) (now (children .entry)) (now (numbers .entry)) (now (names .entry)) (now (strings .entry)) (now (text .entry))) scope scoping pattern value (now (values .entry))) (now (values .entry)) (now (plan .entry)) (now (values .exit)) (now (plan .exit)) r ⌝ }
+    requires { ⌜ CheckedAsks (given nodes children numbers names strings text) scope pattern value (now values) ⌝ }
+    ensures { λ r. ⌜ CheckedIn values plan (lent nodes children numbers names strings text) scope scoping pattern value r ⌝ }
 {
     if !is_simple(nodes, children, numbers, names, strings, text, pattern) {
         clear(plan);
@@ -214,12 +212,12 @@ pub fn run(
     values: &mut [u32],
     plan: &mut [u32],
 ) -> RunAnswer
-    ensures { λ r. ⌜ Ran (plannedName (isUnbound scope scoping) (expr (tables (now (nodes .entry)) (now (children .entry)) (now (numbers .entry)) (now (names .entry)) (now (strings .entry)) (now (text .entry))) pattern)) (runOutcome (tables (now (nodes .entry)) (now (children .entry)) (now (numbers .entry)) (now (names .entry)) (now (strings .entry)) (now (text .entry))) scope scoping pattern value (now (values .entry))) (now (values .entry)) (now (plan .entry)) (now (values .exit)) (now (plan .exit)) r ⌝ }
+    ensures { λ r. ⌜ RanIn values plan (lent nodes children numbers names strings text) scope scoping pattern value r ⌝ }
 {
     let checked = check(nodes, children, numbers, names, strings, text, scope);
-    if !is_sound(checked) {
+    if let TableAnswer::Refused(refused) = checked {
         clear(plan);
-        return RunAnswer::TableRefused(checked);
+        return RunAnswer::TableRefused(refused);
     }
     if !is_node(nodes, pattern) {
         clear(plan);

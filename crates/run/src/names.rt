@@ -1,16 +1,17 @@
 // The values of names by their numbers: at the start, and after a match.
+ghost use Rattle.base.specs.Lent.{old, new};
+ghost use Rattle.table.specs.Lent.{given, lent};
 ghost use Prim.Native.Nat.{_+_, _-_, _/_};
 ghost use mathlib.Core.Path.{_≡_};
 ghost use mathlib.Core.Bool.{cond};
 ghost use lib.Dec.{eqb};
 ghost use lib.ListN.{length};
-ghost use Rattle.scope.specs.Scope.{isUnbound};
-ghost use Rattle.table.specs.Tables.{tables};
+ghost use Rattle.scope.specs.Scope.{isUnbound, known};
 ghost use Rattle.table.specs.Decode.{expr};
 ghost use Rattle.planner.specs.code.Post.{NameNumber};
 ghost use Rattle.run.specs.Operations.{knownListed};
-ghost use Rattle.run.specs.NamesPost.{ListAsks, StartOf, NamesSet, hasValue, allHaveValues, KnownAsks};
-use report::names_met;
+ghost use Rattle.run.specs.code.NamesPost.{ListAsks, StartOf, NamesSet, hasValue, allHaveValues, KnownAsks};
+use report::inner::names_met;
 use scope::Binding;
 use scope::Scope;
 use scope::ScopingMode;
@@ -45,7 +46,7 @@ pub(crate) fn start_list(
     values: &[u32],
 ) -> [u32; 128]
     requires { ⌜ ListAsks (now names) (now values) ⌝ }
-    ensures { λ r. ⌜ StartOf (length (now (names .entry)) / 2) scope scoping (now (values .entry)) r ⌝ }
+    ensures { λ r. ⌜ StartOf (length (old names) / 2) scope scoping (old values) r ⌝ }
 {
     let mut list = [0u32; 128];
     let count = names.len() / 2;
@@ -69,7 +70,7 @@ fn new_value(binder: u32, old: u32, new: u32) -> u32
 // The names with a binder are set.
 pub(crate) fn set_names(names: &[u32], binders: &[u32; 128], list: &[u32; 128], values: &mut [u32])
     requires { ⌜ ListAsks (now names) (now values) ⌝ }
-    ensures { λ _. ⌜ NamesSet (length (now (names .entry)) / 2) (now (binders .entry)) (now (list .entry)) (now (values .entry)) (now (values .exit)) ⌝ }
+    ensures { λ _. ⌜ NamesSet (length (old names) / 2) (old binders) (old list) (old values) (new values) ⌝ }
 {
     let count = names.len() / 2;
     let mut i: usize = 0;
@@ -102,7 +103,7 @@ fn all_have_values(
     values: &[u32],
 ) -> bool
     requires { ⌜ ListAsks (now names) (now values) ⌝ }
-    ensures { λ r. ⌜ r ≡ allHaveValues (length (now (names .entry)) / 2) (isUnbound scope scoping) (now (met .entry)) (now (values .entry)) ⌝ }
+    ensures { λ r. ⌜ r ≡ allHaveValues (length (old names) / 2) (isUnbound scope scoping) (old met) (old values) ⌝ }
 {
     let count = names.len() / 2;
     let mut i: usize = 0;
@@ -128,8 +129,8 @@ pub(crate) fn known_listed(
     pattern: u32,
     values: &[u32],
 ) -> bool
-    requires { ⌜ KnownAsks (tables (now nodes) (now children) (now numbers) (now names) (now strings) (now text)) pattern (now values) ⌝ }
-    ensures { λ r. ⌜ r ≡ knownListed (tables (now (nodes .entry)) (now (children .entry)) (now (numbers .entry)) (now (names .entry)) (now (strings .entry)) (now (text .entry))) (isUnbound scope scoping) (expr (tables (now (nodes .entry)) (now (children .entry)) (now (numbers .entry)) (now (names .entry)) (now (strings .entry)) (now (text .entry))) pattern) (now (values .entry)) ⌝ }
+    requires { ⌜ KnownAsks (given nodes children numbers names strings text) scope pattern (now values) ⌝ }
+    ensures { λ r. let T = lent nodes children numbers names strings text in ⌜ r ≡ knownListed T (known scope scoping) (expr T pattern) (old values) ⌝ }
 {
     let met = names_met(nodes, children, numbers, names, strings, text, pattern);
     all_have_values(names, scope, scoping, &met, values)

@@ -9,15 +9,14 @@ use lib.ListN.{getD}
 use Rattle.scope.specs.declared.Scope.{Scope}
 use Rattle.scope.specs.declared.ScopingMode.{ScopingMode}
 use Rattle.scope.specs.declared.ScopingMode.the-variants.{RespectParent, AllowShadowing}
-use Rattle.scope.specs.Scope.{isUnbound}
+use Rattle.scope.specs.Scope.{known}
 use Rattle.table.specs.Tables.{Tables}
 use Rattle.table.specs.Decode.{expr}
 use Rattle.planner.proofs.buffer.Filling.{Filling, filling-ends}
 use Rattle.run.specs.declared.RunAnswer.{RunAnswer}
-use Rattle.run.specs.declared.RunAnswer.the-variants.{Match, NoMatch, TableRefused, RootOutside, ListTooShort, PatternNotSimple, NotAValue, NameWithoutValue, PlanTooLarge}
 use Rattle.run.specs.Operations.{runOutcome, plannedName, Ran}
-use Rattle.run.specs.Answer.{runLine}
-use Rattle.run_entry.specs.Entry.{marksOf, scopeOf, scopingOf, answerNumber, RanTables}
+use Rattle.run.specs.Answer.{RunResult, turnedBack, aMatch, noMatch, resultOf, resultLine}
+use Rattle.run_entry.specs.Entry.{marksOf, scopeOf, scopingOf, resultNumber, RanTables}
 
 pub marks-end : (marks : List ℕ) {here : List ℕ} {i : ℕ} → Filling (λ k. getD marks k 0) 128 i here → 128 ≤ i → here ≡ marksOf marks
 marks-end marks go le = let long = go .long in filling-ends go (omega arith)
@@ -48,21 +47,15 @@ pub ran-tables :
     {r : ℕ}
     → s ≡ scopeOf marks underscore scheduler
     → mode ≡ scopingOf scoping
-    → Ran (plannedName (isUnbound s mode) (expr T pattern)) (runOutcome T s mode pattern value values) values buffer valuesExit bufferExit answer
-    → r ≡ answerNumber answer
+    → Ran (plannedName (known s mode) (expr T pattern)) (runOutcome T s mode pattern value values) values buffer valuesExit bufferExit answer
+    → r ≡ resultNumber (resultOf answer)
     → RanTables T (scopeOf marks underscore scheduler) (scopingOf scoping) pattern value values buffer valuesExit bufferExit r
 ran-tables T marks underscore scheduler scoping pattern value e f ran is =
     let done = rw (e, f) at ran in
-    record { answer = is ∙ ap answerNumber (done .answer); plan = done .plan; list = done .list }
+    record { answer = is ∙ ap resultNumber (done .answer); plan = done .plan; list = done .list }
 
 -- of every answer but no match it is the first number of the answer's line
-pub number-in-line : (answer : RunAnswer) → (answer ≡ NoMatch → ⊥) → answerNumber answer ≡ runLine answer .number
-number-in-line Match differs = refl
-number-in-line NoMatch differs = absurd (differs refl)
-number-in-line (TableRefused a) differs = refl
-number-in-line RootOutside differs = refl
-number-in-line ListTooShort differs = refl
-number-in-line PatternNotSimple differs = refl
-number-in-line NotAValue differs = refl
-number-in-line NameWithoutValue differs = refl
-number-in-line (PlanTooLarge needed) differs = refl
+pub number-in-line : (r : RunResult) → (r ≡ noMatch → ⊥) → resultNumber r ≡ resultLine r .number
+number-in-line aMatch differs = refl
+number-in-line noMatch differs = absurd (differs refl)
+number-in-line (turnedBack r) differs = refl

@@ -8,13 +8,12 @@ use lib.ListN.{getD}
 use Rattle.scope.specs.declared.Scope.{Scope}
 use Rattle.scope.specs.declared.ScopingMode.{ScopingMode}
 use Rattle.scope.specs.declared.ScopingMode.the-variants.{RespectParent, AllowShadowing}
-use Rattle.scope.specs.Scope.{isUnbound}
+use Rattle.scope.specs.Scope.{known}
+use Rattle.base.specs.Lent.{Slices, old, new}
 use Rattle.table.specs.Tables.{Tables}
 use Rattle.table.specs.Decode.{expr}
-use Rattle.table.specs.Check.{refusal}
-use Rattle.planner.specs.code.Post.{tabulate}
-use Rattle.run.specs.declared.RunAnswer.{RunAnswer}
-use Rattle.run.specs.declared.RunAnswer.the-variants.{Match, NoMatch, TableRefused, RootOutside, ListTooShort, PatternNotSimple, NotAValue, NameWithoutValue, PlanTooLarge}
+use Rattle.base.specs.Lists.{tabulate}
+use Rattle.run.specs.Answer.{RunResult, turnedBack, aMatch, noMatch}
 use Rattle.run.specs.Operations.{runOutcome, runAnswer, planAfter, plannedName, valuesAfter}
 
 -- the first 128 marks, 0 past the lent ones
@@ -30,19 +29,18 @@ abbrev pub scopingOf : ℕ → ScopingMode
 scopingOf scoping = cond (eqb scoping 2) AllowShadowing RespectParent
 
 -- 0 for a match, 100 for no match, else document 01's number of the refusal
-abbrev pub answerNumber : RunAnswer → ℕ
-answerNumber Match = 0
-answerNumber NoMatch = 100
-answerNumber (TableRefused a) = refusal a
-answerNumber RootOutside = 5
-answerNumber (PlanTooLarge needed) = 6
-answerNumber ListTooShort = 20
-answerNumber PatternNotSimple = 21
-answerNumber NotAValue = 22
-answerNumber NameWithoutValue = 23
+abbrev pub resultNumber : RunResult → ℕ
+resultNumber aMatch = 0
+resultNumber noMatch = 100
+resultNumber (turnedBack r) = r .number
 
 -- the answer, the plan buffer and the list at exit
 pub record RanTables (T : Tables) (s : Scope) (mode : ScopingMode) (pattern value : ℕ) (values buffer valuesExit bufferExit : List ℕ) (r : ℕ) : Type 0 where
-  pub answer : r ≡ answerNumber (runAnswer (runOutcome T s mode pattern value values) buffer)
+  pub answer : r ≡ resultNumber (runAnswer (runOutcome T s mode pattern value values) buffer)
   pub plan : bufferExit ≡ planAfter (runOutcome T s mode pattern value values) buffer
-  pub list : valuesExit ≡ valuesAfter (plannedName (isUnbound s mode) (expr T pattern)) (runOutcome T s mode pattern value values) buffer values
+  pub list : valuesExit ≡ valuesAfter (plannedName (known s mode) (expr T pattern)) (runOutcome T s mode pattern value values) buffer values
+
+-- the same of what is lent, at entry and at exit, with scope and scoping from their words
+abbrev pub RanTablesIn : Slices → Slices → Tables → Slices → ℕ → ℕ → ℕ → ℕ → ℕ → ℕ → Type 0
+RanTablesIn values plan T marks underscore scheduler scoping pattern value r =
+    RanTables T (scopeOf (old marks) underscore scheduler) (scopingOf scoping) pattern value (old values) (old plan) (new values) (new plan) r

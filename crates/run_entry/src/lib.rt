@@ -1,8 +1,10 @@
 // The run for a caller in Rust or C: the tables, the scope and the answer in plain words.
+ghost use Rattle.base.specs.Lent.{old};
+ghost use Rattle.table.specs.Lent.{lent};
 ghost use mathlib.Core.Path.{_≡_};
 ghost use lib.ListN.{getD};
-ghost use Rattle.table.specs.Tables.{tables};
-ghost use Rattle.run_entry.specs.Entry.{marksOf, scopeOf, scopingOf, answerNumber, RanTables};
+ghost use Rattle.run_entry.specs.Entry.{marksOf, scopeOf, scopingOf, resultNumber, RanTablesIn};
+ghost use Rattle.run.specs.Answer.{resultOf};
 use run::RunAnswer;
 use run::run;
 use scope::Scope;
@@ -10,7 +12,7 @@ use scope::ScopingMode;
 use table::refusal_number;
 
 fn mark_at(marks: &[u8], i: usize) -> u8
-    ensures { λ r. ⌜ r ≡ getD (now (marks .entry)) i 0 ⌝ }
+    ensures { λ r. ⌜ r ≡ getD (old marks) i 0 ⌝ }
 {
     if i < marks.len() {
         return marks[i];
@@ -19,7 +21,7 @@ fn mark_at(marks: &[u8], i: usize) -> u8
 }
 
 fn marks_of(marks: &[u8]) -> [u8; 128]
-    ensures { λ r. ⌜ r ≡ marksOf (now (marks .entry)) ⌝ }
+    ensures { λ r. ⌜ r ≡ marksOf (old marks) ⌝ }
 {
     let mut all = [0u8; 128];
     let mut i: usize = 0;
@@ -31,7 +33,7 @@ fn marks_of(marks: &[u8]) -> [u8; 128]
 }
 
 fn scope_of(marks: &[u8], underscore: u32, scheduler: u32) -> Scope
-    ensures { λ r. ⌜ r ≡ scopeOf (now (marks .entry)) underscore scheduler ⌝ }
+    ensures { λ r. ⌜ r ≡ scopeOf (old marks) underscore scheduler ⌝ }
 {
     Scope {
         marks: marks_of(marks),
@@ -50,7 +52,7 @@ fn scoping_of(scoping: u32) -> ScopingMode
 }
 
 fn answer_number(answer: RunAnswer) -> u32
-    ensures { λ r. ⌜ r ≡ answerNumber answer ⌝ }
+    ensures { λ r. ⌜ r ≡ resultNumber (resultOf answer) ⌝ }
 {
     match answer {
         RunAnswer::Match => 0,
@@ -84,7 +86,7 @@ pub extern "C" fn run_tables(
     values: &mut [u32],
     plan: &mut [u32],
 ) -> u32
-    ensures { λ r. ⌜ RanTables (tables (now (nodes .entry)) (now (children .entry)) (now (numbers .entry)) (now (names .entry)) (now (strings .entry)) (now (text .entry))) (scopeOf (now (marks .entry)) underscore scheduler) (scopingOf scoping) pattern value (now (values .entry)) (now (plan .entry)) (now (values .exit)) (now (plan .exit)) r ⌝ }
+    ensures { λ r. let T = lent nodes children numbers names strings text in ⌜ RanTablesIn values plan T marks underscore scheduler scoping pattern value r ⌝ }
 {
     let answer = run(
         nodes,

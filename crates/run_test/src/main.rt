@@ -21,7 +21,7 @@ use run::RunAnswer;
 use run::run;
 use scope::Scope;
 use scope::ScopingMode;
-use table::TableAnswer;
+use table::TableRefusal;
 use table::refusal_number;
 ghost use Prim.Native.Nat.{_≤_};
 ghost use mathlib.Core.Path.{_≡_};
@@ -199,7 +199,7 @@ fn print_needed(needed: usize) {
     io::print_decimal(STDOUT_FILENO, needed as u64);
 }
 
-fn number_of(answer: TableAnswer) -> u64 {
+fn number_of(answer: TableRefusal) -> u64 {
     refusal_number(answer) as u64
 }
 

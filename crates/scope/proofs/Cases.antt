@@ -10,10 +10,9 @@ use lib.Dec.{eqb}
 use Rattle.scope.specs.declared.Scope.{Scope}
 use Rattle.scope.specs.declared.ScopingMode.{ScopingMode}
 use Rattle.scope.specs.declared.ScopingMode.the-variants.{RespectParent, AllowShadowing}
-use Rattle.scope.specs.declared.Changed.{Changed}
 use Rattle.scope.specs.declared.ScopeAnswer.the-variants.{Done, NameOutside}
 use Rattle.scope.specs.declared.Binding.the-variants as Binding
-use Rattle.scope.specs.Scope.{isName, has, markOf, isUnderscore, byScoping, isUnbound, sameScope, bound, declaredUnbound, local, global, withMarks, withLower, withoutSame, childOf, changed, bindingOf}
+use Rattle.scope.specs.Scope.{isName, has, markOf, isUnderscore, byScoping, isUnbound, sameScope, bound, declaredUnbound, local, global, withMarks, withLower, withoutSame, childOf, Called, asked, told, questionOf}
 use Rattle.scope.proofs.Loops.{Mapped, mapped-ends}
 
 -- is_name
@@ -56,61 +55,61 @@ module _ (m : ℕ) where
 
 -- a name outside, and `_`
 module _ (s : Scope) (x : ℕ) where
-  pub lower-outside : (lower : ℕ) {r : Bool} → r ≡ isName x → not r ≡ true → _≡_ {A = Changed} (record { answer = NameOutside; scope = s }) (changed x (withLower lower s x))
+  pub lower-outside : (lower : ℕ) {r : Bool} → r ≡ isName x → not r ≡ true → Called x (withLower lower s x) (record { answer = NameOutside; scope = s })
   unfolding withLower
-  lower-outside lower {r} e t = simp (told-no e t)
+  lower-outside lower {r} e t = record { answer = simp (told-no e t); scope = simp (told-no e t) }
 
-  pub unbound-outside : (mode : ScopingMode) {r : Bool} → r ≡ isName x → not r ≡ true → Binding.NameOutside ≡ bindingOf x (isUnbound s mode x)
+  pub unbound-outside : (mode : ScopingMode) {r : Bool} → r ≡ isName x → not r ≡ true → questionOf Binding.NameOutside ≡ asked x (isUnbound s mode x)
   unbound-outside mode e t = simp (told-no e t)
 
-  pub same-outside : {r : Bool} → r ≡ isName x → not r ≡ true → Binding.NameOutside ≡ bindingOf x (sameScope s x)
+  pub same-outside : {r : Bool} → r ≡ isName x → not r ≡ true → questionOf Binding.NameOutside ≡ asked x (sameScope s x)
   same-outside e t = simp (told-no e t)
 
   module _ {r : Bool} (e : r ≡ isName x) (t : not r ≡ false) where
-    pub lower-skips : (lower : ℕ) → x ≡ s .underscore → _≡_ {A = Changed} (record { answer = Done; scope = s }) (changed x (withLower lower s x))
+    pub lower-skips : (lower : ℕ) → x ≡ s .underscore → Called x (withLower lower s x) (record { answer = Done; scope = s })
     unfolding withLower isUnderscore
-    lower-skips lower u = simp (told-yes e t, eq-eqb _ _ u)
+    lower-skips lower u = record { answer = simp (told-yes e t); scope = simp (told-yes e t, eq-eqb _ _ u) }
 
     pub lower-done : (lower m : ℕ) → (x ≡ s .underscore → ⊥) → m ≡ markOf s x
-        → _≡_ {A = Changed} (record { answer = Done; scope = withMarks s (set (s .marks) (x - 1) (m / 16 * 16 + lower)) }) (changed x (withLower lower s x))
+        → Called x (withLower lower s x) (record { answer = Done; scope = withMarks s (set (s .marks) (x - 1) (m / 16 * 16 + lower)) })
     unfolding withLower isUnderscore
-    lower-done lower m u is = simp (told-yes e t, ne-eqb _ _ u, is)
+    lower-done lower m u is = record { answer = simp (told-yes e t); scope = simp (told-yes e t, ne-eqb _ _ u, is) }
 
-    pub unbound-underscore : (mode : ScopingMode) → x ≡ s .underscore → Binding.No ≡ bindingOf x (isUnbound s mode x)
+    pub unbound-underscore : (mode : ScopingMode) → x ≡ s .underscore → questionOf Binding.No ≡ asked x (isUnbound s mode x)
     unfolding isUnbound isUnderscore
     unbound-underscore mode u = simp (told-yes e t, eq-eqb _ _ u)
 
-    pub same-underscore : x ≡ s .underscore → Binding.No ≡ bindingOf x (sameScope s x)
+    pub same-underscore : x ≡ s .underscore → questionOf Binding.No ≡ asked x (sameScope s x)
     unfolding sameScope isUnderscore
     same-underscore u = simp (told-yes e t, eq-eqb _ _ u)
 
     -- a name with marks m
     module _ (u : x ≡ s .underscore → ⊥) {m : ℕ} (is : m ≡ markOf s x) where
-      pub same-yes : m / 2 % 2 ≡ 1 → Binding.Yes ≡ bindingOf x (sameScope s x)
+      pub same-yes : m / 2 % 2 ≡ 1 → questionOf Binding.Yes ≡ asked x (sameScope s x)
       unfolding sameScope isUnderscore
       same-yes b = simp (told-yes e t, ne-eqb _ _ u, ← is, eq-eqb _ _ b)
 
-      pub same-no : (m / 2 % 2 ≡ 1 → ⊥) → Binding.No ≡ bindingOf x (sameScope s x)
+      pub same-no : (m / 2 % 2 ≡ 1 → ⊥) → questionOf Binding.No ≡ asked x (sameScope s x)
       unfolding sameScope isUnderscore
       same-no b = simp (told-yes e t, ne-eqb _ _ u, ← is, ne-eqb _ _ b)
 
       module _ {marked : Bool} (says : marked ≡ (has 4 m || (s .scheduler && has 8 m))) where
-        pub unbound-marked : (mode : ScopingMode) → marked ≡ true → Binding.Yes ≡ bindingOf x (isUnbound s mode x)
+        pub unbound-marked : (mode : ScopingMode) → marked ≡ true → questionOf Binding.Yes ≡ asked x (isUnbound s mode x)
         unfolding isUnbound isUnderscore declaredUnbound local
         unbound-marked mode b = simp (told-yes e t, ne-eqb _ _ u, ← is, ← says, b)
 
         module _ (not-so : marked ≡ false) where
-          unbound-is : (mode : ScopingMode) → bindingOf x (isUnbound s mode x) ≡ cond (byScoping mode (has 1 m || has 16 m)) Binding.Yes Binding.No
+          unbound-is : (mode : ScopingMode) → asked x (isUnbound s mode x) ≡ told (byScoping mode (has 1 m || has 16 m))
           unfolding isUnbound isUnderscore declaredUnbound local bound global
           unbound-is mode = simp (told-yes e t, ne-eqb _ _ u, ← is, ← says, not-so)
 
-          pub unbound-shadowed : (mode : ScopingMode) → mode ≡ AllowShadowing → Binding.Yes ≡ bindingOf x (isUnbound s mode x)
+          pub unbound-shadowed : (mode : ScopingMode) → mode ≡ AllowShadowing → questionOf Binding.Yes ≡ asked x (isUnbound s mode x)
           unbound-shadowed mode a = sym (unbound-is mode ∙ simp a)
 
-          pub unbound-taken : (mode : ScopingMode) {taken : Bool} → mode ≡ RespectParent → taken ≡ (has 1 m || has 16 m) → taken ≡ true → Binding.No ≡ bindingOf x (isUnbound s mode x)
+          pub unbound-taken : (mode : ScopingMode) {taken : Bool} → mode ≡ RespectParent → taken ≡ (has 1 m || has 16 m) → taken ≡ true → questionOf Binding.No ≡ asked x (isUnbound s mode x)
           unbound-taken mode a f b = sym (unbound-is mode ∙ simp (a, ← f, b))
 
-          pub unbound-free : (mode : ScopingMode) {taken : Bool} → mode ≡ RespectParent → taken ≡ (has 1 m || has 16 m) → taken ≡ false → Binding.Yes ≡ bindingOf x (isUnbound s mode x)
+          pub unbound-free : (mode : ScopingMode) {taken : Bool} → mode ≡ RespectParent → taken ≡ (has 1 m || has 16 m) → taken ≡ false → questionOf Binding.Yes ≡ asked x (isUnbound s mode x)
           unbound-free mode a f b = sym (unbound-is mode ∙ simp (a, ← f, b))
 
 pub child-done : (s : Scope) {i : ℕ} {ms : List ℕ} → Mapped withoutSame (s .marks) i ms → 128 ≤ i → withMarks s ms ≡ childOf s

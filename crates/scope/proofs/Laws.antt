@@ -1,15 +1,19 @@
 -- The promises of a scope's calls.
 use Prim.Native.Nat.{ℕ, _+_, _-_, _<_}
-use mathlib.Core.Path.{_≡_, refl, _∙_}
+use mathlib.Core.Path.{_≡_, refl, sym, ap, _∙_}
 use mathlib.Core.Bool.{Bool, true, false, cond, not, _&&_, _||_, and-true, and-false, or-true, and-eq-true-iff}
 use native.Mathlib.Omega.{arith}
 use lib.ListN.{length-set, length-map}
+use Rattle.base.specs.Refusal.{nameOutside}
 use Rattle.scope.specs.declared.Scope.{Scope}
 use Rattle.scope.specs.declared.ScopingMode.{ScopingMode}
 use Rattle.scope.specs.declared.ScopingMode.the-variants.{RespectParent, AllowShadowing}
+use Rattle.scope.specs.declared.ScopeAnswer.{ScopeAnswer}
+use Rattle.scope.specs.declared.ScopeAnswer.the-variants.{Done, NameOutside}
+use Rattle.scope.specs.declared.Binding.{Binding}
 use Rattle.scope.specs.declared.Binding.the-variants as Binding
-use Rattle.scope.specs.Scope.{isName, has, markOf, isUnderscore, byScoping, isUnbound, sameScope, bound, declaredUnbound, local, global, upperMarks, withLower, bindVariable, addUnboundVariable, withoutSame, childOf, newScope, smallMarks, marksOk, questionRefusal}
-use Rattle.scope.specs.Promises.{Sized, SameFrame, Kept, Alike, ChangedAt, BindPromise, AddPromise, ChildPromise, NewPromise, ScopePromise, AnswerPromise}
+use Rattle.scope.specs.Scope.{isName, has, markOf, isUnderscore, byScoping, isUnbound, sameScope, bound, declaredUnbound, local, global, upperMarks, withLower, bindVariable, addUnboundVariable, withoutSame, childOf, newScope, smallMarks, marksOk, callOf, Question, told, turnedBack, asked, questionOf}
+use Rattle.scope.specs.Promises.{Sized, SameFrame, Kept, Alike, ChangedAt, BindPromise, AddPromise, ChildPromise, NewPromise, ScopePromise, AnswerLaws}
 use Rattle.scope.proofs.Marks.{lower-1, lower-2, lower-4, lower-8, lower-16, without-1, without-2, without-4, without-8, without-16, marks-at, marks-elsewhere, marks-child, getD-zeros, marks-bounded, small-set, small-without}
 
 -- a name whose marks other than 2 are as before
@@ -200,24 +204,47 @@ scope-promise s x = record {
 }
 
 -- the answers
-yes-true : (a b : Bool) → cond a (cond b Binding.Yes Binding.No) Binding.NameOutside ≡ Binding.Yes → b ≡ true
-yes-true true true e = refl
-yes-true true false e = cc
-yes-true false b e = cc
+call-settled : (a b : ScopeAnswer) → callOf a ≡ callOf b → a ≡ b
+call-settled Done Done e = refl
+call-settled Done NameOutside e = cc
+call-settled NameOutside Done e = cc
+call-settled NameOutside NameOutside e = refl
 
-no-false : (a b : Bool) → cond a (cond b Binding.Yes Binding.No) Binding.NameOutside ≡ Binding.No → b ≡ false
-no-false true true e = cc
-no-false true false e = refl
-no-false false b e = cc
+abbrev bindingIn : Question → Binding
+bindingIn (told true) = Binding.Yes
+bindingIn (told false) = Binding.No
+bindingIn (turnedBack r) = Binding.NameOutside
 
-answered : (b : Bool) → questionRefusal (cond b Binding.Yes Binding.No) ≡ 0
-answered true = refl
-answered false = refl
+back : (b : Binding) → bindingIn (questionOf b) ≡ b
+back Binding.Yes = refl
+back Binding.No = refl
+back Binding.NameOutside = refl
 
-pub answer-promise : (x : ℕ) (b : Bool) → AnswerPromise x b
-answer-promise x b = record {
-  is-yes = yes-true (isName x) b;
-  is-no = no-false (isName x) b;
-  inside = λ e. (simp e, simp (e, answered b));
-  outside = λ e. (simp e, simp e);
-}
+-- what each answer to a question says
+module _ (x : ℕ) (u : Bool) where
+  pub says-yes : questionOf Binding.Yes ≡ asked x u → (isName x ≡ true) × (u ≡ true)
+  says-yes e = go (isName x) refl u refl
+    where
+      go : (a : Bool) → isName x ≡ a → (b : Bool) → u ≡ b → (isName x ≡ true) × (u ≡ true)
+      go true p true q = (p, q)
+      go true p false q = let h : _≡_ {A = Question} (told true) (told false) = e ∙ simp (p, q) in let z : Binding.Yes ≡ Binding.No = ap bindingIn h in (cc, cc)
+      go false p b q = let h : _≡_ {A = Question} (told true) (turnedBack nameOutside) = e ∙ simp p in let z : Binding.Yes ≡ Binding.NameOutside = ap bindingIn h in (cc, cc)
+
+  pub says-no : questionOf Binding.No ≡ asked x u → (isName x ≡ true) × (u ≡ false)
+  says-no e = go (isName x) refl u refl
+    where
+      go : (a : Bool) → isName x ≡ a → (b : Bool) → u ≡ b → (isName x ≡ true) × (u ≡ false)
+      go true p false q = (p, q)
+      go true p true q = let h : _≡_ {A = Question} (told false) (told true) = e ∙ simp (p, q) in let z : Binding.No ≡ Binding.Yes = ap bindingIn h in (cc, cc)
+      go false p b q = let h : _≡_ {A = Question} (told false) (turnedBack nameOutside) = e ∙ simp p in let z : Binding.No ≡ Binding.NameOutside = ap bindingIn h in (cc, cc)
+
+  pub says-outside : questionOf Binding.NameOutside ≡ asked x u → isName x ≡ false
+  says-outside e = go (isName x) refl u refl
+    where
+      go : (a : Bool) → isName x ≡ a → (b : Bool) → u ≡ b → isName x ≡ false
+      go false p b q = p
+      go true p true q = let h : _≡_ {A = Question} (turnedBack nameOutside) (told true) = e ∙ simp (p, q) in let z : Binding.NameOutside ≡ Binding.Yes = ap bindingIn h in cc
+      go true p false q = let h : _≡_ {A = Question} (turnedBack nameOutside) (told false) = e ∙ simp (p, q) in let z : Binding.NameOutside ≡ Binding.No = ap bindingIn h in cc
+
+pub answer-laws : AnswerLaws
+answer-laws = record { calls = call-settled; questions = λ a b e. sym (back a) ∙ (ap bindingIn e ∙ back b) }

@@ -1,4 +1,4 @@
--- What each call on a scope promises, with no word of its marks. The module Laws of proofs/ proves each.
+-- What each call on a scope promises, by what may be asked of it; of the marks only that they stay 128 (`Sized`) and at most 31 each (`marksOk`). The module Laws of proofs/ proves each.
 use Prim.Native.Nat.{ℕ, _≤_}
 use mathlib.Core.Path.{_≡_}
 use mathlib.Core.Bool.{Bool, true, false, not}
@@ -6,8 +6,9 @@ use lib.ListN.{length}
 use Rattle.scope.specs.declared.Scope.{Scope}
 use Rattle.scope.specs.declared.ScopingMode.{ScopingMode}
 use Rattle.scope.specs.declared.ScopingMode.the-variants.{RespectParent, AllowShadowing}
-use Rattle.scope.specs.declared.Binding.the-variants as Binding
-use Rattle.scope.specs.Scope.{isName, isUnderscore, isUnbound, sameScope, bound, declaredUnbound, local, global, bindVariable, addUnboundVariable, childOf, newScope, marksOk, answerOf, bindingOf, refusal, questionRefusal}
+use Rattle.scope.specs.declared.ScopeAnswer.{ScopeAnswer}
+use Rattle.scope.specs.declared.Binding.{Binding}
+use Rattle.scope.specs.Scope.{isName, isUnderscore, isUnbound, sameScope, bound, declaredUnbound, local, global, bindVariable, addUnboundVariable, childOf, newScope, marksOk, callOf, questionOf}
 
 -- as every scope of the code is
 abbrev pub Sized : Scope → Type 0
@@ -90,9 +91,7 @@ pub record ScopePromise (s : Scope) (x : ℕ) : Type 0 where
   pub shadows : isUnbound s AllowShadowing x ≡ not (isUnderscore s x)
   pub respects : isUnbound s RespectParent x ≡ true → isUnbound s AllowShadowing x ≡ true
 
--- What the answers say, and document 01's numbers of them.
-pub record AnswerPromise (x : ℕ) (b : Bool) : Type 0 where
-  pub is-yes : bindingOf x b ≡ Binding.Yes → b ≡ true
-  pub is-no : bindingOf x b ≡ Binding.No → b ≡ false
-  pub inside : isName x ≡ true → (refusal (answerOf x) ≡ 0) × (questionRefusal (bindingOf x b) ≡ 0)
-  pub outside : isName x ≡ false → (refusal (answerOf x) ≡ 8) × (questionRefusal (bindingOf x b) ≡ 8)
+-- Document 01's numbers settle the answers.
+pub record AnswerLaws : Type 0 where
+  pub calls : (a b : ScopeAnswer) → callOf a ≡ callOf b → a ≡ b
+  pub questions : (a b : Binding) → questionOf a ≡ questionOf b → a ≡ b

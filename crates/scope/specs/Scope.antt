@@ -1,9 +1,11 @@
 -- What a scope says of a name, and what each call makes of a scope.
 use Prim.Native.Nat.{ℕ, _+_, _-_, _*_, _/_, _%_}
-use mathlib.Core.Bool.{Bool, true, cond, not, _&&_, _||_}
+use mathlib.Core.Path.{_≡_}
+use mathlib.Core.Bool.{Bool, true, false, cond, not, _&&_, _||_}
 use mathlib.Core.List.{List, [], _∷_, map}
 use lib.Dec.{eqb, leb}
 use lib.ListN.{getD, set, replicate}
+use Rattle.base.specs.Refusal.{Refusal, nameOutside, Tested, passed, refused, require, requireOr}
 use Rattle.scope.specs.declared.Scope.{Scope}
 use Rattle.scope.specs.declared.ScopingMode.{ScopingMode}
 use Rattle.scope.specs.declared.ScopingMode.the-variants.{RespectParent, AllowShadowing}
@@ -51,6 +53,10 @@ isUnbound s mode x =
     not (isUnderscore s x)
     && ((declaredUnbound s x || (s .scheduler && local s x)) || byScoping mode (bound s x || global s x))
 
+-- Document 01's "known": not unbound under the scoping at work; `_` is not counted.
+unfoldable pub known : Scope → ScopingMode → ℕ → Bool
+known s mode x = not (isUnderscore s x) && not (isUnbound s mode x)
+
 -- Is the name bound in this very scope?
 unfoldable pub sameScope : Scope → ℕ → Bool
 sameScope s x = not (isUnderscore s x) && has 2 (markOf s x)
@@ -95,22 +101,29 @@ smallMarks (m ∷ ms) = leb m 31 && smallMarks ms
 unfoldable pub marksOk : Scope → Bool
 marksOk s = smallMarks (s .marks)
 
--- The answers. A name outside 1 to 128 is refused, and the scope returns as given.
-abbrev pub answerOf : ℕ → ScopeAnswer
-answerOf x = cond (isName x) Done NameOutside
+-- A name outside 1 to 128 is turned back, and the scope returns as given.
+abbrev pub named : ℕ → Tested
+named x = require (isName x) nameOutside passed
 
-abbrev pub changed : ℕ → Scope → Changed
-changed x s = record { answer = answerOf x; scope = s }
+-- what a call answers
+abbrev pub callOf : ScopeAnswer → Tested
+callOf Done = passed
+callOf NameOutside = refused nameOutside
 
-abbrev pub bindingOf : ℕ → Bool → Binding
-bindingOf x b = cond (isName x) (cond b Binding.Yes Binding.No) Binding.NameOutside
+pub record Called (x : ℕ) (s : Scope) (r : Changed) : Type 0 where
+  pub answer : callOf (r .answer) ≡ named x
+  pub scope : r .scope ≡ s
 
--- document 01's numbers
-abbrev pub refusal : ScopeAnswer → ℕ
-refusal Done = 0
-refusal NameOutside = 8
+-- what a question comes to
+pub data Question : Type 0 where
+  told : Bool → Question
+  turnedBack : Refusal → Question
 
-abbrev pub questionRefusal : Binding → ℕ
-questionRefusal Binding.Yes = 0
-questionRefusal Binding.No = 0
-questionRefusal Binding.NameOutside = 8
+abbrev pub asked : ℕ → Bool → Question
+asked x b = requireOr turnedBack (isName x) nameOutside (told b)
+
+-- what a question answers
+abbrev pub questionOf : Binding → Question
+questionOf Binding.Yes = told true
+questionOf Binding.No = told false
+questionOf Binding.NameOutside = turnedBack nameOutside

@@ -2,7 +2,7 @@
 ghost use mathlib.Core.Path.{_≡_};
 ghost use mathlib.Core.Bool.{true, _&&_, _||_};
 ghost use Prim.Native.Nat.{_<_};
-ghost use Rattle.scope.specs.Scope.{isName, has, markOf, newScope, childOf, withLower, bindVariable, addUnboundVariable, isUnbound, sameScope, marksOk, changed, bindingOf};
+ghost use Rattle.scope.specs.Scope.{isName, has, markOf, newScope, childOf, withLower, bindVariable, addUnboundVariable, isUnbound, sameScope, marksOk, Called, asked, questionOf};
 
 // The marks of name x stand at marks[x - 1], summed: 1 bound, 2 bound in this scope, 4 unbound,
 // 8 local, 16 global. `underscore` is the number of the name `_`, or 0.
@@ -100,19 +100,19 @@ impl Scope {
     }
 
     pub fn bind_variable(self, name: u32) -> Changed
-        ensures { λ r. ⌜ r ≡ changed name (bindVariable self name) ⌝ }
+        ensures { λ r. ⌜ Called name (bindVariable self name) r ⌝ }
     {
         self.with_lower(name, 3)
     }
 
     pub fn add_unbound_variable(self, name: u32) -> Changed
-        ensures { λ r. ⌜ r ≡ changed name (addUnboundVariable self name) ⌝ }
+        ensures { λ r. ⌜ Called name (addUnboundVariable self name) r ⌝ }
     {
         self.with_lower(name, 4)
     }
 
     pub fn is_var_unbound(self, name: u32, scoping: ScopingMode) -> Binding
-        ensures { λ r. ⌜ r ≡ bindingOf name (isUnbound self scoping name) ⌝ }
+        ensures { λ r. ⌜ questionOf r ≡ asked name (isUnbound self scoping name) ⌝ }
     {
         if !is_name(name) {
             return Binding::NameOutside;
@@ -138,7 +138,7 @@ impl Scope {
     }
 
     pub fn has_same_scope_binding(self, name: u32) -> Binding
-        ensures { λ r. ⌜ r ≡ bindingOf name (sameScope self name) ⌝ }
+        ensures { λ r. ⌜ questionOf r ≡ asked name (sameScope self name) ⌝ }
     {
         if !is_name(name) {
             return Binding::NameOutside;
@@ -179,7 +179,7 @@ impl Scope {
     // Marks 1, 2, 4 and 8 of a name are replaced by `lower`.
     fn with_lower(self, name: u32, lower: u8) -> Changed
         requires { ⌜ lower < 16 ⌝ }
-        ensures { λ r. ⌜ r ≡ changed name (withLower lower self name) ⌝ }
+        ensures { λ r. ⌜ Called name (withLower lower self name) r ⌝ }
     {
         if !is_name(name) {
             return Changed {

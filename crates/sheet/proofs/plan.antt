@@ -1,2 +1,1 @@
-pub mod OneLine
 pub mod PlanListing

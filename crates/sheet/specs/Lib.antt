@@ -2,6 +2,6 @@ pub mod Lines
 pub mod Sheet
 pub mod Listing
 pub mod Trial
-pub mod Post
 pub mod Render
 pub mod Laws
+pub mod code

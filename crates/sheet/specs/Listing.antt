@@ -8,7 +8,7 @@ use lib.ListN.{length, replicate}
 use Rattle.scope.specs.declared.Scope.{Scope}
 use Rattle.table.specs.Tables.{Tables}
 use Rattle.columns.specs.Columns.{writeColumn}
-use Rattle.planner.specs.Answer.{Line, line, lineOf}
+use Rattle.base.specs.Refusal.{planTooLarge, Line, line, refusalLine}
 use Rattle.planner.specs.Layout.{Entry}
 use Rattle.planner.specs.Operations.{Outcome, refused, planned, patternOutcome, indexOutcome, parameterOutcome}
 use Rattle.assignment.specs.declared.AssignOp.the-variants.{ColEq, Eq}
@@ -35,12 +35,12 @@ abbrev pub entryLine : Entry → Line
 entryLine e = line (e .kind) (e .node) (e .children) (e .key)
 
 unfoldable pub linesOf : Outcome → List Line
-linesOf (refused a) = lineOf a ∷ []
+linesOf (refused a) = refusalLine a ∷ []
 linesOf (planned form side es) =
-    cond (leb (length es) 1536) (line 0 form side (length es) ∷ map entryLine es) (line 6 0 (length es) 0 ∷ [])
+    cond (leb (length es) 1536) (line 0 form side (length es) ∷ map entryLine es) (refusalLine (planTooLarge (length es)) ∷ [])
 
 abbrev pub linesOfSheet : Parsed → List Line
-linesOfSheet (unparsed n) = line n 0 0 0 ∷ []
+linesOfSheet (unparsed r) = refusalLine r ∷ []
 linesOfSheet (parsed S) = linesOf (outcomeOf S)
 
 -- four columns of six, then LF

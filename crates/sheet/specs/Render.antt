@@ -5,9 +5,9 @@ use mathlib.Core.List.{List, [], _∷_, _++_}
 use mathlib.Core.Path.{_≡_}
 use lib.Dec.{eqb}
 use lib.ListN.{length, getD}
-use Rattle.literal.specs.Reading.{part}
+use Rattle.base.specs.Refusal.{passed}
+use Rattle.base.specs.Lists.{part}
 use Rattle.scope.specs.declared.Scope.{Scope}
-use Rattle.table.specs.declared.TableAnswer.the-variants.{Sound}
 use Rattle.table.specs.Check.{checked}
 use Rattle.table.specs.Rules.{withinLimits, wholeRecords, numberOk}
 use Rattle.table.specs.Tables.{Tables, nodeCount, numberCount, nameCount}
@@ -80,5 +80,5 @@ pub record Renderable (S : Sheet) : Type 0 where
 -- What is rendered is parsed back; and a table that passes the check can be rendered.
 pub record RoundTrip : Type 0 where
   pub back : (S : Sheet) → Renderable S → parse (render S) ≡ parsed S
-  pub sound : (S : Sheet) (s : Scope) → checked (S .held) s ≡ Sound → operationOk (S .operation) ≡ true → Narrow (operationRow (S .operation)) → length (S .marks) ≡ nameCount (S .held)
+  pub sound : (S : Sheet) (s : Scope) → checked (S .held) s ≡ passed → operationOk (S .operation) ≡ true → Narrow (operationRow (S .operation)) → length (S .marks) ≡ nameCount (S .held)
       → ((x : ℕ) → getD (S .marks) x 0 ≤ 31) → Renderable S

@@ -4,13 +4,13 @@ use mathlib.Core.Bool.{Bool, cond, _&&_}
 use mathlib.Core.List.{List, _++_}
 use lib.Dec.{eqb, leb}
 use lib.ListN.{length, replicate}
-use Rattle.literal.specs.Reading.{part}
+use Rattle.table.specs.Rules.{countsWithinLimits}
+use Rattle.base.specs.Refusal.{Refusal, overLimit, layoutBroken, requireOr}
+use Rattle.base.specs.Lists.{part, allFrom, tabulate}
 use Rattle.scope.specs.declared.Scope.{Scope}
 use Rattle.scope.specs.declared.ScopingMode.{ScopingMode}
 use Rattle.scope.specs.declared.ScopingMode.the-variants.{RespectParent, AllowShadowing}
-use Rattle.table.specs.Rules.{allFrom}
 use Rattle.table.specs.Tables.{Tables, tables}
-use Rattle.planner.specs.code.Post.{tabulate}
 use Rattle.sheet.specs.declared.layout.Counts.{Counts}
 use Rattle.sheet.specs.declared.layout.Places.{Places}
 use Rattle.sheet.specs.declared.operation.Operation.{Operation}
@@ -29,13 +29,7 @@ countsOf sheet =
 
 -- Limits: 512 nodes, 512 child entries, 256 numbers, 128 names, 8,192 string bytes, 16,384 text bytes.
 unfoldable pub withinLimits : Counts → Bool
-withinLimits c =
-    leb (c .nodes) 512
-    && (leb (c .children) 512
-    && (leb (c .numbers) 256
-    && (leb (c .names) 128
-    && (leb (c .strings) 8192
-    && leb (c .text) 16384))))
+withinLimits c = countsWithinLimits (c .nodes) (c .children) (c .numbers) (c .names) (c .strings) (c .text)
 
 -- Where the parts begin, and where the sheet ends: two lines of six columns, then lines of five, of one, of one of twenty, and of three.
 abbrev pub childrenPlace : Counts → ℕ
@@ -136,15 +130,19 @@ abbrev pub sheetOf : List ℕ → Counts → Sheet
 sheetOf sheet c = record { operation = operationOf sheet; held = tablesOf sheet c; marks = marksOf sheet c }
 
 pub data Parsed : Type 0 where
-  unparsed : ℕ → Parsed
+  unparsed : Refusal → Parsed
   parsed : Sheet → Parsed
+
+-- a test, its refusal, and the rest
+abbrev pub require : Bool → Refusal → Parsed → Parsed
+require = requireOr unparsed
 
 -- 7 line 1 unreadable, 1 by line 1, 7 layout broken
 abbrev pub parsedBy : List ℕ → Counts → Parsed
-parsedBy sheet c = cond (withinLimits c) (cond (layoutOk sheet c) (parsed (sheetOf sheet c)) (unparsed 7)) (unparsed 1)
+parsedBy sheet c = require (withinLimits c) overLimit (require (layoutOk sheet c) layoutBroken (parsed (sheetOf sheet c)))
 
 unfoldable pub parse : List ℕ → Parsed
-parse sheet = cond (isLine sheet 0 6) (parsedBy sheet (countsOf sheet)) (unparsed 7)
+parse sheet = require (isLine sheet 0 6) layoutBroken (parsedBy sheet (countsOf sheet))
 
 -- The scope. Planning tells `_` by its bytes, so the scope's number of `_` makes no difference, and is 0.
 abbrev pub scopeOf : Operation → List ℕ → Scope

@@ -2,7 +2,7 @@
 ghost use mathlib.Core.Path.{_≡_};
 ghost use mathlib.Core.Bool.{true};
 ghost use Rattle.sheet.specs.Sheet.{withinLimits, placesOf};
-ghost use Rattle.sheet.specs.Post.{countsIn, Limited, Space};
+ghost use Rattle.sheet.specs.code.Post.{countsIn, Limited, Space};
 
 // What line 1 says.
 pub(crate) struct Counts {

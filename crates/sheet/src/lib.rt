@@ -7,6 +7,7 @@ mod operation;
 mod plan;
 mod tables;
 
+ghost use Rattle.base.specs.Lent.{old, new};
 ghost use Rattle.sheet.specs.Listing.{listingOf, Printed};
 use layout::counts_of;
 use layout::within_limits;
@@ -17,7 +18,7 @@ use tables::plan_counted;
 // Plans a sheet and lists the plan in `out`. The bytes written, or 0 if the listing doesn't fit.
 #[no_mangle]
 pub extern "C" fn plan_sheet(sheet: &[u8], out: &mut [u8]) -> usize
-    ensures { λ r. ⌜ Printed (listingOf (now (sheet .entry))) (now (out .entry)) (now (out .exit)) r ⌝ }
+    ensures { λ r. ⌜ Printed (listingOf (old sheet)) (old out) (new out) r ⌝ }
 {
     let mut line = [0u32; 6];
     if !read_lines(sheet, 0, 6, 1, &mut line) {

@@ -1,9 +1,10 @@
 // Lines of columns of six, and of one column of twenty, read into arrays.
+ghost use Rattle.base.specs.Lent.{old, new};
 ghost use mathlib.Core.Path.{_≡_};
 ghost use Prim.Native.Nat.{_+_, _*_, _<_, _≤_};
 ghost use lib.ListN.{length};
 ghost use Rattle.sheet.specs.Lines.{isLineFeed, lineLength, lineOk, linesOk, numberLineOk, numberLinesOk, wordAt, numberWord};
-ghost use Rattle.sheet.specs.Post.{Filled, wordIn, WordRead, LineAsked, LinesAsked, NodesAsked, NumberAsked, NumbersAsked, NumbersOnAsked, Read};
+ghost use Rattle.sheet.specs.code.Post.{Filled, wordIn, WordRead, LineAsked, LinesAsked, NodesAsked, NumberAsked, NumbersAsked, NumbersOnAsked, Read};
 use columns::Column;
 use columns::SignedColumn;
 use columns::read::column_of;
@@ -12,7 +13,7 @@ use columns::read::read_signed_column;
 // Whether the column has a number, which is then word w.
 fn read_word(sheet: &[u8], at: usize, w: usize, out: &mut [u32]) -> bool
     requires { ⌜ (at + 6 ≤ length (now sheet)) × (w < length (now out)) ⌝ }
-    ensures { λ r. ⌜ WordRead (now (sheet .entry)) at w (now (out .entry)) (now (out .exit)) r ⌝ }
+    ensures { λ r. ⌜ WordRead (old sheet) at w (old out) (new out) r ⌝ }
 {
     match column_of(&sheet[at..at + 6]) {
         Column::Number(n) => {
@@ -24,7 +25,7 @@ fn read_word(sheet: &[u8], at: usize, w: usize, out: &mut [u32]) -> bool
 }
 
 fn is_line_feed(sheet: &[u8], at: usize) -> bool
-    ensures { λ r. ⌜ r ≡ isLineFeed (now (sheet .entry)) at ⌝ }
+    ensures { λ r. ⌜ r ≡ isLineFeed (old sheet) at ⌝ }
 {
     if at < sheet.len() {
         return sheet[at] == 10;
@@ -35,7 +36,7 @@ fn is_line_feed(sheet: &[u8], at: usize) -> bool
 // Line i: columns of six, then LF.
 fn read_line(sheet: &[u8], at: usize, columns: usize, i: usize, out: &mut [u32]) -> bool
     requires { ⌜ LineAsked (now sheet) at columns i (now out) ⌝ }
-    ensures { λ r. ⌜ Read (wordAt (now (sheet .entry)) at (lineLength columns) columns) (i * columns + columns) (lineOk (now (sheet .entry)) at columns i) (now (out .exit)) r ⌝ }
+    ensures { λ r. ⌜ Read (wordAt (old sheet) at (lineLength columns) columns) (i * columns + columns) (lineOk (old sheet) at columns i) (new out) r ⌝ }
 {
     let place = at + i * (columns * 6 + 1);
     let end = place + columns * 6;
@@ -61,7 +62,7 @@ pub(crate) fn read_lines(
     out: &mut [u32],
 ) -> bool
     requires { ⌜ LinesAsked at columns count (now out) ⌝ }
-    ensures { λ r. ⌜ Read (wordAt (now (sheet .entry)) at (lineLength columns) columns) (count * columns) (linesOk (now (sheet .entry)) at columns count) (now (out .exit)) r ⌝ }
+    ensures { λ r. ⌜ Read (wordAt (old sheet) at (lineLength columns) columns) (count * columns) (linesOk (old sheet) at columns count) (new out) r ⌝ }
 {
     let mut i: usize = 0;
     while i < count {
@@ -75,7 +76,7 @@ pub(crate) fn read_lines(
 
 fn copy_words(from: &[u32; 80], out: &mut [u32])
     requires { ⌜ 80 ≤ length (now out) ⌝ }
-    ensures { λ _. ⌜ Filled (wordIn (now (from .entry))) 80 (now (out .exit)) ⌝ }
+    ensures { λ _. ⌜ Filled (wordIn (old from)) 80 (new out) ⌝ }
 {
     let mut w: usize = 0;
     while w < 80 {
@@ -87,7 +88,7 @@ fn copy_words(from: &[u32; 80], out: &mut [u32])
 // The nodes' lines after the first 16, whose words are copied.
 pub(crate) fn read_nodes_on(sheet: &[u8], count: usize, first: &[u32; 80], out: &mut [u32]) -> bool
     requires { ⌜ NodesAsked (now sheet) count (now first) (now out) ⌝ }
-    ensures { λ r. ⌜ Read (wordAt (now (sheet .entry)) 74 31 5) (count * 5) (linesOk (now (sheet .entry)) 74 5 count) (now (out .exit)) r ⌝ }
+    ensures { λ r. ⌜ Read (wordAt (old sheet) 74 31 5) (count * 5) (linesOk (old sheet) 74 5 count) (new out) r ⌝ }
 {
     copy_words(first, out);
     read_lines(sheet, 570, 5, count - 16, &mut out[80..])
@@ -96,7 +97,7 @@ pub(crate) fn read_nodes_on(sheet: &[u8], count: usize, first: &[u32; 80], out: 
 // Line i: a column of twenty, then LF. Its words are 1 for below zero or 0, and the size.
 fn read_number(sheet: &[u8], at: usize, i: usize, out: &mut [u64]) -> bool
     requires { ⌜ NumberAsked (now sheet) at i (now out) ⌝ }
-    ensures { λ r. ⌜ Read (numberWord (now (sheet .entry)) at) (i * 2 + 2) (numberLineOk (now (sheet .entry)) at i) (now (out .exit)) r ⌝ }
+    ensures { λ r. ⌜ Read (numberWord (old sheet) at) (i * 2 + 2) (numberLineOk (old sheet) at i) (new out) r ⌝ }
 {
     let place = at + i * 21;
     match read_signed_column(sheet, place) {
@@ -111,7 +112,7 @@ fn read_number(sheet: &[u8], at: usize, i: usize, out: &mut [u64]) -> bool
 
 pub(crate) fn read_numbers(sheet: &[u8], at: usize, count: usize, out: &mut [u64]) -> bool
     requires { ⌜ NumbersAsked at count (now out) ⌝ }
-    ensures { λ r. ⌜ Read (numberWord (now (sheet .entry)) at) (count * 2) (numberLinesOk (now (sheet .entry)) at count) (now (out .exit)) r ⌝ }
+    ensures { λ r. ⌜ Read (numberWord (old sheet) at) (count * 2) (numberLinesOk (old sheet) at count) (new out) r ⌝ }
 {
     let mut i: usize = 0;
     while i < count {
@@ -125,7 +126,7 @@ pub(crate) fn read_numbers(sheet: &[u8], at: usize, count: usize, out: &mut [u64
 
 fn copy_numbers(from: &[u64; 32], out: &mut [u64])
     requires { ⌜ 32 ≤ length (now out) ⌝ }
-    ensures { λ _. ⌜ Filled (wordIn (now (from .entry))) 32 (now (out .exit)) ⌝ }
+    ensures { λ _. ⌜ Filled (wordIn (old from)) 32 (new out) ⌝ }
 {
     let mut w: usize = 0;
     while w < 32 {
@@ -143,7 +144,7 @@ pub(crate) fn read_numbers_on(
     out: &mut [u64],
 ) -> bool
     requires { ⌜ NumbersOnAsked (now sheet) at count (now first) (now out) ⌝ }
-    ensures { λ r. ⌜ Read (numberWord (now (sheet .entry)) at) (count * 2) (numberLinesOk (now (sheet .entry)) at count) (now (out .exit)) r ⌝ }
+    ensures { λ r. ⌜ Read (numberWord (old sheet) at) (count * 2) (numberLinesOk (old sheet) at count) (new out) r ⌝ }
 {
     copy_numbers(first, out);
     read_numbers(sheet, at + 336, count - 16, &mut out[32..])

@@ -1,12 +1,14 @@
 // The listing: the answer's line, then a line for each entry of the plan.
+ghost use Rattle.base.specs.Lent.{old, new};
 ghost use mathlib.Core.Path.{_≡_};
 ghost use Prim.Native.Nat.{_+_, _*_, _≤_};
 ghost use lib.ListN.{length, getD, replicate};
-ghost use Rattle.planner.specs.Answer.{lineOf, line};
+ghost use Rattle.base.specs.Refusal.{line};
+ghost use Rattle.planner.specs.Answer.{lineOf};
 ghost use Rattle.planner.specs.Entries.{entryAt};
 ghost use Rattle.columns.specs.Columns.{stored};
 ghost use Rattle.sheet.specs.Listing.{entryLine, lineBytes, linesBytes, Printed};
-ghost use Rattle.sheet.specs.Post.{rowLine, writePair, entriesIn, entryLines, answerLines, EntriesAsked, refusalLine};
+ghost use Rattle.sheet.specs.code.Post.{rowLine, writePair, entriesIn, entryLines, answerLines, EntriesAsked, refusalLine};
 use columns::write::write_column;
 use planner::PlanAnswer;
 use table::refusal_number;
@@ -76,7 +78,7 @@ fn entries_in(row: Row) -> usize
 // Two columns side by side.
 fn write_pair(out: &mut [u8], at: usize, left: u64, right: u64)
     requires { ⌜ at + 12 ≤ length (now out) ⌝ }
-    ensures { λ _. ⌜ now (out .exit) ≡ stored (now (out .entry)) at (writePair left right) ⌝ }
+    ensures { λ _. ⌜ new out ≡ stored (old out) at (writePair left right) ⌝ }
 {
     write_column(out, at, left);
     write_column(out, at + 6, right);
@@ -84,7 +86,7 @@ fn write_pair(out: &mut [u8], at: usize, left: u64, right: u64)
 
 fn write_row(out: &mut [u8], at: usize, row: Row)
     requires { ⌜ at + 25 ≤ length (now out) ⌝ }
-    ensures { λ _. ⌜ now (out .exit) ≡ stored (now (out .entry)) at (lineBytes (rowLine row)) ⌝ }
+    ensures { λ _. ⌜ new out ≡ stored (old out) at (lineBytes (rowLine row)) ⌝ }
 {
     write_pair(out, at, row.number, row.second);
     write_pair(out, at + 12, row.third, row.fourth);
@@ -92,7 +94,7 @@ fn write_row(out: &mut [u8], at: usize, row: Row)
 }
 
 fn word_of(plan: &[u32], i: usize) -> u64
-    ensures { λ r. ⌜ r ≡ getD (now (plan .entry)) i 0 ⌝ }
+    ensures { λ r. ⌜ r ≡ getD (old plan) i 0 ⌝ }
 {
     if i < plan.len() {
         return plan[i] as u64;
@@ -102,7 +104,7 @@ fn word_of(plan: &[u32], i: usize) -> u64
 
 fn entry_row(plan: &[u32], i: usize) -> Row
     requires { ⌜ i * 4 + 4 ≤ length (now plan) ⌝ }
-    ensures { λ r. ⌜ rowLine r ≡ entryLine (entryAt (now (plan .entry)) i) ⌝ }
+    ensures { λ r. ⌜ rowLine r ≡ entryLine (entryAt (old plan) i) ⌝ }
 {
     let at = i * 4;
     row_from(
@@ -116,7 +118,7 @@ fn entry_row(plan: &[u32], i: usize) -> Row
 // The entries of the plan, after the answer's line.
 fn write_entries(out: &mut [u8], plan: &[u32], count: usize)
     requires { ⌜ EntriesAsked (now out) (now plan) count ⌝ }
-    ensures { λ _. ⌜ now (out .exit) ≡ stored (now (out .entry)) 25 (linesBytes (entryLines (now (plan .entry)) 0 count)) ⌝ }
+    ensures { λ _. ⌜ new out ≡ stored (old out) 25 (linesBytes (entryLines (old plan) 0 count)) ⌝ }
 {
     let mut i: usize = 0;
     while i < count {
@@ -126,7 +128,7 @@ fn write_entries(out: &mut [u8], plan: &[u32], count: usize)
 }
 
 fn clear(out: &mut [u8])
-    ensures { λ _. ⌜ now (out .exit) ≡ replicate (length (now (out .entry))) 0 ⌝ }
+    ensures { λ _. ⌜ new out ≡ replicate (length (old out)) 0 ⌝ }
 {
     let mut i: usize = 0;
     while i < out.len() {
@@ -138,7 +140,7 @@ fn clear(out: &mut [u8])
 // The answer and its plan in the output, if they fit. How many bytes were written.
 pub(crate) fn write_lines(out: &mut [u8], first: Row, plan: &[u32]) -> usize
     requires { ⌜ entriesIn (rowLine first) * 4 ≤ length (now plan) ⌝ }
-    ensures { λ r. ⌜ Printed (linesBytes (answerLines (rowLine first) (now (plan .entry)))) (now (out .entry)) (now (out .exit)) r ⌝ }
+    ensures { λ r. ⌜ Printed (linesBytes (answerLines (rowLine first) (old plan))) (old out) (new out) r ⌝ }
 {
     clear(out);
     let count = entries_in(first);
@@ -152,7 +154,7 @@ pub(crate) fn write_lines(out: &mut [u8], first: Row, plan: &[u32]) -> usize
 
 fn copy_bytes(from: &[u8], out: &mut [u8])
     requires { ⌜ length (now out) ≡ length (now from) ⌝ }
-    ensures { λ _. ⌜ now (out .exit) ≡ now (from .entry) ⌝ }
+    ensures { λ _. ⌜ new out ≡ old from ⌝ }
 {
     let mut i: usize = 0;
     while i < out.len() {
@@ -163,7 +165,7 @@ fn copy_bytes(from: &[u8], out: &mut [u8])
 
 // A refusal that has no place and no counts: a line of its number and three zeros.
 pub(crate) fn refuse(number: u64, out: &mut [u8]) -> usize
-    ensures { λ r. ⌜ Printed (refusalLine number) (now (out .entry)) (now (out .exit)) r ⌝ }
+    ensures { λ r. ⌜ Printed (refusalLine number) (old out) (new out) r ⌝ }
 {
     clear(out);
     if out.len() < 25 {

@@ -1,12 +1,13 @@
 // Names and their marks, from the words of their lines: start, length, marks.
+ghost use Rattle.base.specs.Lent.{old, new};
 ghost use Prim.Native.Nat.{_*_, _≤_};
-ghost use Rattle.sheet.specs.Post.{Filled, nameWord, LinesAsked, NamesAsked, MarksAsked, MarksRead, NamesRead};
+ghost use Rattle.sheet.specs.code.Post.{Filled, nameWord, LinesAsked, NamesAsked, MarksAsked, MarksRead, NamesRead};
 use crate::lines::read_lines;
 
 // Starts and lengths, with the marks between them left out.
 fn close_up(rows: &mut [u32], count: usize)
     requires { ⌜ NamesAsked (now rows) count ⌝ }
-    ensures { λ _. ⌜ Filled (nameWord (now (rows .entry))) (count * 2) (now (rows .exit)) ⌝ }
+    ensures { λ _. ⌜ Filled (nameWord (old rows)) (count * 2) (new rows) ⌝ }
 {
     let words = count * 2;
     let mut w: usize = 0;
@@ -19,7 +20,7 @@ fn close_up(rows: &mut [u32], count: usize)
 // Whether all marks are 0 to 31.
 fn fill_marks(rows: &[u32], count: usize, marks: &mut [u8]) -> bool
     requires { ⌜ MarksAsked (now rows) count (now marks) ⌝ }
-    ensures { λ r. ⌜ MarksRead (now (rows .entry)) count (now (marks .entry)) (now (marks .exit)) r ⌝ }
+    ensures { λ r. ⌜ MarksRead (old rows) count (old marks) (new marks) r ⌝ }
 {
     let mut x: usize = 0;
     while x < count {
@@ -42,7 +43,7 @@ pub(crate) fn read_names(
     marks: &mut [u8; 128],
 ) -> bool
     requires { ⌜ LinesAsked at 3 count (now names) × (count ≤ 128) ⌝ }
-    ensures { λ r. ⌜ NamesRead (now (sheet .entry)) at count (now (names .exit)) (now (marks .entry)) (now (marks .exit)) r ⌝ }
+    ensures { λ r. ⌜ NamesRead (old sheet) at count (new names) (old marks) (new marks) r ⌝ }
 {
     if !read_lines(sheet, at, 3, count, names) {
         return false;

@@ -1,9 +1,9 @@
 // Line 2, and the operation that it names.
+ghost use Rattle.table.specs.Lent.{lent};
 ghost use mathlib.Core.Path.{_≡_};
-ghost use Rattle.table.specs.Tables.{tables};
-ghost use Rattle.planner.specs.Operations.{Answered};
+ghost use Rattle.planner.specs.Operations.{AnsweredIn};
 ghost use Rattle.sheet.specs.Sheet.{operationOk, scopingOf};
-ghost use Rattle.sheet.specs.Post.{operationIn};
+ghost use Rattle.sheet.specs.code.Post.{operationIn};
 ghost use Rattle.sheet.specs.Listing.{operated};
 use assignment::AssignOp;
 use assignment::assignment::create_assignment_binding_plan;
@@ -76,7 +76,7 @@ pub(crate) fn operate(
     operation: Operation,
     plan: &mut [u32],
 ) -> PlanAnswer
-    ensures { λ r. ⌜ Answered (operated operation (tables (now (nodes .entry)) (now (children .entry)) (now (numbers .entry)) (now (names .entry)) (now (strings .entry)) (now (text .entry))) scope) (now (plan .entry)) (now (plan .exit)) r ⌝ }
+    ensures { λ r. ⌜ AnsweredIn plan (operated operation (lent nodes children numbers names strings text) scope) r ⌝ }
 {
     let number = operation.number;
     let scoping = scoping_of(operation);

@@ -1,12 +1,13 @@
 // An operation of a sheet, planned into space that suffices and listed.
+ghost use Rattle.base.specs.Lent.{old, new};
+ghost use Rattle.table.specs.Lent.{lent};
 ghost use mathlib.Core.Path.{_≡_};
 ghost use mathlib.Core.Bool.{_&&_};
 ghost use Prim.Native.Nat.{_≤_};
 ghost use lib.Dec.{eqb, ltb};
 ghost use lib.ListN.{length};
-ghost use Rattle.table.specs.Tables.{tables};
-ghost use Rattle.sheet.specs.Listing.{operated, linesOf, linesBytes, Printed};
-ghost use Rattle.sheet.specs.Post.{scopeIn, TriedBy};
+ghost use Rattle.sheet.specs.Listing.{Printed};
+ghost use Rattle.sheet.specs.code.Post.{planListing, TriedBy};
 use crate::listing::Row;
 use crate::listing::row_of;
 use crate::listing::write_lines;
@@ -50,7 +51,7 @@ fn plan_into(
     out: &mut [u8],
 ) -> Tried
     requires { ⌜ length (now plan) ≤ 6144 ⌝ }
-    ensures { λ r. ⌜ TriedBy (linesBytes (linesOf (operated operation (tables (now (nodes .entry)) (now (children .entry)) (now (numbers .entry)) (now (names .entry)) (now (strings .entry)) (now (text .entry))) (scopeIn operation (now (marks .entry)))))) (length (now (plan .entry))) (now (out .entry)) (now (out .exit)) r ⌝ }
+    ensures { λ r. ⌜ TriedBy (planListing operation (lent nodes children numbers names strings text) (old marks)) (length (old plan)) (old out) (new out) r ⌝ }
 {
     let scope = Scope {
         marks: *marks,
@@ -86,7 +87,7 @@ fn plan_large(
     operation: Operation,
     out: &mut [u8],
 ) -> usize
-    ensures { λ r. ⌜ Printed (linesBytes (linesOf (operated operation (tables (now (nodes .entry)) (now (children .entry)) (now (numbers .entry)) (now (names .entry)) (now (strings .entry)) (now (text .entry))) (scopeIn operation (now (marks .entry)))))) (now (out .entry)) (now (out .exit)) r ⌝ }
+    ensures { λ r. ⌜ Printed (planListing operation (lent nodes children numbers names strings text) (old marks)) (old out) (new out) r ⌝ }
 {
     let mut plan = blank_plan();
     match plan_into(
@@ -121,7 +122,7 @@ fn plan_first(
     out: &mut [u8],
 ) -> usize
     requires { ⌜ length (now plan) ≤ 6144 ⌝ }
-    ensures { λ r. ⌜ Printed (linesBytes (linesOf (operated operation (tables (now (nodes .entry)) (now (children .entry)) (now (numbers .entry)) (now (names .entry)) (now (strings .entry)) (now (text .entry))) (scopeIn operation (now (marks .entry)))))) (now (out .entry)) (now (out .exit)) r ⌝ }
+    ensures { λ r. ⌜ Printed (planListing operation (lent nodes children numbers names strings text) (old marks)) (old out) (new out) r ⌝ }
 {
     match plan_into(
         nodes,
@@ -162,7 +163,7 @@ fn plan_more(
     operation: Operation,
     out: &mut [u8],
 ) -> usize
-    ensures { λ r. ⌜ Printed (linesBytes (linesOf (operated operation (tables (now (nodes .entry)) (now (children .entry)) (now (numbers .entry)) (now (names .entry)) (now (strings .entry)) (now (text .entry))) (scopeIn operation (now (marks .entry)))))) (now (out .entry)) (now (out .exit)) r ⌝ }
+    ensures { λ r. ⌜ Printed (planListing operation (lent nodes children numbers names strings text) (old marks)) (old out) (new out) r ⌝ }
 {
     if nodes.len() <= 320 {
         let mut plan = [0u32; 256];
@@ -232,7 +233,7 @@ pub(crate) fn plan_listed(
     operation: Operation,
     out: &mut [u8],
 ) -> usize
-    ensures { λ r. ⌜ Printed (linesBytes (linesOf (operated operation (tables (now (nodes .entry)) (now (children .entry)) (now (numbers .entry)) (now (names .entry)) (now (strings .entry)) (now (text .entry))) (scopeIn operation (now (marks .entry)))))) (now (out .entry)) (now (out .exit)) r ⌝ }
+    ensures { λ r. ⌜ Printed (planListing operation (lent nodes children numbers names strings text) (old marks)) (old out) (new out) r ⌝ }
 {
     if 80 < nodes.len() {
         return plan_more(

@@ -1,8 +1,9 @@
 // A sheet after line 1: its tables read into arrays, and planned. Arrays have to be cleared, so each is made once what stands before it is read, and is small for a small table: what is refused early costs little.
+ghost use Rattle.base.specs.Lent.{old, new};
 ghost use Prim.Native.Nat.{_*_, _<_, _≤_};
 ghost use lib.ListN.{length};
 ghost use Rattle.sheet.specs.Listing.{Printed};
-ghost use Rattle.sheet.specs.Post.{Limited, Space, laidListing, Headed, FirstRead, NodesRead, ChildrenRead, FirstNumbersRead, NumbersRead, TablesAsked, TablesRead, Tabled};
+ghost use Rattle.sheet.specs.code.Post.{Limited, Space, laidListing, Headed, FirstRead, NodesRead, ChildrenRead, FirstNumbersRead, NumbersRead, TablesAsked, TablesRead, Tabled};
 use crate::layout::Counts;
 use crate::layout::has_space;
 use crate::layout::places_of;
@@ -30,7 +31,7 @@ fn plan_tables(
     out: &mut [u8],
 ) -> usize
     requires { ⌜ Tabled (now sheet) counts operation (now nodes) (now children) (now numbers) (now names) (now marks) ⌝ }
-    ensures { λ r. ⌜ Printed (laidListing (now (sheet .entry)) counts) (now (out .entry)) (now (out .exit)) r ⌝ }
+    ensures { λ r. ⌜ Printed (laidListing (old sheet) counts) (old out) (new out) r ⌝ }
 {
     let places = places_of(counts);
     let strings = places.strings;
@@ -60,7 +61,7 @@ fn names_into(
     out: &mut [u8],
 ) -> usize
     requires { ⌜ NumbersRead (now sheet) counts operation (now nodes) (now children) (now numbers) × (counts .names * 3 ≤ length (now names)) ⌝ }
-    ensures { λ r. ⌜ Printed (laidListing (now (sheet .entry)) counts) (now (out .entry)) (now (out .exit)) r ⌝ }
+    ensures { λ r. ⌜ Printed (laidListing (old sheet) counts) (old out) (new out) r ⌝ }
 {
     let name_words = counts.names * 2;
     let places = places_of(counts);
@@ -92,7 +93,7 @@ fn plan_names(
     out: &mut [u8],
 ) -> usize
     requires { ⌜ NumbersRead (now sheet) counts operation (now nodes) (now children) (now numbers) ⌝ }
-    ensures { λ r. ⌜ Printed (laidListing (now (sheet .entry)) counts) (now (out .entry)) (now (out .exit)) r ⌝ }
+    ensures { λ r. ⌜ Printed (laidListing (old sheet) counts) (old out) (new out) r ⌝ }
 {
     if counts.names <= 8 {
         let mut names = [0u32; 24];
@@ -130,7 +131,7 @@ fn plan_few_numbers(
     out: &mut [u8],
 ) -> usize
     requires { ⌜ ChildrenRead (now sheet) counts operation (now nodes) (now children) × (counts .numbers ≤ 16) ⌝ }
-    ensures { λ r. ⌜ Printed (laidListing (now (sheet .entry)) counts) (now (out .entry)) (now (out .exit)) r ⌝ }
+    ensures { λ r. ⌜ Printed (laidListing (old sheet) counts) (old out) (new out) r ⌝ }
 {
     let number_words = counts.numbers * 2;
     let places = places_of(counts);
@@ -160,7 +161,7 @@ fn numbers_into(
     out: &mut [u8],
 ) -> usize
     requires { ⌜ FirstNumbersRead (now sheet) counts operation (now nodes) (now children) (now first) × (counts .numbers * 2 ≤ length (now numbers)) ⌝ }
-    ensures { λ r. ⌜ Printed (laidListing (now (sheet .entry)) counts) (now (out .entry)) (now (out .exit)) r ⌝ }
+    ensures { λ r. ⌜ Printed (laidListing (old sheet) counts) (old out) (new out) r ⌝ }
 {
     let number_words = counts.numbers * 2;
     let places = places_of(counts);
@@ -188,7 +189,7 @@ fn plan_many_numbers(
     out: &mut [u8],
 ) -> usize
     requires { ⌜ ChildrenRead (now sheet) counts operation (now nodes) (now children) × (16 < counts .numbers) ⌝ }
-    ensures { λ r. ⌜ Printed (laidListing (now (sheet .entry)) counts) (now (out .entry)) (now (out .exit)) r ⌝ }
+    ensures { λ r. ⌜ Printed (laidListing (old sheet) counts) (old out) (new out) r ⌝ }
 {
     let places = places_of(counts);
     let mut first = [0u64; 32];
@@ -231,7 +232,7 @@ fn plan_numbers(
     out: &mut [u8],
 ) -> usize
     requires { ⌜ ChildrenRead (now sheet) counts operation (now nodes) (now children) ⌝ }
-    ensures { λ r. ⌜ Printed (laidListing (now (sheet .entry)) counts) (now (out .entry)) (now (out .exit)) r ⌝ }
+    ensures { λ r. ⌜ Printed (laidListing (old sheet) counts) (old out) (new out) r ⌝ }
 {
     if counts.numbers <= 16 {
         return plan_few_numbers(sheet, counts, operation, nodes, children, out);
@@ -248,7 +249,7 @@ fn children_into(
     out: &mut [u8],
 ) -> usize
     requires { ⌜ NodesRead (now sheet) counts operation (now nodes) × (counts .children ≤ length (now children)) ⌝ }
-    ensures { λ r. ⌜ Printed (laidListing (now (sheet .entry)) counts) (now (out .entry)) (now (out .exit)) r ⌝ }
+    ensures { λ r. ⌜ Printed (laidListing (old sheet) counts) (old out) (new out) r ⌝ }
 {
     let child_words = counts.children;
     let places = places_of(counts);
@@ -274,7 +275,7 @@ fn plan_children(
     out: &mut [u8],
 ) -> usize
     requires { ⌜ NodesRead (now sheet) counts operation (now nodes) ⌝ }
-    ensures { λ r. ⌜ Printed (laidListing (now (sheet .entry)) counts) (now (out .entry)) (now (out .exit)) r ⌝ }
+    ensures { λ r. ⌜ Printed (laidListing (old sheet) counts) (old out) (new out) r ⌝ }
 {
     if counts.children <= 32 {
         let mut children = [0u32; 32];
@@ -293,7 +294,7 @@ fn nodes_into(
     out: &mut [u8],
 ) -> usize
     requires { ⌜ FirstRead (now sheet) counts operation (now first) × (counts .nodes * 5 ≤ length (now nodes)) ⌝ }
-    ensures { λ r. ⌜ Printed (laidListing (now (sheet .entry)) counts) (now (out .entry)) (now (out .exit)) r ⌝ }
+    ensures { λ r. ⌜ Printed (laidListing (old sheet) counts) (old out) (new out) r ⌝ }
 {
     let node_words = counts.nodes * 5;
     if !read_nodes_on(sheet, counts.nodes, first, nodes) {
@@ -305,7 +306,7 @@ fn nodes_into(
 // More than 16 nodes: the first 16 are read before space for all is cleared.
 fn plan_many(sheet: &[u8], counts: Counts, operation: Operation, out: &mut [u8]) -> usize
     requires { ⌜ Headed (now sheet) counts operation × (16 < counts .nodes) ⌝ }
-    ensures { λ r. ⌜ Printed (laidListing (now (sheet .entry)) counts) (now (out .entry)) (now (out .exit)) r ⌝ }
+    ensures { λ r. ⌜ Printed (laidListing (old sheet) counts) (old out) (new out) r ⌝ }
 {
     let mut first = [0u32; 80];
     if !read_lines(sheet, 74, 5, 16, &mut first) {
@@ -329,7 +330,7 @@ fn read_tables(
     marks: &mut [u8; 128],
 ) -> bool
     requires { ⌜ TablesAsked counts (now children) (now numbers) (now names) ⌝ }
-    ensures { λ r. ⌜ TablesRead (now (sheet .entry)) counts (now (children .exit)) (now (numbers .exit)) (now (names .exit)) (now (marks .entry)) (now (marks .exit)) r ⌝ }
+    ensures { λ r. ⌜ TablesRead (old sheet) counts (new children) (new numbers) (new names) (old marks) (new marks) r ⌝ }
 {
     let places = places_of(counts);
     if !read_lines(sheet, places.children, 1, counts.children, children) {
@@ -352,7 +353,7 @@ fn tables_into(
     out: &mut [u8],
 ) -> usize
     requires { ⌜ NodesRead (now sheet) counts operation (now nodes) × TablesAsked counts (now children) (now numbers) (now names) ⌝ }
-    ensures { λ r. ⌜ Printed (laidListing (now (sheet .entry)) counts) (now (out .entry)) (now (out .exit)) r ⌝ }
+    ensures { λ r. ⌜ Printed (laidListing (old sheet) counts) (old out) (new out) r ⌝ }
 {
     let child_words = counts.children;
     let number_words = counts.numbers * 2;
@@ -377,7 +378,7 @@ fn tables_into(
 // At most 16 nodes, and small arrays have space for the other tables: all at once takes fewer calls.
 fn plan_few(sheet: &[u8], counts: Counts, operation: Operation, out: &mut [u8]) -> usize
     requires { ⌜ Headed (now sheet) counts operation × (counts .nodes ≤ 16) × Space counts 16 8 8 ⌝ }
-    ensures { λ r. ⌜ Printed (laidListing (now (sheet .entry)) counts) (now (out .entry)) (now (out .exit)) r ⌝ }
+    ensures { λ r. ⌜ Printed (laidListing (old sheet) counts) (old out) (new out) r ⌝ }
 {
     let node_words = counts.nodes * 5;
     let mut nodes = [0u32; 80];
@@ -402,7 +403,7 @@ fn plan_few(sheet: &[u8], counts: Counts, operation: Operation, out: &mut [u8]) 
 // A sheet with a good line 2.
 fn plan_nodes(sheet: &[u8], counts: Counts, operation: Operation, out: &mut [u8]) -> usize
     requires { ⌜ Headed (now sheet) counts operation ⌝ }
-    ensures { λ r. ⌜ Printed (laidListing (now (sheet .entry)) counts) (now (out .entry)) (now (out .exit)) r ⌝ }
+    ensures { λ r. ⌜ Printed (laidListing (old sheet) counts) (old out) (new out) r ⌝ }
 {
     if 16 < counts.nodes {
         return plan_many(sheet, counts, operation, out);
@@ -421,7 +422,7 @@ fn plan_nodes(sheet: &[u8], counts: Counts, operation: Operation, out: &mut [u8]
 // A sheet whose line 1 keeps the limits.
 pub(crate) fn plan_counted(sheet: &[u8], counts: Counts, out: &mut [u8]) -> usize
     requires { ⌜ Limited counts ⌝ }
-    ensures { λ r. ⌜ Printed (laidListing (now (sheet .entry)) counts) (now (out .entry)) (now (out .exit)) r ⌝ }
+    ensures { λ r. ⌜ Printed (laidListing (old sheet) counts) (old out) (new out) r ⌝ }
 {
     let places = places_of(counts);
     let end = places.end;

@@ -1,34 +1,35 @@
 -- `some .. in`, answer by answer.
 use Prim.Native.Nat.{ℕ}
 use mathlib.Core.Path.{_≡_, sym, _∙_}
-use mathlib.Core.Bool.{Bool, true, false, cond, not, _||_}
-use mathlib.Core.List.{List, [], _++_}
+use mathlib.Core.Bool.{Bool, true, false, cond, not}
+use mathlib.Core.List.{List, [], _∷_, _++_}
 use native.Mathlib.Omega.{arith}
 use borrow.Author.Tests.{ne-eqb, not-true, not-false}
 use lib.Dec.{eqb}
 use lib.ListN.{length, replicate}
 use Rattle.scope.specs.declared.Scope.{Scope}
 use Rattle.scope.specs.declared.ScopingMode.the-variants.{RespectParent}
-use Rattle.scope.specs.Scope.{isUnbound}
 use Rattle.table.specs.declared.TableAnswer.{TableAnswer}
 use Rattle.table.specs.declared.TableAnswer.the-variants.{Sound}
 use Rattle.table.specs.Tables.{Tables, isNode}
-use Rattle.table.specs.Check.{checked}
+use Rattle.table.specs.Check.{checked, TableAnswered, allNodes}
+use Rattle.table.specs.Decode.{expr}
 use Rattle.planner.specs.declared.PlanAnswer.{PlanAnswer}
 use Rattle.planner.specs.declared.PlanAnswer.the-variants.{RootOutside, VariableAlreadyDefined, ArrayLengthMismatch, ObjectLiteralKeysMismatch}
+use Rattle.base.specs.Refusal.{passed}
 use Rattle.planner.specs.Layout.{Entry, entries}
 use Rattle.planner.specs.Entries.{Wrote}
-use Rattle.planner.specs.Operations.{refused, planned, planOf, Answered, isSound}
+use Rattle.planner.specs.Operations.{planned, planOf, Answered}
 use Rattle.planner.specs.code.Post.{PatternPlanned, Closed}
 use Rattle.planner.specs.code.Validation.{firstDefined}
-use Rattle.planner.proofs.laws.Operations.{refuses, table-passes}
+use Rattle.planner.proofs.laws.Operations.{check-passes, roots-refuse, roots-pass}
 use Rattle.planner.proofs.buffer.Copies.{wrote-long, wrote-none, wrote-append, wrote-closed}
 use Rattle.planner.proofs.laws.Validating.{validated-by}
 use Rattle.checks.specs.declared.LiteralStructureCheck.{LiteralStructureCheck}
 use Rattle.checks.specs.declared.LiteralStructureCheck.the-variants.{Match, Unknown, ArrayMismatch, ObjectMismatch}
 use Rattle.checks.proofs.Refused.{passes-match, passes-unknown, refuses-array, refuses-object, passes-undefined, refuses-defined}
-use Rattle.some_in.specs.SomeIn.{someInPlanned, someInOutcome}
-use Rattle.some_in.specs.Post.{CollectionChecked, PlaceAsks, Validated, SomeInClosed, ValueAnswered, KeyAsks}
+use Rattle.some_in.specs.SomeIn.{collectionStructure, roots, someInPlanned, someInOutcome}
+use Rattle.some_in.specs.code.Post.{PlaceAsks, Validated, SomeInClosed, ValueAnswered, KeyAsks}
 
 -- a buffer that was written and then cleared
 cleared : {before mid later : List ℕ} {at end : ℕ} {es : List Entry} → Wrote before at es mid end → later ≡ replicate (length mid) 0 → later ≡ replicate (length before) 0
@@ -59,9 +60,9 @@ module _ (T : Tables) (s : Scope) (value collection : ℕ) {at : ℕ} {mid last 
   pub value-refused : (name ≡ 0 → ⊥) → later ≡ replicate (length last) 0 → ValueAnswered T s value collection form at mid later (VariableAlreadyDefined name)
   value-refused d z = record { told = λ before ks w. rw (← (p .defined)) (refuses-defined _ d (cleared (wrote-append w (p .wrote)) z)) }
 
-  pub value-closed : {r : PlanAnswer} → name ≡ 0 → {c : LiteralStructureCheck} → CollectionChecked T value collection c → SomeInClosed form c end last later r → ValueAnswered T s value collection form at mid later r
-  value-closed none-defined checked d = record {
-    told = λ before ks w. rw (← (p .defined)) (passes-undefined _ none-defined (rw (← (checked .told (isUnbound s RespectParent))) (d .told before (ks ++ entries (planOf T s RespectParent value) 0) (wrote-append w (p .wrote)))));
+  pub value-closed : {r : PlanAnswer} → name ≡ 0 → {c : LiteralStructureCheck} → c ≡ collectionStructure (expr T collection) (expr T value) → SomeInClosed form c end last later r → ValueAnswered T s value collection form at mid later r
+  value-closed none-defined is d = record {
+    told = λ before ks w. rw (← (p .defined)) (passes-undefined _ none-defined (rw (← is) (d .told before (ks ++ entries (planOf T s RespectParent value) 0) (wrote-append w (p .wrote)))));
   }
 
 -- the key's
@@ -79,43 +80,49 @@ module _ (T : Tables) (s : Scope) (value collection key : ℕ) (a : KeyAsks T va
 pub without-key : (T : Tables) (s : Scope) (value collection : ℕ) {before later : List ℕ} {r : PlanAnswer} → ValueAnswered T s value collection 0 0 before later r → Answered (someInPlanned T s value collection 0) before later r
 without-key T s value collection {before} v = v .told before [] (wrote-none before 0)
 
--- the table check and the roots
-module _ (T : Tables) (s : Scope) {c : TableAnswer} (is : c ≡ checked T s) {ok : Bool} (of : ok ≡ isSound c) (passes : not ok ≡ false) where
-  sound : checked T s ≡ Sound
-  sound = sym is ∙ table-passes of passes
+-- the value and the collection are nodes; the key decides
+key-decides : (T : Tables) (value collection key : ℕ) {v l : Bool} → v ≡ isNode T value → not v ≡ false → l ≡ isNode T collection → not l ≡ false
+    → {b : Bool} → allNodes T (cond (eqb key 0) [] (key ∷ [])) ≡ b → allNodes T (roots value collection key) ≡ b
+key-decides T value collection key {v} {l} in-value at-value in-collection at-collection e =
+    let w : isNode T value ≡ true = sym in-value ∙ not-false v at-value in
+    let q : isNode T collection ≡ true = sym in-collection ∙ not-false l at-collection in
+    rw (w, q) e
 
-  module _ (value collection key : ℕ) {v : Bool} (in-value : v ≡ isNode T value) where
-    pub value-outside : {before later : List ℕ} → not v ≡ true → later ≡ replicate (length before) 0 → Answered (someInOutcome T s value collection key) before later RootOutside
-    value-outside n z = let p : isNode T value ≡ false = sym in-value ∙ not-true v n in simp (sound, p) (refuses RootOutside z)
+-- the table check and the roots
+module _ (T : Tables) (s : Scope) {c : TableAnswer} (is : TableAnswered T s c) (told : c ≡ Sound) where
+  sound : checked T s ≡ passed
+  sound = check-passes T s is told
+
+  module _ (value collection key : ℕ) {v : Bool} (in-value : v ≡ isNode T value) {before later : List ℕ} where
+    outside : allNodes T (roots value collection key) ≡ false → later ≡ replicate (length before) 0 → Answered (someInOutcome T s value collection key) before later RootOutside
+    outside = roots-refuse T s sound (roots value collection key) (someInPlanned T s value collection key)
+
+    inside : {r : PlanAnswer} → allNodes T (roots value collection key) ≡ true → Answered (someInPlanned T s value collection key) before later r → Answered (someInOutcome T s value collection key) before later r
+    inside = roots-pass T s sound (roots value collection key) (someInPlanned T s value collection key)
+
+    pub value-outside : not v ≡ true → later ≡ replicate (length before) 0 → Answered (someInOutcome T s value collection key) before later RootOutside
+    value-outside n z = let p : isNode T value ≡ false = sym in-value ∙ not-true v n in outside (rw p) z
 
     module _ (at-value : not v ≡ false) {l : Bool} (in-collection : l ≡ isNode T collection) where
-      pub collection-outside : {before later : List ℕ} → not l ≡ true → later ≡ replicate (length before) 0 → Answered (someInOutcome T s value collection key) before later RootOutside
+      pub collection-outside : not l ≡ true → later ≡ replicate (length before) 0 → Answered (someInOutcome T s value collection key) before later RootOutside
       collection-outside n z =
           let w : isNode T value ≡ true = sym in-value ∙ not-false v at-value in
           let p : isNode T collection ≡ false = sym in-collection ∙ not-true l n in
-          simp (sound, w, p) (refuses RootOutside z)
+          outside (rw (w, p)) z
 
-      module _ (at-collection : not l ≡ false) {before later : List ℕ} where
-        -- both are nodes; the key decides
-        key-decides : {r : PlanAnswer} → Answered (cond (eqb key 0 || isNode T key) (someInPlanned T s value collection key) (refused RootOutside)) before later r → Answered (someInOutcome T s value collection key) before later r
-        key-decides a =
-            let w : isNode T value ≡ true = sym in-value ∙ not-false v at-value in
-            let q : isNode T collection ≡ true = sym in-collection ∙ not-false l at-collection in
-            simp (sound, w, q) a
-
+      module _ (at-collection : not l ≡ false) where
         pub goes-without : {r : PlanAnswer} → key ≡ 0 → Answered (someInPlanned T s value collection 0) before later r → Answered (someInOutcome T s value collection key) before later r
-        goes-without e a = key-decides (simp e a)
+        goes-without e a = inside (key-decides T value collection key in-value at-value in-collection at-collection (rw e)) (rw e a)
 
         module _ (some : key ≡ 0 → ⊥) {k : Bool} (in-key : k ≡ isNode T key) where
           pub key-outside : not k ≡ true → later ≡ replicate (length before) 0 → Answered (someInOutcome T s value collection key) before later RootOutside
           key-outside n z =
               let p : isNode T key ≡ false = sym in-key ∙ not-true k n in
-              let q = ne-eqb key 0 some in
-              key-decides (simp (p, q) (refuses RootOutside z))
+              let d = ne-eqb key 0 some in
+              outside (key-decides T value collection key in-value at-value in-collection at-collection (simp (d, p))) z
 
           pub goes-with : {r : PlanAnswer} → not k ≡ false → Answered (someInPlanned T s value collection key) before later r → Answered (someInOutcome T s value collection key) before later r
           goes-with at-key a =
               let p : isNode T key ≡ true = sym in-key ∙ not-false k at-key in
-              let q = ne-eqb key 0 some in
-              let e : (eqb key 0 || isNode T key) ≡ true = simp (p, q) in
-              key-decides (rw e a)
+              let d = ne-eqb key 0 some in
+              inside (key-decides T value collection key in-value at-value in-collection at-collection (simp (d, p))) a

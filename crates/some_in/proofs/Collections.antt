@@ -2,7 +2,6 @@
 use Prim.Native.Nat.{ℕ, _+_, _-_, _≤_, _<_}
 use mathlib.Core.Path.{_≡_, refl, sym, ap, _∙_}
 use mathlib.Core.Bool.{Bool, true, false, not, _||_, false≢true}
-use mathlib.Core.List.{[]}
 use native.Mathlib.Omega.{arith}
 use mir.Val.{Fits}
 use mir.Syntax.{w64}
@@ -10,25 +9,24 @@ use borrow.Author.Tests.{eqb-true, eqb-false}
 use lib.Dec.{eqb}
 use Rattle.table.specs.Tables.{Tables, kindOf, firstOf, countOf, childAt, width}
 use Rattle.table.specs.Expr.{Expr, name, wildcard, Exprs}
-use Rattle.table.specs.Decode.{expr, items, isWildcard}
+use Rattle.table.specs.Decode.{expr, isWildcard}
 use Rattle.table.proofs.trees.Trees.{expr-name, expr-array, expr-object, width-array, items-step, items-end, child-node}
-use Rattle.planner.specs.Plan.{DestructuringPlan, plan}
 use Rattle.planner.proofs.destructuring.NodeKinds.{Plain, plain-literal, plain-set, plain-other, plain-kind}
 use Rattle.checks.specs.declared.LiteralStructureCheck.{LiteralStructureCheck}
 use Rattle.checks.specs.declared.LiteralStructureCheck.the-variants.{Match, Unknown, ArrayMismatch, ObjectMismatch}
-use Rattle.checks.specs.PatternStructure.{structureBy}
+use Rattle.checks.specs.Structure.{structure}
+use Rattle.checks.specs.code.Post.{itemsAt}
 use Rattle.planner.specs.code.Post.{GoodPair}
-use Rattle.checks.proofs.PlanStructure.{checked-plan}
-use Rattle.some_in.specs.SomeIn.{isMismatch, anyFits, firstMismatch, collectionStructure}
-use Rattle.some_in.specs.Post.{ItemsAsk, AnyFits, ItemsChecked, CollectionChecked}
+use Rattle.some_in.specs.SomeIn.{isMismatch, anyFits, firstMismatch, itemsStructure, collectionStructure}
+use Rattle.some_in.specs.code.Post.{ItemsAsk}
 
 -- the items in turn
 pub record Looking (T : Tables) (pattern at left place more : ℕ) : Type 0 where
   pub asks : ItemsAsk T pattern place more
-  pub same : (unbound : ℕ → Bool) → anyFits (items (expr T) (T .children) place more) (plan unbound (expr T pattern) []) ≡ anyFits (items (expr T) (T .children) at left) (plan unbound (expr T pattern) [])
+  pub same : anyFits (itemsAt T place more) (expr T pattern) ≡ anyFits (itemsAt T at left) (expr T pattern)
 
 pub looking-start : {T : Tables} {pattern at left : ℕ} → ItemsAsk T pattern at left → Looking T pattern at left at left
-looking-start a = record { asks = a; same = λ u. refl }
+looking-start a = record { asks = a; same = refl }
 
 module _ {T : Tables} {pattern at left place more : ℕ} (go : Looking T pattern at left place more) where
   module _ (some : 0 < more) where
@@ -41,16 +39,15 @@ module _ {T : Tables} {pattern at left place more : ℕ} (go : Looking T pattern
           let z : place + 0 ≡ place = omega arith in
           record { table = go .asks .table; first = go .asks .node; second = rw is (rw z at (go .asks .each 0 some)) }
 
-      module _ {c : LiteralStructureCheck} (checked : c ≡ structureBy (expr T e) (expr T pattern)) {m : Bool} (of : m ≡ isMismatch c) where
-        step : (u : ℕ → Bool) → (not m || anyFits (items (expr T) (T .children) (place + 1) (more - 1)) (plan u (expr T pattern) [])) ≡ anyFits (items (expr T) (T .children) at left) (plan u (expr T pattern) [])
+      module _ {c : LiteralStructureCheck} (checked : c ≡ structure (expr T e) (expr T pattern)) {m : Bool} (of : m ≡ isMismatch c) where
+        step : (not m || anyFits (itemsAt T (place + 1) (more - 1)) (expr T pattern)) ≡ anyFits (itemsAt T at left) (expr T pattern)
         unfolding anyFits
-        step u =
+        step =
             let here = items-step (expr T) (T .children) place more some in
-            let c-is = checked-plan (expr T e) (expr T pattern) checked u [] in
-            rw (of, c-is, is) (sym (ap (λ (es : Exprs). anyFits es (plan u (expr T pattern) [])) here) ∙ go .same u)
+            rw (of, checked, is) (sym (ap (λ (es : Exprs). anyFits es (expr T pattern)) here) ∙ go .same)
 
-        pub looking-found : not m ≡ true → AnyFits T pattern at left true
-        looking-found n = record { told = λ u. rw n at (step u) }
+        pub looking-found : not m ≡ true → true ≡ anyFits (itemsAt T at left) (expr T pattern)
+        looking-found n = rw n at step
 
         pub looking-on : not m ≡ false → Looking T pattern at left (place + 1) (more - 1)
         looking-on n = record {
@@ -60,22 +57,22 @@ module _ {T : Tables} {pattern at left place more : ℕ} (go : Looking T pattern
             each = λ i lt. let s : place + 1 + i ≡ place + (i + 1) = omega arith in rw s (go .asks .each (i + 1) (omega arith));
             small = let m = go .asks .small in omega arith;
           };
-          same = λ u. rw n at (step u);
+          same = rw n at step;
         }
 
-  pub looking-ends : more ≤ 0 → AnyFits T pattern at left false
+  pub looking-ends : more ≤ 0 → false ≡ anyFits (itemsAt T at left) (expr T pattern)
   unfolding anyFits
-  looking-ends le = record { told = λ u. sym (ap (λ (es : Exprs). anyFits es (plan u (expr T pattern) [])) (items-end (expr T) (T .children) place more le)) ∙ go .same u }
+  looking-ends le = sym (ap (λ (es : Exprs). anyFits es (expr T pattern)) (items-end (expr T) (T .children) place more le)) ∙ go .same
 
 -- all of them
 module _ {T : Tables} {pattern at left : ℕ} (a : ItemsAsk T pattern at left) where
-  pub items-empty : left ≡ 0 → ItemsChecked T pattern at left Unknown
+  pub items-empty : left ≡ 0 → Unknown ≡ itemsStructure (itemsAt T at left) (expr T pattern)
   unfolding anyFits firstMismatch
-  items-empty e = record { told = λ u. let n = items-end (expr T) (T .children) at left (omega arith) in rw n }
+  items-empty e = let n = items-end (expr T) (T .children) at left (omega arith) in rw n
 
   module _ (some : left ≡ 0 → ⊥) where
-    pub items-fit : {fits : Bool} → AnyFits T pattern at left fits → fits ≡ true → ItemsChecked T pattern at left Match
-    items-fit of e = record { told = λ u. let f = sym (of .told u) ∙ e in rw f }
+    pub items-fit : {fits : Bool} → fits ≡ anyFits (itemsAt T at left) (expr T pattern) → fits ≡ true → Match ≡ itemsStructure (itemsAt T at left) (expr T pattern)
+    items-fit of e = let f = sym of ∙ e in rw f
 
     module _ {e : ℕ} (is : e ≡ childAt (T .children) at) where
       pub first-pair : GoodPair T pattern e
@@ -83,15 +80,14 @@ module _ {T : Tables} {pattern at left : ℕ} (a : ItemsAsk T pattern at left) w
           let z : at + 0 ≡ at = omega arith in
           record { table = a .table; first = a .node; second = rw is (rw z at (a .each 0 (omega arith))) }
 
-      pub items-first : {fits : Bool} → AnyFits T pattern at left fits → fits ≡ false → {c : LiteralStructureCheck} → c ≡ structureBy (expr T e) (expr T pattern) → ItemsChecked T pattern at left c
+      pub items-first : {fits : Bool} → fits ≡ anyFits (itemsAt T at left) (expr T pattern) → fits ≡ false → {c : LiteralStructureCheck} → c ≡ structure (expr T e) (expr T pattern)
+          → c ≡ itemsStructure (itemsAt T at left) (expr T pattern)
       unfolding anyFits firstMismatch
-      items-first of none-fits {c} checked = record {
-        told = λ u.
-            let here = items-step (expr T) (T .children) at left (omega arith) in
-            let c-is = rw is at (checked-plan (expr T e) (expr T pattern) checked u []) in
-            let f = rw here at (sym (of .told u) ∙ none-fits) in
-            rw (here, f, ← c-is, mismatch c _ (rw (← c-is) at f));
-      }
+      items-first of none-fits {c} checked =
+          let here = items-step (expr T) (T .children) at left (omega arith) in
+          let c-is = rw is at checked in
+          let f = rw here at (sym of ∙ none-fits) in
+          rw (here, f, ← c-is, mismatch c _ (rw (← c-is) at f))
         where
           mismatch : (c : LiteralStructureCheck) (rest : Bool) → (not (isMismatch c) || rest) ≡ false → isMismatch c ≡ true
           mismatch Match rest e = absurd (false≢true (sym e))
@@ -101,21 +97,24 @@ module _ {T : Tables} {pattern at left : ℕ} (a : ItemsAsk T pattern at left) w
 
 -- the whole collection
 module _ {T : Tables} {pattern collection : ℕ} (a : GoodPair T pattern collection) {kind : ℕ} (is-kind : kind ≡ kindOf (T .nodes) collection) where
-  pub collection-other : (kind ≡ 7 → ⊥) → CollectionChecked T pattern collection Unknown
+  pub collection-other : (kind ≡ 7 → ⊥) → Unknown ≡ collectionStructure (expr T collection) (expr T pattern)
   unfolding collectionStructure
-  collection-other not-7 = record { told = λ u. go (plan u (expr T pattern) []) (eqb (kindOf (T .nodes) collection) 6) refl (isWildcard T (firstOf (T .nodes) collection)) refl (eqb (kindOf (T .nodes) collection) 9) refl }
+  collection-other not-7 = go (eqb (kindOf (T .nodes) collection) 6) refl (isWildcard T (firstOf (T .nodes) collection)) refl (eqb (kindOf (T .nodes) collection) 9) refl
     where
-      plain : (p : DestructuringPlan) (e : Expr) → expr T collection ≡ e → Plain (kindOf (T .nodes) collection) collection e → Unknown ≡ collectionStructure (expr T collection) p
-      plain p e q (plain-literal l h) = sym (ap (λ (d : Expr). collectionStructure d p) q)
-      plain p e q (plain-set es h) = sym (ap (λ (d : Expr). collectionStructure d p) q)
-      plain p e q (plain-other h) = sym (ap (λ (d : Expr). collectionStructure d p) q)
+      known : {e : Expr} → expr T collection ≡ e → Unknown ≡ collectionStructure e (expr T pattern) → Unknown ≡ collectionStructure (expr T collection) (expr T pattern)
+      known q u = u ∙ sym (ap (λ (d : Expr). collectionStructure d (expr T pattern)) q)
 
-      go : (p : DestructuringPlan) (x : Bool) → eqb (kindOf (T .nodes) collection) 6 ≡ x → (y : Bool) → isWildcard T (firstOf (T .nodes) collection) ≡ y → (z : Bool) → eqb (kindOf (T .nodes) collection) 9 ≡ z
-          → Unknown ≡ collectionStructure (expr T collection) p
-      go p true h true w z o = let tree : expr T collection ≡ wildcard collection = expr-name T (a .table) collection (a .second) (eqb-true _ _ h) ∙ simp w in sym (ap (λ (d : Expr). collectionStructure d p) tree)
-      go p true h false w z o = let tree : expr T collection ≡ name collection (firstOf (T .nodes) collection) = expr-name T (a .table) collection (a .second) (eqb-true _ _ h) ∙ simp w in sym (ap (λ (d : Expr). collectionStructure d p) tree)
-      go p false h y w true o = sym (ap (λ (d : Expr). collectionStructure d p) (expr-object T (a .table) collection (a .second) (eqb-true _ _ o)))
-      go p false h y w false o = let k = plain-kind T (a .table) collection (a .second) (eqb-false _ _ h) (λ k. not-7 (is-kind ∙ k)) (eqb-false _ _ o) in plain p (k .0) (k .1) (k .2)
+      plain : (e : Expr) → expr T collection ≡ e → Plain (kindOf (T .nodes) collection) collection e → Unknown ≡ collectionStructure (expr T collection) (expr T pattern)
+      plain e q (plain-literal l h) = known q refl
+      plain e q (plain-set es h) = known q refl
+      plain e q (plain-other h) = known q refl
+
+      go : (x : Bool) → eqb (kindOf (T .nodes) collection) 6 ≡ x → (y : Bool) → isWildcard T (firstOf (T .nodes) collection) ≡ y → (z : Bool) → eqb (kindOf (T .nodes) collection) 9 ≡ z
+          → Unknown ≡ collectionStructure (expr T collection) (expr T pattern)
+      go true h true w z o = let tree : expr T collection ≡ wildcard collection = expr-name T (a .table) collection (a .second) (eqb-true _ _ h) ∙ simp w in known tree refl
+      go true h false w z o = let tree : expr T collection ≡ name collection (firstOf (T .nodes) collection) = expr-name T (a .table) collection (a .second) (eqb-true _ _ h) ∙ simp w in known tree refl
+      go false h y w true o = known (expr-object T (a .table) collection (a .second) (eqb-true _ _ o)) refl
+      go false h y w false o = let k = plain-kind T (a .table) collection (a .second) (eqb-false _ _ h) (λ k. not-7 (is-kind ∙ k)) (eqb-false _ _ o) in plain (k .0) (k .1) (k .2)
 
   module _ (k : kind ≡ 7) {at left : ℕ} (is-at : at ≡ firstOf (T .nodes) collection) (is-left : left ≡ countOf (T .nodes) collection) where
     is-array-kind : kindOf (T .nodes) collection ≡ 7
@@ -133,6 +132,6 @@ module _ {T : Tables} {pattern collection : ℕ} (a : GoodPair T pattern collect
           small = omega arith;
         }
 
-    pub collection-items : {c : LiteralStructureCheck} → ItemsChecked T pattern at left c → CollectionChecked T pattern collection c
+    pub collection-items : {c : LiteralStructureCheck} → c ≡ itemsStructure (itemsAt T at left) (expr T pattern) → c ≡ collectionStructure (expr T collection) (expr T pattern)
     unfolding collectionStructure
-    collection-items c = record { told = λ u. let t = expr-array T (a .table) collection (a .second) is-array-kind in rw (t, ← is-at, ← is-left) (c .told u) }
+    collection-items c = let t = expr-array T (a .table) collection (a .second) is-array-kind in rw (t, ← is-at, ← is-left) c

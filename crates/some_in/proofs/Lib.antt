@@ -1,2 +1,3 @@
 pub mod Collections
 pub mod Answers
+pub mod ShortSomeIn

@@ -1,2 +1,2 @@
 pub mod SomeIn
-pub mod Post
+pub mod code

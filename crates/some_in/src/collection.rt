@@ -1,11 +1,13 @@
 // A pattern held against the items of a collection.
+ghost use Rattle.table.specs.Lent.{given, lent};
 ghost use mathlib.Core.Path.{_≡_};
-ghost use Rattle.table.specs.Tables.{tables};
 ghost use Rattle.planner.specs.code.Post.{GoodPair};
-ghost use Rattle.some_in.specs.SomeIn.{isMismatch};
-ghost use Rattle.some_in.specs.Post.{ItemsAsk, AnyFits, ItemsChecked, CollectionChecked};
+ghost use Rattle.table.specs.Decode.{expr};
+ghost use Rattle.checks.specs.code.Post.{itemsAt};
+ghost use Rattle.some_in.specs.SomeIn.{isMismatch, anyFits, itemsStructure, collectionStructure};
+ghost use Rattle.some_in.specs.code.Post.{ItemsAsk};
 use checks::LiteralStructureCheck;
-use checks::utils::check_literal_structure;
+use checks::inner::check_literal_structure;
 use table::reading::child_at;
 use table::reading::count_of;
 use table::reading::first_of;
@@ -38,8 +40,8 @@ fn any_fits(
     at: usize,
     left: usize,
 ) -> bool
-    requires { ⌜ ItemsAsk (tables (now nodes) (now children) (now numbers) (now names) (now strings) (now text)) pattern at left ⌝ }
-    ensures { λ r. ⌜ AnyFits (tables (now (nodes .entry)) (now (children .entry)) (now (numbers .entry)) (now (names .entry)) (now (strings .entry)) (now (text .entry))) pattern at left r ⌝ }
+    requires { ⌜ ItemsAsk (given nodes children numbers names strings text) pattern at left ⌝ }
+    ensures { λ r. let T = lent nodes children numbers names strings text in ⌜ r ≡ anyFits (itemsAt T at left) (expr T pattern) ⌝ }
 {
     let mut place = at;
     let mut more = left;
@@ -76,8 +78,8 @@ fn check_items(
     at: usize,
     left: usize,
 ) -> LiteralStructureCheck
-    requires { ⌜ ItemsAsk (tables (now nodes) (now children) (now numbers) (now names) (now strings) (now text)) pattern at left ⌝ }
-    ensures { λ r. ⌜ ItemsChecked (tables (now (nodes .entry)) (now (children .entry)) (now (numbers .entry)) (now (names .entry)) (now (strings .entry)) (now (text .entry))) pattern at left r ⌝ }
+    requires { ⌜ ItemsAsk (given nodes children numbers names strings text) pattern at left ⌝ }
+    ensures { λ r. let T = lent nodes children numbers names strings text in ⌜ r ≡ itemsStructure (itemsAt T at left) (expr T pattern) ⌝ }
 {
     if left == 0 {
         return LiteralStructureCheck::Unknown;
@@ -118,8 +120,8 @@ pub(crate) fn check_collection(
     pattern: u32,
     collection: u32,
 ) -> LiteralStructureCheck
-    requires { ⌜ GoodPair (tables (now nodes) (now children) (now numbers) (now names) (now strings) (now text)) pattern collection ⌝ }
-    ensures { λ r. ⌜ CollectionChecked (tables (now (nodes .entry)) (now (children .entry)) (now (numbers .entry)) (now (names .entry)) (now (strings .entry)) (now (text .entry))) pattern collection r ⌝ }
+    requires { ⌜ GoodPair (given nodes children numbers names strings text) pattern collection ⌝ }
+    ensures { λ r. let T = lent nodes children numbers names strings text in ⌜ r ≡ collectionStructure (expr T collection) (expr T pattern) ⌝ }
 {
     if kind_of(nodes, collection) != 7 {
         return LiteralStructureCheck::Unknown;

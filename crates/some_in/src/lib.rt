@@ -1,21 +1,22 @@
 // Plans of `some key, value in collection` (some_in.rs).
 mod collection;
 
-ghost use Rattle.table.specs.Tables.{tables};
-ghost use Rattle.planner.specs.Operations.{Answered};
+ghost use Rattle.base.specs.Lent.{old, new};
+ghost use Rattle.table.specs.Lent.{given, lent};
+ghost use Rattle.planner.specs.Operations.{AnsweredIn};
 ghost use Rattle.planner.specs.code.Post.{GoodPair};
 ghost use Rattle.some_in.specs.SomeIn.{someInPlanned, someInOutcome};
-ghost use Rattle.some_in.specs.Post.{PlaceAsks, Validated, SomeInClosed, ValueAsks, ValueAnswered, KeyAsks};
+ghost use Rattle.some_in.specs.code.Post.{PlaceAsks, Validated, SomeInClosed, ValueAsks, ValueAnswered, KeyAsks};
 use crate::collection::check_collection;
 use checks::LiteralStructureCheck;
 use planner::PlanAnswer;
 use planner::buffer::clear;
 use planner::buffer::close;
-use planner::context::is_sound;
-use planner::destructuring::plan_pattern;
-use planner::parameters::validate_pattern_bindings;
+use planner::inner::destructuring::plan_pattern;
+use planner::inner::parameters::validate_pattern_bindings;
 use scope::Scope;
 use scope::ScopingMode;
+use table::TableAnswer;
 use table::check;
 use table::reading::is_node;
 
@@ -37,8 +38,8 @@ fn plan_validated(
     plan: &mut [u32],
     at: usize,
 ) -> ValidatedPlan
-    requires { ⌜ PlaceAsks (tables (now nodes) (now children) (now numbers) (now names) (now strings) (now text)) root at ⌝ }
-    ensures { λ r. ⌜ Validated (tables (now (nodes .entry)) (now (children .entry)) (now (numbers .entry)) (now (names .entry)) (now (strings .entry)) (now (text .entry))) scope root at (now (plan .entry)) (now (plan .exit)) (r .end) (r .name) ⌝ }
+    requires { ⌜ PlaceAsks (given nodes children numbers names strings text) root at ⌝ }
+    ensures { λ r. ⌜ Validated (lent nodes children numbers names strings text) scope root at (old plan) (new plan) (r .end) (r .name) ⌝ }
 {
     let mut binders = [0u32; 128];
     let end = plan_pattern(
@@ -76,7 +77,7 @@ fn deliver_some_in(
     check: LiteralStructureCheck,
     end: usize,
 ) -> PlanAnswer
-    ensures { λ r. ⌜ SomeInClosed form check end (now (plan .entry)) (now (plan .exit)) r ⌝ }
+    ensures { λ r. ⌜ SomeInClosed form check end (old plan) (new plan) r ⌝ }
 {
     match check {
         LiteralStructureCheck::Match => close(plan, form, end),
@@ -115,8 +116,8 @@ fn plan_value(
     plan: &mut [u32],
     at: usize,
 ) -> PlanAnswer
-    requires { ⌜ ValueAsks (tables (now nodes) (now children) (now numbers) (now names) (now strings) (now text)) value collection at ⌝ }
-    ensures { λ r. ⌜ ValueAnswered (tables (now (nodes .entry)) (now (children .entry)) (now (numbers .entry)) (now (names .entry)) (now (strings .entry)) (now (text .entry))) scope value collection form at (now (plan .entry)) (now (plan .exit)) r ⌝ }
+    requires { ⌜ ValueAsks (given nodes children numbers names strings text) value collection at ⌝ }
+    ensures { λ r. ⌜ ValueAnswered (lent nodes children numbers names strings text) scope value collection form at (old plan) (new plan) r ⌝ }
 {
     let value_plan = plan_validated(
         nodes,
@@ -162,8 +163,8 @@ fn plan_key(
     key: u32,
     plan: &mut [u32],
 ) -> PlanAnswer
-    requires { ⌜ KeyAsks (tables (now nodes) (now children) (now numbers) (now names) (now strings) (now text)) value collection key ⌝ }
-    ensures { λ r. ⌜ Answered (someInPlanned (tables (now (nodes .entry)) (now (children .entry)) (now (numbers .entry)) (now (names .entry)) (now (strings .entry)) (now (text .entry))) scope value collection key) (now (plan .entry)) (now (plan .exit)) r ⌝ }
+    requires { ⌜ KeyAsks (given nodes children numbers names strings text) value collection key ⌝ }
+    ensures { λ r. ⌜ AnsweredIn plan (someInPlanned (lent nodes children numbers names strings text) scope value collection key) r ⌝ }
 {
     let key_plan = plan_validated(
         nodes,
@@ -211,8 +212,8 @@ fn plan_without_key(
     collection: u32,
     plan: &mut [u32],
 ) -> PlanAnswer
-    requires { ⌜ GoodPair (tables (now nodes) (now children) (now numbers) (now names) (now strings) (now text)) value collection ⌝ }
-    ensures { λ r. ⌜ Answered (someInPlanned (tables (now (nodes .entry)) (now (children .entry)) (now (numbers .entry)) (now (names .entry)) (now (strings .entry)) (now (text .entry))) scope value collection 0) (now (plan .entry)) (now (plan .exit)) r ⌝ }
+    requires { ⌜ GoodPair (given nodes children numbers names strings text) value collection ⌝ }
+    ensures { λ r. ⌜ AnsweredIn plan (someInPlanned (lent nodes children numbers names strings text) scope value collection 0) r ⌝ }
 {
     plan_value(
         nodes,
@@ -244,12 +245,12 @@ pub fn create_some_in_binding_plan(
     key: u32,
     plan: &mut [u32],
 ) -> PlanAnswer
-    ensures { λ r. ⌜ Answered (someInOutcome (tables (now (nodes .entry)) (now (children .entry)) (now (numbers .entry)) (now (names .entry)) (now (strings .entry)) (now (text .entry))) scope value collection key) (now (plan .entry)) (now (plan .exit)) r ⌝ }
+    ensures { λ r. ⌜ AnsweredIn plan (someInOutcome (lent nodes children numbers names strings text) scope value collection key) r ⌝ }
 {
     let checked = check(nodes, children, numbers, names, strings, text, scope);
-    if !is_sound(checked) {
+    if let TableAnswer::Refused(refused) = checked {
         clear(plan);
-        return PlanAnswer::TableRefused(checked);
+        return PlanAnswer::TableRefused(refused);
     }
     if !is_node(nodes, value) {
         clear(plan);

@@ -6,7 +6,7 @@ use mathlib.Core.Option.{Option}
 use mathlib.Core.Option as Option
 use lib.Dec.{eqb}
 use Rattle.literal.specs.Literal.{Literal}
-use Rattle.literal.specs.Reading.{literalOf}
+use Rattle.literal.specs.Reading.{literalOf, stringAt}
 use Rattle.literal.specs.declared.LiteralRef.the-variants.{Null, False, True, Number, String, RawString}
 use Rattle.table.specs.declared.Key.{Key}
 use Rattle.table.specs.declared.Key.the-variants as Key
@@ -34,6 +34,10 @@ literalIn numbers strings text (Key.Literal l) = literalOf numbers strings text 
 -- the literal of a node, if it is one
 unfoldable pub literalNode : List ℕ → List ℕ → List ℕ → List ℕ → ℕ → Option Literal
 literalNode nodes numbers strings text n = literalIn numbers strings text (refOf nodes n)
+
+-- the string of a node of kind 1
+abbrev pub stringOf : List ℕ → List ℕ → ℕ → Option Literal
+stringOf nodes strings n = stringAt strings (firstOf nodes n) (countOf nodes n)
 
 abbrev pub literalAt : Tables → ℕ → Option Literal
 literalAt T n = literalNode (T .nodes) (T .numbers) (T .strings) (T .text) n

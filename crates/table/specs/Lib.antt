@@ -1,11 +1,8 @@
 pub mod Tables
 pub mod Expr
 pub mod Decode
+pub mod Lent
 pub mod Names
-pub mod NameOrder
 pub mod Rules
-pub mod Marks
-pub mod Depths
-pub mod Passes
 pub mod Check
-pub mod Sound
+pub mod code

@@ -4,8 +4,8 @@ use mathlib.Core.Bool.{Bool, true, false, cond, _&&_, _||_, not}
 use mathlib.Core.List.{List, [], _∷_, _++_}
 use lib.Dec.{eqb, leb, ltb}
 use lib.ListN.{length, getD}
+use Rattle.base.specs.Lists.{allFrom, noRepeat, part}
 use Rattle.literal.specs.Literal.{isNumber}
-use Rattle.literal.specs.Reading.{part}
 use Rattle.scope.specs.declared.Scope.{Scope}
 use Rattle.scope.specs.Scope.{marksOk}
 use Rattle.table.specs.Tables.{Tables, kindOf, startOf, endOf, firstOf, countOf, nodeCount, numberCount, nameCount, isNode, width, childAt, nameStart, nameLength, nameBytes}
@@ -13,28 +13,13 @@ use Rattle.table.specs.Names.{sameBytes, underscoreBytes}
 use Rattle.table.specs.Expr.{depth}
 use Rattle.table.specs.Decode.{expr}
 
--- p holds at k numbers from i on
-unfoldable pub allFrom : (ℕ → Bool) → ℕ → ℕ → Bool
-allFrom p i zero = true
-allFrom p i (suc k) = p i && allFrom p (i + 1) k
-
-unfoldable pub elem : ℕ → List ℕ → Bool
-elem x [] = false
-elem x (y ∷ ys) = eqb x y || elem x ys
-
-unfoldable pub noRepeat : List ℕ → Bool
-noRepeat [] = true
-noRepeat (x ∷ xs) = not (elem x xs) && noRepeat xs
-
 -- Limits: 512 nodes, 512 child entries, 256 numbers, 128 names, 8,192 string bytes, 16,384 text bytes.
+abbrev pub countsWithinLimits : ℕ → ℕ → ℕ → ℕ → ℕ → ℕ → Bool
+countsWithinLimits nodes children numbers names strings text =
+    leb nodes 512 && (leb children 512 && (leb numbers 256 && (leb names 128 && (leb strings 8192 && leb text 16384))))
+
 unfoldable pub withinLimits : Tables → Bool
-withinLimits T =
-    leb (nodeCount T) 512
-    && (leb (length (T .children)) 512
-    && (leb (numberCount T) 256
-    && (leb (nameCount T) 128
-    && (leb (length (T .strings)) 8192
-    && leb (length (T .text)) 16384))))
+withinLimits T = countsWithinLimits (nodeCount T) (length (T .children)) (numberCount T) (nameCount T) (length (T .strings)) (length (T .text))
 
 -- The node list is whole fives of words, numbers and names are whole pairs.
 unfoldable pub wholeRecords : Tables → Bool
@@ -114,7 +99,7 @@ scopeOk T s =
     && (eqb (s .underscore) 0
     || (leb (s .underscore) (nameCount T) && sameBytes (nameBytes (T .names) (T .text) (s .underscore)) underscoreBytes))
 
--- The rules of the table, in document 01's order.
+-- All rules of the table. Whichever is broken, the answer is 2.
 unfoldable pub followsRules : Tables → Scope → Bool
 followsRules T s =
     wholeRecords T

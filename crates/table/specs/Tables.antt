@@ -4,7 +4,7 @@ use mathlib.Core.Bool.{Bool, cond, _&&_}
 use mathlib.Core.List.{List}
 use lib.Dec.{eqb, leb}
 use lib.ListN.{length, getD}
-use Rattle.literal.specs.Reading.{part}
+use Rattle.base.specs.Lists.{part}
 
 pub record Tables : Type 0 where
   -- five words each: kind, start, end, first, count

@@ -2,9 +2,10 @@
 use crate::reading::child_at;
 use crate::reading::node_word;
 use crate::reading::width_at;
+ghost use Rattle.base.specs.Lent.{old};
 ghost use mathlib.Core.Path.{_≡_};
 ghost use Prim.Native.Nat.{max};
-ghost use Rattle.table.specs.Depths.{deepest, listedDepth, ChildrenAsk, DepthsAsk, DepthsTold};
+ghost use Rattle.table.specs.code.Depths.{deepest, listedDepth, ChildrenAsk, DepthsAsk, DepthsTold};
 
 fn deeper(a: u8, b: u8) -> u8
     ensures { λ r. ⌜ r ≡ max a b ⌝ }
@@ -18,7 +19,7 @@ fn deeper(a: u8, b: u8) -> u8
 // The greatest depth of the children, where the depth of node n stands at n - 1.
 fn deepest_of(children: &[u32], depths: &[u8; 512], first: usize, count: usize) -> u8
     requires { ⌜ ChildrenAsk (now children) first count ⌝ }
-    ensures { λ r. ⌜ r ≡ deepest (listedDepth (now (depths .entry))) (now (children .entry)) first count ⌝ }
+    ensures { λ r. ⌜ r ≡ deepest (listedDepth (old depths)) (old children) first count ⌝ }
 {
     let mut deep: u8 = 0;
     let mut i: usize = 0;
@@ -33,7 +34,7 @@ fn deepest_of(children: &[u32], depths: &[u8; 512], first: usize, count: usize) 
 // Is every depth at most 32? A child's stands before its parent's.
 pub(crate) fn depths_ok(nodes: &[u32], children: &[u32]) -> bool
     requires { ⌜ DepthsAsk (now nodes) (now children) ⌝ }
-    ensures { λ r. ⌜ DepthsTold (now (nodes .entry)) (now (children .entry)) r ⌝ }
+    ensures { λ r. ⌜ DepthsTold (old nodes) (old children) r ⌝ }
 {
     let mut depths = [0u8; 512];
     let total = nodes.len() / 5;

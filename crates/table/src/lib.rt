@@ -5,9 +5,9 @@ use names::names_differ;
 use rules::follows_rules;
 use rules::within_limits;
 use scope::Scope;
+ghost use Rattle.table.specs.Lent.{lent};
 ghost use mathlib.Core.Path.{_≡_};
-ghost use Rattle.table.specs.Tables.{tables};
-ghost use Rattle.table.specs.Check.{checked, refusal};
+ghost use Rattle.table.specs.Check.{TableAnswered, tableRefused};
 
 mod depth;
 mod marks;
@@ -16,24 +16,27 @@ mod nodes;
 pub mod reading;
 mod rules;
 
-pub enum TableAnswer {
-    Sound,
+pub enum TableRefusal {
     OverLimit,
     BreaksRules,
     TooDeep,
     EqualNames,
 }
 
-// The number of a refusal, 0 for a sound table.
-pub fn refusal_number(answer: TableAnswer) -> u32
-    ensures { λ r. ⌜ r ≡ refusal answer ⌝ }
+pub enum TableAnswer {
+    Sound,
+    Refused(TableRefusal),
+}
+
+// The number of a refusal.
+pub fn refusal_number(refused: TableRefusal) -> u32
+    ensures { λ r. ⌜ r ≡ tableRefused refused .number ⌝ }
 {
-    match answer {
-        TableAnswer::Sound => 0,
-        TableAnswer::OverLimit => 1,
-        TableAnswer::BreaksRules => 2,
-        TableAnswer::TooDeep => 3,
-        TableAnswer::EqualNames => 4,
+    match refused {
+        TableRefusal::OverLimit => 1,
+        TableRefusal::BreaksRules => 2,
+        TableRefusal::TooDeep => 3,
+        TableRefusal::EqualNames => 4,
     }
 }
 
@@ -60,19 +63,19 @@ pub fn check(
     text: &[u8],
     scope: Scope,
 ) -> TableAnswer
-    ensures { λ r. ⌜ r ≡ checked (tables (now (nodes .entry)) (now (children .entry)) (now (numbers .entry)) (now (names .entry)) (now (strings .entry)) (now (text .entry))) scope ⌝ }
+    ensures { λ r. ⌜ TableAnswered (lent nodes children numbers names strings text) scope r ⌝ }
 {
     if !within_limits(nodes, children, numbers, names, strings, text) {
-        return TableAnswer::OverLimit;
+        return TableAnswer::Refused(TableRefusal::OverLimit);
     }
     if !follows_rules(nodes, children, numbers, names, strings, text, scope) {
-        return TableAnswer::BreaksRules;
+        return TableAnswer::Refused(TableRefusal::BreaksRules);
     }
     if !depths_ok(nodes, children) {
-        return TableAnswer::TooDeep;
+        return TableAnswer::Refused(TableRefusal::TooDeep);
     }
     if !names_differ(names, text) {
-        return TableAnswer::EqualNames;
+        return TableAnswer::Refused(TableRefusal::EqualNames);
     }
     TableAnswer::Sound
 }

@@ -1,16 +1,18 @@
 // That numbers do not repeat, found by marks in a local array.
 use crate::reading::node_word;
 use crate::reading::width_at;
+ghost use Rattle.base.specs.Lent.{old, new};
 ghost use mathlib.Core.Path.{_≡_};
 ghost use Prim.Native.Nat.{ℕ, _+_, _/_, _<_, _≤_};
 ghost use lib.ListN.{length, getD};
-ghost use Rattle.table.specs.Rules.{noRepeat, usedPlaces};
-ghost use Rattle.table.specs.Marks.{PlacesMarked, PlacesAsk};
+ghost use Rattle.base.specs.Lists.{noRepeat};
+ghost use Rattle.table.specs.Rules.{usedPlaces};
+ghost use Rattle.table.specs.code.Marks.{PlacesMarked, PlacesAsk};
 
 // Does no node stand twice in the child list?
 pub(crate) fn distinct_entries(children: &[u32]) -> bool
     requires { ⌜ ((i : ℕ) → i < length (now children) → getD (now children) i 0 ≤ 512) ⌝ }
-    ensures { λ r. ⌜ r ≡ noRepeat (now (children .entry)) ⌝ }
+    ensures { λ r. ⌜ r ≡ noRepeat (old children) ⌝ }
 {
     let mut used = [0u8; 513];
     let mut i: usize = 0;
@@ -28,7 +30,7 @@ pub(crate) fn distinct_entries(children: &[u32]) -> bool
 // Marks `count` places from `first` on, unless one is marked.
 fn mark_places(used: &mut [u8; 512], first: usize, count: usize) -> bool
     requires { ⌜ ((i : ℕ) → i < count → first + i < 512) ⌝ }
-    ensures { λ r. ⌜ PlacesMarked first count (now (used .entry)) (now (used .exit)) r ⌝ }
+    ensures { λ r. ⌜ PlacesMarked first count (old used) (new used) r ⌝ }
 {
     let mut i: usize = 0;
     while i < count {
@@ -45,7 +47,7 @@ fn mark_places(used: &mut [u8; 512], first: usize, count: usize) -> bool
 // Does no child entry serve two nodes?
 pub(crate) fn places_apart(nodes: &[u32]) -> bool
     requires { ⌜ PlacesAsk (now nodes) ⌝ }
-    ensures { λ r. ⌜ r ≡ noRepeat (usedPlaces (now (nodes .entry)) 1 (length (now (nodes .entry)) / 5)) ⌝ }
+    ensures { λ r. ⌜ r ≡ noRepeat (usedPlaces (old nodes) 1 (length (old nodes) / 5)) ⌝ }
 {
     let mut used = [0u8; 512];
     let total = nodes.len() / 5;

@@ -1,20 +1,22 @@
 // That the names' bytes tell names apart.
 use crate::reading::name_bytes;
+use base::bytes::insert_at;
 use literal::Comparison;
 use literal::order::compare_bytes;
 use literal::order::wide;
+ghost use Rattle.base.specs.Lent.{old};
 ghost use mathlib.Core.Path.{_≡_};
 ghost use mathlib.Core.List.{[]};
 ghost use Prim.Native.Nat.{_/_, _<_, _≤_};
 ghost use lib.ListN.{length};
 ghost use Rattle.table.specs.Tables.{tables, nameBytes};
-ghost use Rattle.table.specs.NameOrder.{Ascending, FoundName, Inserted};
+ghost use Rattle.table.specs.code.NameOrder.{Ascending, FoundName};
 ghost use Rattle.table.specs.Rules.{namesDiffer};
 
 // The place of bytes among `count` names in order, by binary search; 128 if a name has the same.
 fn find_name(names: &[u32], text: &[u8], order: &[u8; 128], count: usize, bytes: &[u8]) -> usize
     requires { ⌜ Ascending (nameBytes (now names) (now text)) (now order) count × (count < 128) ⌝ }
-    ensures { λ r. ⌜ FoundName (nameBytes (now (names .entry)) (now (text .entry))) (now (bytes .entry)) (now (order .entry)) count r ⌝ }
+    ensures { λ r. ⌜ FoundName (nameBytes (old names) (old text)) (old bytes) (old order) count r ⌝ }
 {
     let mut low: usize = 0;
     let mut high = count;
@@ -31,23 +33,9 @@ fn find_name(names: &[u32], text: &[u8], order: &[u8; 128], count: usize, bytes:
     low
 }
 
-// Moves the numbers from `place` to `count` up by one, and puts `name` there.
-fn insert_name(order: &mut [u8; 128], count: usize, place: usize, name: u8)
-    requires { ⌜ (place ≤ count) × (count < 128) × (length (now order) ≡ 128) ⌝ }
-    ensures { λ _. ⌜ Inserted (now (order .entry)) count place name (now (order .exit)) ⌝ }
-{
-    let mut q = count;
-    while place < q {
-        let below = order[q - 1];
-        order[q] = below;
-        q -= 1;
-    }
-    order[place] = name;
-}
-
 pub(crate) fn names_differ(names: &[u32], text: &[u8]) -> bool
     requires { ⌜ length (now names) / 2 ≤ 128 ⌝ }
-    ensures { λ r. ⌜ r ≡ namesDiffer (tables [] [] [] (now (names .entry)) [] (now (text .entry))) ⌝ }
+    ensures { λ r. ⌜ r ≡ namesDiffer (tables [] [] [] (old names) [] (old text)) ⌝ }
 {
     let mut order = [0u8; 128];
     let total = names.len() / 2;
@@ -58,7 +46,7 @@ pub(crate) fn names_differ(names: &[u32], text: &[u8]) -> bool
         if 127 < place {
             return false;
         }
-        insert_name(&mut order, i, place, (i + 1) as u8);
+        insert_at(&mut order, place, i, (i + 1) as u8);
         i += 1;
     }
     true

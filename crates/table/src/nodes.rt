@@ -7,15 +7,18 @@ use crate::reading::name_bytes;
 use crate::reading::node_word;
 use crate::reading::same_bytes;
 use crate::reading::width_at;
+ghost use Rattle.base.specs.Lent.{old};
+ghost use Rattle.table.specs.Lent.{given, lent};
 ghost use mathlib.Core.Path.{_≡_};
 ghost use mathlib.Core.Bool.{_&&_};
 ghost use mathlib.Core.List.{[]};
 ghost use Prim.Native.Nat.{_+_, _/_, _<_, _≤_};
 ghost use lib.Dec.{eqb, leb, ltb};
 ghost use lib.ListN.{length};
-ghost use Rattle.table.specs.Tables.{tables, kindOf, firstOf, countOf};
-ghost use Rattle.table.specs.Rules.{allFrom, spanOk, wordsOk, childrenBelow};
-ghost use Rattle.table.specs.Passes.{headOkAt, childrenBelowAt, NodesAsk, nodesOk};
+ghost use Rattle.table.specs.Tables.{tables, firstOf, countOf};
+ghost use Rattle.base.specs.Lists.{allFrom};
+ghost use Rattle.table.specs.Rules.{spanOk, wordsOk, childrenBelow};
+ghost use Rattle.table.specs.code.Passes.{wordsOkAt, headOkAt, childrenBelowAt, NodesAsk, nodesOk};
 
 // Does a range end no later than what it points into?
 pub(crate) fn in_range(start: usize, count: usize, length: usize) -> bool
@@ -30,7 +33,7 @@ pub(crate) fn in_range(start: usize, count: usize, length: usize) -> bool
 // Of node i + 1, as are the next three.
 fn span_ok(nodes: &[u32], text: &[u8], i: usize) -> bool
     requires { ⌜ i < length (now nodes) / 5 ⌝ }
-    ensures { λ r. ⌜ r ≡ spanOk (tables (now (nodes .entry)) [] [] [] [] (now (text .entry))) (i + 1) ⌝ }
+    ensures { λ r. ⌜ r ≡ spanOk (tables (old nodes) [] [] [] [] (old text)) (i + 1) ⌝ }
 {
     let start = node_word(nodes, i, 1);
     let end = node_word(nodes, i, 2);
@@ -52,7 +55,7 @@ fn one_word(first: usize, limit: usize, count: usize) -> bool
 
 fn name_words_ok(nodes: &[u32], names: &[u32], text: &[u8], i: usize) -> bool
     requires { ⌜ i < length (now nodes) / 5 ⌝ }
-    ensures { λ r. ⌜ r ≡ wordsOk (tables (now (nodes .entry)) [] [] (now (names .entry)) [] (now (text .entry))) (i + 1) 6 (firstOf (now (nodes .entry)) (i + 1)) (countOf (now (nodes .entry)) (i + 1)) ⌝ }
+    ensures { λ r. ⌜ r ≡ wordsOk (tables (old nodes) [] [] (old names) [] (old text)) (i + 1) 6 (firstOf (old nodes) (i + 1)) (countOf (old nodes) (i + 1)) ⌝ }
 {
     let name = node_word(nodes, i, 3);
     if name < 1 {
@@ -81,7 +84,7 @@ fn words_ok(
     i: usize,
 ) -> bool
     requires { ⌜ i < length (now nodes) / 5 ⌝ }
-    ensures { λ r. ⌜ r ≡ wordsOk (tables (now (nodes .entry)) (now (children .entry)) (now (numbers .entry)) (now (names .entry)) (now (strings .entry)) (now (text .entry))) (i + 1) (kindOf (now (nodes .entry)) (i + 1)) (firstOf (now (nodes .entry)) (i + 1)) (countOf (now (nodes .entry)) (i + 1)) ⌝ }
+    ensures { λ r. ⌜ r ≡ wordsOkAt (lent nodes children numbers names strings text) i ⌝ }
 {
     let kind = node_word(nodes, i, 0);
     let first = node_word(nodes, i, 3) as usize;
@@ -110,7 +113,7 @@ fn heads_ok(
     text: &[u8],
 ) -> bool
     requires { ⌜ length (now nodes) / 5 ≤ 512 ⌝ }
-    ensures { λ r. ⌜ r ≡ allFrom (headOkAt (tables (now (nodes .entry)) (now (children .entry)) (now (numbers .entry)) (now (names .entry)) (now (strings .entry)) (now (text .entry)))) 0 (length (now (nodes .entry)) / 5) ⌝ }
+    ensures { λ r. ⌜ r ≡ allFrom (headOkAt (lent nodes children numbers names strings text)) 0 (length (old nodes) / 5) ⌝ }
 {
     let total = nodes.len() / 5;
     let mut i: usize = 0;
@@ -128,7 +131,7 @@ fn heads_ok(
 
 fn children_below(nodes: &[u32], children: &[u32], n: usize) -> bool
     requires { ⌜ n < length (now nodes) / 5 ⌝ }
-    ensures { λ r. ⌜ r ≡ childrenBelow (tables (now (nodes .entry)) (now (children .entry)) [] [] [] []) (n + 1) ⌝ }
+    ensures { λ r. ⌜ r ≡ childrenBelow (tables (old nodes) (old children) [] [] [] []) (n + 1) ⌝ }
 {
     let first = node_word(nodes, n, 3) as usize;
     let count = width_at(nodes, n);
@@ -146,7 +149,7 @@ fn children_below(nodes: &[u32], children: &[u32], n: usize) -> bool
 
 fn all_below(nodes: &[u32], children: &[u32]) -> bool
     requires { ⌜ length (now nodes) / 5 ≤ 512 ⌝ }
-    ensures { λ r. ⌜ r ≡ allFrom (childrenBelowAt (tables (now (nodes .entry)) (now (children .entry)) [] [] [] [])) 0 (length (now (nodes .entry)) / 5) ⌝ }
+    ensures { λ r. ⌜ r ≡ allFrom (childrenBelowAt (tables (old nodes) (old children) [] [] [] [])) 0 (length (old nodes) / 5) ⌝ }
 {
     let total = nodes.len() / 5;
     let mut i: usize = 0;
@@ -168,8 +171,8 @@ pub(crate) fn nodes_ok(
     strings: &[u8],
     text: &[u8],
 ) -> bool
-    requires { ⌜ NodesAsk (tables (now nodes) (now children) (now numbers) (now names) (now strings) (now text)) ⌝ }
-    ensures { λ r. ⌜ r ≡ nodesOk (tables (now (nodes .entry)) (now (children .entry)) (now (numbers .entry)) (now (names .entry)) (now (strings .entry)) (now (text .entry))) ⌝ }
+    requires { ⌜ NodesAsk (given nodes children numbers names strings text) ⌝ }
+    ensures { λ r. ⌜ r ≡ nodesOk (lent nodes children numbers names strings text) ⌝ }
 {
     if !heads_ok(nodes, children, numbers, names, strings, text) {
         return false;

@@ -1,4 +1,6 @@
 // The words of the tables, 0 where there is none.
+ghost use Rattle.base.specs.Lent.{old};
+ghost use Rattle.table.specs.Lent.{lentLiteral};
 ghost use mathlib.Core.Path.{_≡_};
 ghost use mathlib.Core.List.{[]};
 ghost use mathlib.Core.Bool.{_&&_};
@@ -6,8 +8,8 @@ ghost use Prim.Native.Nat.{_+_, _-_, _/_, _<_, _≤_, _^_};
 ghost use lib.Dec.{eqb};
 ghost use lib.ListN.{length};
 ghost use Rattle.table.specs.Tables.{tables, isNode, recordWord, kindOf, startOf, endOf, firstOf, countOf, widthOf, width, childAt, nameStart, nameLength, nameBytes};
-ghost use Rattle.literal.specs.Reading.{part, stringAt};
-ghost use Rattle.table.specs.Decode.{refOf, literalNode};
+ghost use Rattle.base.specs.Lists.{part};
+ghost use Rattle.table.specs.Decode.{stringOf, refOf};
 ghost use Rattle.table.specs.Names.{sameBytes, classOf};
 ghost use Rattle.literal.specs.Order.{compared};
 ghost use Rattle.literal.specs.Text.{textsCompared};
@@ -23,7 +25,7 @@ use literal::text;
 // Word k of record n, of `size` words each.
 fn record_word(words: &[u32], size: usize, k: usize, n: u32) -> u32
     requires { ⌜ (size ≤ 5) × (k < 5) ⌝ }
-    ensures { λ r. ⌜ r ≡ recordWord size k (now (words .entry)) n ⌝ }
+    ensures { λ r. ⌜ r ≡ recordWord size k (old words) n ⌝ }
 {
     if n == 0 {
         return 0;
@@ -38,43 +40,43 @@ fn record_word(words: &[u32], size: usize, k: usize, n: u32) -> u32
 // Word k of node i + 1, which is there.
 pub(crate) fn node_word(nodes: &[u32], i: usize, k: usize) -> u32
     requires { ⌜ (i < length (now nodes) / 5) × (k < 5) ⌝ }
-    ensures { λ r. ⌜ r ≡ recordWord 5 k (now (nodes .entry)) (i + 1) ⌝ }
+    ensures { λ r. ⌜ r ≡ recordWord 5 k (old nodes) (i + 1) ⌝ }
 {
     nodes[i * 5 + k]
 }
 
 pub fn kind_of(nodes: &[u32], node: u32) -> u32
-    ensures { λ r. ⌜ r ≡ kindOf (now (nodes .entry)) node ⌝ }
+    ensures { λ r. ⌜ r ≡ kindOf (old nodes) node ⌝ }
 {
     record_word(nodes, 5, 0, node)
 }
 
 pub fn start_of(nodes: &[u32], node: u32) -> u32
-    ensures { λ r. ⌜ r ≡ startOf (now (nodes .entry)) node ⌝ }
+    ensures { λ r. ⌜ r ≡ startOf (old nodes) node ⌝ }
 {
     record_word(nodes, 5, 1, node)
 }
 
 pub fn end_of(nodes: &[u32], node: u32) -> u32
-    ensures { λ r. ⌜ r ≡ endOf (now (nodes .entry)) node ⌝ }
+    ensures { λ r. ⌜ r ≡ endOf (old nodes) node ⌝ }
 {
     record_word(nodes, 5, 2, node)
 }
 
 pub fn first_of(nodes: &[u32], node: u32) -> u32
-    ensures { λ r. ⌜ r ≡ firstOf (now (nodes .entry)) node ⌝ }
+    ensures { λ r. ⌜ r ≡ firstOf (old nodes) node ⌝ }
 {
     record_word(nodes, 5, 3, node)
 }
 
 pub fn count_of(nodes: &[u32], node: u32) -> u32
-    ensures { λ r. ⌜ r ≡ countOf (now (nodes .entry)) node ⌝ }
+    ensures { λ r. ⌜ r ≡ countOf (old nodes) node ⌝ }
 {
     record_word(nodes, 5, 4, node)
 }
 
 pub fn child_at(children: &[u32], place: usize) -> u32
-    ensures { λ r. ⌜ r ≡ childAt (now (children .entry)) place ⌝ }
+    ensures { λ r. ⌜ r ≡ childAt (old children) place ⌝ }
 {
     if place < children.len() {
         return children[place];
@@ -100,7 +102,7 @@ fn width_by(kind: u32, words: u32) -> usize
 
 // The child entries of a node.
 pub fn width_of(nodes: &[u32], node: u32) -> usize
-    ensures { λ r. ⌜ (r ≡ width (now (nodes .entry)) node) × (r < 2 ^ 33) ⌝ }
+    ensures { λ r. ⌜ (r ≡ width (old nodes) node) × (r < 2 ^ 33) ⌝ }
 {
     width_by(kind_of(nodes, node), count_of(nodes, node))
 }
@@ -108,26 +110,26 @@ pub fn width_of(nodes: &[u32], node: u32) -> usize
 // Those of node i + 1, which is there.
 pub(crate) fn width_at(nodes: &[u32], i: usize) -> usize
     requires { ⌜ i < length (now nodes) / 5 ⌝ }
-    ensures { λ r. ⌜ (r ≡ width (now (nodes .entry)) (i + 1)) × (r < 2 ^ 33) ⌝ }
+    ensures { λ r. ⌜ (r ≡ width (old nodes) (i + 1)) × (r < 2 ^ 33) ⌝ }
 {
     width_by(node_word(nodes, i, 0), node_word(nodes, i, 4))
 }
 
 pub fn name_start(names: &[u32], name: u32) -> u32
-    ensures { λ r. ⌜ r ≡ nameStart (now (names .entry)) name ⌝ }
+    ensures { λ r. ⌜ r ≡ nameStart (old names) name ⌝ }
 {
     record_word(names, 2, 0, name)
 }
 
 pub fn name_length(names: &[u32], name: u32) -> u32
-    ensures { λ r. ⌜ r ≡ nameLength (now (names .entry)) name ⌝ }
+    ensures { λ r. ⌜ r ≡ nameLength (old names) name ⌝ }
 {
     record_word(names, 2, 1, name)
 }
 
 // The bytes of a range, as far as they are there.
 fn bytes_at(bytes: &[u8], start: usize, count: usize) -> &[u8]
-    ensures { λ r. ⌜ now r ≡ part (now (bytes .entry)) start count ⌝ }
+    ensures { λ r. ⌜ now r ≡ part (old bytes) start count ⌝ }
 {
     if bytes.len() < start {
         return &bytes[0..0];
@@ -140,7 +142,7 @@ fn bytes_at(bytes: &[u8], start: usize, count: usize) -> &[u8]
 
 // A name's bytes, lent back from the text.
 pub fn name_bytes<'a>(names: &[u32], text: &'a [u8], name: u32) -> &'a [u8]
-    ensures { λ r. ⌜ now r ≡ nameBytes (now (names .entry)) (now (text .entry)) name ⌝ }
+    ensures { λ r. ⌜ now r ≡ nameBytes (old names) (old text) name ⌝ }
 {
     let start = name_start(names, name) as usize;
     let length = name_length(names, name) as usize;
@@ -149,7 +151,7 @@ pub fn name_bytes<'a>(names: &[u32], text: &'a [u8], name: u32) -> &'a [u8]
 
 // The bytes from start to end; none where it ends first.
 pub(crate) fn bytes_between(bytes: &[u8], start: usize, end: usize) -> &[u8]
-    ensures { λ r. ⌜ now r ≡ part (now (bytes .entry)) start (end - start) ⌝ }
+    ensures { λ r. ⌜ now r ≡ part (old bytes) start (end - start) ⌝ }
 {
     if end < start {
         return bytes_at(bytes, start, 0);
@@ -159,7 +161,7 @@ pub(crate) fn bytes_between(bytes: &[u8], start: usize, end: usize) -> &[u8]
 
 // A node's own text, lent back.
 pub fn node_text<'a>(nodes: &[u32], text: &'a [u8], node: u32) -> &'a [u8]
-    ensures { λ r. ⌜ now r ≡ part (now (text .entry)) (startOf (now (nodes .entry)) node) (endOf (now (nodes .entry)) node - startOf (now (nodes .entry)) node) ⌝ }
+    ensures { λ r. ⌜ now r ≡ part (old text) (startOf (old nodes) node) (endOf (old nodes) node - startOf (old nodes) node) ⌝ }
 {
     let start = start_of(nodes, node) as usize;
     bytes_between(text, start, end_of(nodes, node) as usize)
@@ -167,7 +169,7 @@ pub fn node_text<'a>(nodes: &[u32], text: &'a [u8], node: u32) -> &'a [u8]
 
 // The literal that a node refers to, or that it is none.
 pub fn extract_literal_key(nodes: &[u32], node: u32) -> Key
-    ensures { λ r. ⌜ r ≡ refOf (now (nodes .entry)) node ⌝ }
+    ensures { λ r. ⌜ r ≡ refOf (old nodes) node ⌝ }
 {
     let kind = kind_of(nodes, node);
     let first = first_of(nodes, node) as usize;
@@ -195,7 +197,7 @@ pub fn extract_literal_key(nodes: &[u32], node: u32) -> Key
 
 // Is it a node's number?
 pub fn is_node(nodes: &[u32], node: u32) -> bool
-    ensures { λ r. ⌜ r ≡ isNode (tables (now (nodes .entry)) [] [] [] [] []) node ⌝ }
+    ensures { λ r. ⌜ r ≡ isNode (tables (old nodes) [] [] [] [] []) node ⌝ }
 {
     if node < 1 {
         return false;
@@ -204,7 +206,7 @@ pub fn is_node(nodes: &[u32], node: u32) -> bool
 }
 
 pub fn same_bytes(a: &[u8], b: &[u8]) -> bool
-    ensures { λ r. ⌜ r ≡ sameBytes (now (a .entry)) (now (b .entry)) ⌝ }
+    ensures { λ r. ⌜ r ≡ sameBytes (old a) (old b) ⌝ }
 {
     if a.len() != b.len() {
         return false;
@@ -218,7 +220,7 @@ pub fn same_bytes(a: &[u8], b: &[u8]) -> bool
 }
 
 pub fn name_class(names: &[u32], text: &[u8], name: u32) -> NameClass
-    ensures { λ r. ⌜ r ≡ classOf (nameBytes (now (names .entry)) (now (text .entry)) name) ⌝ }
+    ensures { λ r. ⌜ r ≡ classOf (nameBytes (old names) (old text) name) ⌝ }
 {
     let bytes = name_bytes(names, text, name);
     if same_bytes(bytes, b"_") {
@@ -234,14 +236,14 @@ pub fn name_class(names: &[u32], text: &[u8], name: u32) -> NameClass
 }
 
 fn is_string(nodes: &[u32], node: u32) -> bool
-    ensures { λ r. ⌜ r ≡ eqb (kindOf (now (nodes .entry)) node) 1 ⌝ }
+    ensures { λ r. ⌜ r ≡ eqb (kindOf (old nodes) node) 1 ⌝ }
 {
     kind_of(nodes, node) == 1
 }
 
 // Are two nodes both strings of the string store?
 fn both_strings(nodes: &[u32], a: u32, b: u32) -> bool
-    ensures { λ r. ⌜ r ≡ (eqb (kindOf (now (nodes .entry)) a) 1 && eqb (kindOf (now (nodes .entry)) b) 1) ⌝ }
+    ensures { λ r. ⌜ r ≡ (eqb (kindOf (old nodes) a) 1 && eqb (kindOf (old nodes) b) 1) ⌝ }
 {
     if is_string(nodes, a) {
         return is_string(nodes, b);
@@ -251,7 +253,7 @@ fn both_strings(nodes: &[u32], a: u32, b: u32) -> bool
 
 // Two strings of the string store.
 fn compare_strings(nodes: &[u32], strings: &[u8], a: u32, b: u32) -> Comparison
-    ensures { λ r. ⌜ r ≡ compared (stringAt (now (strings .entry)) (firstOf (now (nodes .entry)) a) (countOf (now (nodes .entry)) a)) (stringAt (now (strings .entry)) (firstOf (now (nodes .entry)) b) (countOf (now (nodes .entry)) b)) ⌝ }
+    ensures { λ r. ⌜ r ≡ compared (stringOf (old nodes) (old strings) a) (stringOf (old nodes) (old strings) b) ⌝ }
 {
     compare_ranges(
         strings,
@@ -271,7 +273,7 @@ pub fn compare_literals(
     a: u32,
     b: u32,
 ) -> Comparison
-    ensures { λ r. ⌜ r ≡ compared (literalNode (now (nodes .entry)) (now (numbers .entry)) (now (strings .entry)) (now (text .entry)) a) (literalNode (now (nodes .entry)) (now (numbers .entry)) (now (strings .entry)) (now (text .entry)) b) ⌝ }
+    ensures { λ r. ⌜ r ≡ compared (lentLiteral nodes numbers strings text a) (lentLiteral nodes numbers strings text b) ⌝ }
 {
     if both_strings(nodes, a, b) {
         return compare_strings(nodes, strings, a, b);
@@ -294,7 +296,7 @@ pub fn compare_key_texts(
     a: u32,
     b: u32,
 ) -> Comparison
-    ensures { λ r. ⌜ r ≡ textsCompared (literalNode (now (nodes .entry)) (now (numbers .entry)) (now (strings .entry)) (now (text .entry)) a) (literalNode (now (nodes .entry)) (now (numbers .entry)) (now (strings .entry)) (now (text .entry)) b) ⌝ }
+    ensures { λ r. ⌜ r ≡ textsCompared (lentLiteral nodes numbers strings text a) (lentLiteral nodes numbers strings text b) ⌝ }
 {
     if both_strings(nodes, a, b) {
         return compare_strings(nodes, strings, a, b);

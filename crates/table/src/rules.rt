@@ -8,14 +8,17 @@ use crate::reading::name_start;
 use crate::reading::same_bytes;
 use literal::is_number;
 use scope::Scope;
+ghost use Rattle.base.specs.Lent.{old};
+ghost use Rattle.table.specs.Lent.{given, lent};
 ghost use mathlib.Core.Path.{_≡_};
 ghost use mathlib.Core.Bool.{true};
 ghost use mathlib.Core.List.{[]};
 ghost use Prim.Native.Nat.{_/_, _≤_};
 ghost use lib.ListN.{length};
 ghost use Rattle.table.specs.Tables.{tables};
-ghost use Rattle.table.specs.Rules.{allFrom, withinLimits, wholeRecords, nameOk, nameOkAt, numberOk, entryOk, scopeOk, followsRules};
-ghost use Rattle.table.specs.Passes.{listsOk};
+ghost use Rattle.base.specs.Lists.{allFrom};
+ghost use Rattle.table.specs.Rules.{withinLimits, wholeRecords, nameOk, nameOkAt, numberOk, entryOk, scopeOk, followsRules};
+ghost use Rattle.table.specs.code.Passes.{listsOk};
 
 pub(crate) fn within_limits(
     nodes: &[u32],
@@ -25,7 +28,7 @@ pub(crate) fn within_limits(
     strings: &[u8],
     text: &[u8],
 ) -> bool
-    ensures { λ r. ⌜ r ≡ withinLimits (tables (now (nodes .entry)) (now (children .entry)) (now (numbers .entry)) (now (names .entry)) (now (strings .entry)) (now (text .entry))) ⌝ }
+    ensures { λ r. ⌜ r ≡ withinLimits (lent nodes children numbers names strings text) ⌝ }
 {
     if 512 < nodes.len() / 5 {
         return false;
@@ -46,7 +49,7 @@ pub(crate) fn within_limits(
 }
 
 fn whole_records(nodes: &[u32], numbers: &[u64], names: &[u32]) -> bool
-    ensures { λ r. ⌜ r ≡ wholeRecords (tables (now (nodes .entry)) [] (now (numbers .entry)) (now (names .entry)) [] []) ⌝ }
+    ensures { λ r. ⌜ r ≡ wholeRecords (tables (old nodes) [] (old numbers) (old names) [] []) ⌝ }
 {
     if nodes.len() % 5 != 0 {
         return false;
@@ -58,7 +61,7 @@ fn whole_records(nodes: &[u32], numbers: &[u64], names: &[u32]) -> bool
 }
 
 fn name_ok(names: &[u32], text: &[u8], name: u32) -> bool
-    ensures { λ r. ⌜ r ≡ nameOk (tables [] [] [] (now (names .entry)) [] (now (text .entry))) name ⌝ }
+    ensures { λ r. ⌜ r ≡ nameOk (tables [] [] [] (old names) [] (old text)) name ⌝ }
 {
     let start = name_start(names, name) as usize;
     let length = name_length(names, name) as usize;
@@ -73,7 +76,7 @@ fn name_ok(names: &[u32], text: &[u8], name: u32) -> bool
 
 fn names_ok(names: &[u32], text: &[u8]) -> bool
     requires { ⌜ length (now names) / 2 ≤ 128 ⌝ }
-    ensures { λ r. ⌜ r ≡ allFrom (nameOkAt (tables [] [] [] (now (names .entry)) [] (now (text .entry)))) 0 (length (now (names .entry)) / 2) ⌝ }
+    ensures { λ r. ⌜ r ≡ allFrom (nameOkAt (tables [] [] [] (old names) [] (old text))) 0 (length (old names) / 2) ⌝ }
 {
     let total = names.len() / 2;
     let mut i: usize = 0;
@@ -87,7 +90,7 @@ fn names_ok(names: &[u32], text: &[u8]) -> bool
 }
 
 fn numbers_ok(numbers: &[u64]) -> bool
-    ensures { λ r. ⌜ r ≡ allFrom (numberOk (tables [] [] (now (numbers .entry)) [] [] [])) 0 (length (now (numbers .entry)) / 2) ⌝ }
+    ensures { λ r. ⌜ r ≡ allFrom (numberOk (tables [] [] (old numbers) [] [] [])) 0 (length (old numbers) / 2) ⌝ }
 {
     let total = numbers.len() / 2;
     let mut i: usize = 0;
@@ -102,7 +105,7 @@ fn numbers_ok(numbers: &[u64]) -> bool
 
 // Every child entry, used or not.
 fn entries_ok(nodes: &[u32], children: &[u32]) -> bool
-    ensures { λ r. ⌜ r ≡ allFrom (entryOk (tables (now (nodes .entry)) (now (children .entry)) [] [] [] [])) 0 (length (now (children .entry))) ⌝ }
+    ensures { λ r. ⌜ r ≡ allFrom (entryOk (tables (old nodes) (old children) [] [] [] [])) 0 (length (old children)) ⌝ }
 {
     let mut place: usize = 0;
     while place < children.len() {
@@ -116,7 +119,7 @@ fn entries_ok(nodes: &[u32], children: &[u32]) -> bool
 
 fn lists_ok(nodes: &[u32], children: &[u32], numbers: &[u64], names: &[u32], text: &[u8]) -> bool
     requires { ⌜ length (now names) / 2 ≤ 128 ⌝ }
-    ensures { λ r. ⌜ r ≡ listsOk (tables (now (nodes .entry)) (now (children .entry)) (now (numbers .entry)) (now (names .entry)) [] (now (text .entry))) ⌝ }
+    ensures { λ r. ⌜ r ≡ listsOk (tables (old nodes) (old children) (old numbers) (old names) [] (old text)) ⌝ }
 {
     if !whole_records(nodes, numbers, names) {
         return false;
@@ -131,7 +134,7 @@ fn lists_ok(nodes: &[u32], children: &[u32], numbers: &[u64], names: &[u32], tex
 }
 
 fn scope_ok(names: &[u32], text: &[u8], scope: Scope) -> bool
-    ensures { λ r. ⌜ r ≡ scopeOk (tables [] [] [] (now (names .entry)) [] (now (text .entry))) scope ⌝ }
+    ensures { λ r. ⌜ r ≡ scopeOk (tables [] [] [] (old names) [] (old text)) scope ⌝ }
 {
     if !scope.marks_ok() {
         return false;
@@ -155,8 +158,8 @@ pub(crate) fn follows_rules(
     text: &[u8],
     scope: Scope,
 ) -> bool
-    requires { ⌜ withinLimits (tables (now nodes) (now children) (now numbers) (now names) (now strings) (now text)) ≡ true ⌝ }
-    ensures { λ r. ⌜ r ≡ followsRules (tables (now (nodes .entry)) (now (children .entry)) (now (numbers .entry)) (now (names .entry)) (now (strings .entry)) (now (text .entry))) scope ⌝ }
+    requires { ⌜ withinLimits (given nodes children numbers names strings text) ≡ true ⌝ }
+    ensures { λ r. ⌜ r ≡ followsRules (lent nodes children numbers names strings text) scope ⌝ }
 {
     if !lists_ok(nodes, children, numbers, names, text) {
         return false;

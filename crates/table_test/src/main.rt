@@ -113,7 +113,10 @@ fn value_of(code: u64) -> u64 {
 }
 
 fn number_of(answer: TableAnswer) -> u64 {
-    refusal_number(answer) as u64
+    match answer {
+        TableAnswer::Sound => 0,
+        TableAnswer::Refused(refused) => refusal_number(refused) as u64,
+    }
 }
 
 fn put_word(list: &mut [u32], here: bool, index: usize, value: u64) {

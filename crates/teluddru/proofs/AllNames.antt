@@ -6,31 +6,31 @@ use mathlib.Core.List.{List}
 use lib.ListN.{length}
 use Rattle.scope.specs.declared.Scope.{Scope}
 use Rattle.scope.specs.declared.ScopingMode.{ScopingMode}
-use Rattle.scope.specs.Scope.{isUnbound}
-use Rattle.table.specs.declared.TableAnswer.the-variants.{OverLimit}
+use Rattle.scope.specs.Scope.{known}
 use Rattle.table.specs.Tables.{Tables, nameCount}
 use Rattle.table.specs.Check.{checked}
 use Rattle.table.specs.Decode.{expr}
 use Rattle.planner.specs.declared.PlanAnswer.{PlanAnswer}
-use Rattle.planner.specs.declared.PlanAnswer.the-variants as PlanAnswers
+use Rattle.base.specs.Refusal as Refusal
+use Rattle.base.specs.Refusal.{Refusal, overLimit}
 use Rattle.planner.specs.Operations as Plan
 use Rattle.planner.specs.Operations.{Outcome, Answered}
 use Rattle.report.specs.declared.ReportAnswer.{ReportAnswer}
-use Rattle.report.specs.declared.ReportAnswer.the-variants as ReportAnswers
-use Rattle.report.specs.Report.{reportAnswer, reportList, ReportedBy}
+use Rattle.report.specs.Report as Report
+use Rattle.report.specs.Report.{ReportOutcome, reportOutcome, reportAnswer, reportList, ReportedBy}
 use Rattle.run.specs.declared.RunAnswer.{RunAnswer}
-use Rattle.run.specs.declared.RunAnswer.the-variants as RunAnswers
 use Rattle.run.specs.Operations.{RunOutcome, refused, runOutcome, plannedName, Ran, valuesAfter}
 use Rattle.teluddru.specs.declared.Name.{Name}
 use Rattle.teluddru.specs.declared.Operation.{Operation}
 use Rattle.teluddru.specs.declared.Operation.the-variants.{Pattern, ColonEquals, Equals, SomeIn, Index, Parameter}
 use Rattle.teluddru.specs.declared.records.NameWords.{NameWords}
-use Rattle.teluddru.specs.Records.{nameWords, held, Copied}
+use Rattle.teluddru.specs.Records.{nameWords}
+use Rattle.teluddru.specs.code.Copying.{held, Copied}
 use Rattle.teluddru.specs.Outcome.{operationOutcome}
 use Rattle.teluddru.proofs.Limits.{over-limit, as-all}
 
 -- ---- over the limit of names each call is refused
-plan-refused : (T : Tables) (s : Scope) (operation : Operation) → checked T s ≡ OverLimit → operationOutcome T s operation ≡ Plan.refused (PlanAnswers.TableRefused OverLimit)
+plan-refused : (T : Tables) (s : Scope) (operation : Operation) → checked T s ≡ Refusal.refused overLimit → operationOutcome T s operation ≡ Plan.refused overLimit
 unfolding operationOutcome
 plan-refused T s (Pattern scoping root) e = simp e
 plan-refused T s (ColonEquals left right) e = simp e
@@ -39,21 +39,21 @@ plan-refused T s (SomeIn value collection key) e = simp e
 plan-refused T s (Index root) e = simp e
 plan-refused T s (Parameter scoping root) e = simp e
 
-run-refused : (T : Tables) (s : Scope) (mode : ScopingMode) (pattern value : ℕ) (values : List ℕ) → checked T s ≡ OverLimit → runOutcome T s mode pattern value values ≡ refused (RunAnswers.TableRefused OverLimit)
+run-refused : (T : Tables) (s : Scope) (mode : ScopingMode) (pattern value : ℕ) (values : List ℕ) → checked T s ≡ Refusal.refused overLimit → runOutcome T s mode pattern value values ≡ refused overLimit
 run-refused T s mode pattern value values e = simp e
 
-report-refused : (T : Tables) (s : Scope) (pattern : ℕ) (list : List ℕ) → checked T s ≡ OverLimit → reportAnswer T s pattern list ≡ ReportAnswers.TableRefused OverLimit
+report-refused : (T : Tables) (s : Scope) (pattern : ℕ) (list : List ℕ) → checked T s ≡ Refusal.refused overLimit → reportOutcome T s pattern list ≡ Report.refused overLimit
 report-refused T s pattern list e = simp e
 
 -- a refused run sets no name
-sets-none : (names names′ : ℕ → Bool) {a : RunAnswer} {values buffer valuesExit bufferExit : List ℕ} {r : RunAnswer}
+sets-none : (names names′ : ℕ → Bool) {a : Refusal} {values buffer valuesExit bufferExit : List ℕ} {r : RunAnswer}
     → Ran names (refused a) values buffer valuesExit bufferExit r → Ran names′ (refused a) values buffer valuesExit bufferExit r
 unfolding valuesAfter
 sets-none names names′ ran = record { answer = ran .answer; plan = ran .plan; list = ran .list }
 
 -- ---- tables over names
 module _ (over : List ℕ → Tables) (counts : (names : List ℕ) → nameCount (over names) ≡ length names / 2) (s : Scope) where
-  too-many : (names : List ℕ) → 128 < length names / 2 → checked (over names) s ≡ OverLimit
+  too-many : (names : List ℕ) → 128 < length names / 2 → checked (over names) s ≡ Refusal.refused overLimit
   too-many names l = over-limit (over names) s (subst (λ (k : ℕ). 128 < k) (sym (counts names)) l)
 
   pub plan-all : (operation : Operation) (ns : List Name) (names : NameWords) → Copied ns names → {before later : List ℕ} {r : PlanAnswer}
@@ -65,7 +65,7 @@ module _ (over : List ℕ → Tables) (counts : (names : List ℕ) → nameCount
 
   module _ (mode : ScopingMode) (pattern : ℕ) where
     abbrev toSet : List ℕ → ℕ → Bool
-    toSet ws = plannedName (isUnbound s mode) (expr (over ws) pattern)
+    toSet ws = plannedName (known s mode) (expr (over ws) pattern)
 
     abbrev outcome : ℕ → List ℕ → List ℕ → RunOutcome
     outcome value values ws = runOutcome (over ws) s mode pattern value values
@@ -86,7 +86,7 @@ module _ (over : List ℕ → Tables) (counts : (names : List ℕ) → nameCount
         let e = report-refused (over ws) s pattern before (too-many ws l) in
         let e′ = report-refused (over ws′) s pattern before (too-many ws′ l′) in
         record {
-          answer = by .answer ∙ e ∙ sym e′;
-          list = by .list ∙ ap (λ (a : ReportAnswer). reportList a (over ws) s mode pattern before) e ∙ sym (ap (λ (a : ReportAnswer). reportList a (over ws′) s mode pattern before) e′);
+          answer = by .answer ∙ ap reportAnswer (e ∙ sym e′);
+          list = by .list ∙ ap (λ (o : ReportOutcome). reportList o (over ws) s mode pattern before) e ∙ sym (ap (λ (o : ReportOutcome). reportList o (over ws′) s mode pattern before) e′);
         })
         ns names copied

@@ -7,7 +7,8 @@ use native.Mathlib.Nat.{not-suc-le-zero}
 use lib.ListN.{length, set, take, length-take}
 use lib.Seq.{length-take-le}
 use Rattle.teluddru.specs.declared.Name.{Name}
-use Rattle.teluddru.specs.Records.{nameWords, nameAt, Copied}
+use Rattle.teluddru.specs.Records.{nameWords}
+use Rattle.teluddru.specs.code.Copying.{nameAt, Copied}
 
 -- how many are copied
 count-small : (n : ℕ) → min 129 n ≤ 129

@@ -5,3 +5,4 @@ pub mod AllNames
 pub mod LocalArray
 pub mod Trials
 pub mod Passing
+pub mod Demand

@@ -8,14 +8,15 @@ use lib.Dec.{leb}
 use lib.ListN.{length, take, length-take}
 use lib.Seq.{take-all}
 use borrow.Author.Tests.{lt-leb, leb-true, leb-false}
+use Rattle.base.specs.Refusal.{refused, overLimit}
 use Rattle.scope.specs.declared.Scope.{Scope}
-use Rattle.table.specs.declared.TableAnswer.the-variants.{OverLimit}
 use Rattle.table.specs.Tables.{Tables, nodeCount, numberCount, nameCount}
 use Rattle.table.specs.Rules.{withinLimits}
 use Rattle.table.specs.Check.{checked}
 use Rattle.teluddru.specs.declared.Name.{Name}
 use Rattle.teluddru.specs.declared.records.NameWords.{NameWords}
-use Rattle.teluddru.specs.Records.{nameWords, held, Copied}
+use Rattle.teluddru.specs.Records.{nameWords}
+use Rattle.teluddru.specs.code.Copying.{held, Copied}
 use Rattle.teluddru.proofs.Copying.{words-length}
 
 fails-fourth : (a b c d e : Bool) → d ≡ false → (a && (b && (c && (d && e)))) ≡ false
@@ -31,7 +32,7 @@ outside T l =
     fails-fourth (leb (nodeCount T) 512) (leb (length (T .children)) 512) (leb (numberCount T) 256) (leb (nameCount T) 128)
     (leb (length (T .strings)) 8192 && leb (length (T .text)) 16384) (lt-leb (nameCount T) 128 l)
 
-pub over-limit : (T : Tables) (s : Scope) → 128 < nameCount T → checked T s ≡ OverLimit
+pub over-limit : (T : Tables) (s : Scope) → 128 < nameCount T → checked T s ≡ refused overLimit
 unfolding checked
 over-limit T s l = let e = outside T l in simp e
 

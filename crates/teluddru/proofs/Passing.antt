@@ -33,7 +33,7 @@ use Rattle.scope.proofs.Scope.Laws as S′
 use Rattle.table.specs.Tables.{Tables, tables}
 use Rattle.teluddru.specs.declared.Name.{Name}
 use Rattle.teluddru.specs.declared.records.NameWords.{NameWords}
-use Rattle.teluddru.specs.Records.{Copied}
+use Rattle.teluddru.specs.code.Copying.{Copied}
 use Rattle.teluddru.proofs.Name as T
 use Rattle.teluddru.proofs.records.NameWords as N
 use Rattle.teluddru.proofs.records.NameWords.Laws as N′

@@ -5,23 +5,24 @@ use Rattle.literal.specs.Literal.{isNumber}
 use Rattle.literal.specs.Reading.{literalOf}
 use Rattle.literal.specs.Order.{bytesOrder, keyOrder}
 use Rattle.literal.specs.Text.{keyText, digits}
-use Rattle.scope.specs.Scope.{isUnderscore, declaredUnbound, local, bound, global, isUnbound, isName, sameScope, smallMarks, marksOk}
+use Rattle.scope.specs.Scope.{isUnderscore, declaredUnbound, local, bound, global, isUnbound, known, isName, sameScope, smallMarks, marksOk}
 use Rattle.table.specs.Tables.{recordWord, widthOf, nameBytes}
 use Rattle.table.specs.Names.{sameBytes}
 use Rattle.table.specs.Expr.{depth, count}
 use Rattle.table.specs.Decode.{refOf, literalNode, items, fields, headed, exprAt, expr}
-use Rattle.table.specs.Rules.{allFrom, elem, noRepeat, withinLimits, wholeRecords, spanOk, nameTextOk, wordsOk, childrenBelow, nodeOk, placesFrom, usedPlaces, nameOk, scopeOk, followsRules, shallow, namesDiffer}
+use Rattle.base.specs.Lists.{allFrom, elem, noRepeat, tabulate}
+use Rattle.table.specs.Rules.{withinLimits, wholeRecords, spanOk, nameTextOk, wordsOk, childrenBelow, nodeOk, placesFrom, usedPlaces, nameOk, scopeOk, followsRules, shallow, namesDiffer}
 use Rattle.table.specs.Check.{checked}
 use Rattle.planner.specs.Plan.{plan}
 use Rattle.planner.specs.Layout.{insert, concat, entries, words, bindsAny}
 use Rattle.planner.specs.Operations.{answered, written}
-use Rattle.checks.specs.Structure.{planOrder, keyTexts, insertText, sortTexts, sameTexts, structure}
-use Rattle.planner.specs.Held.{heldUnder}
-use Rattle.pairs.specs.Pairs.{pairsEntries, flatten}
+use Rattle.checks.specs.Structure.{keyTexts, insertText, sortTexts, sameTexts, structure}
+use Rattle.planner.specs.Held.{heldUnder, valueOrder}
+use Rattle.assignment.specs.Pairs.{pairsEntries, flatten}
 use Rattle.assignment.specs.Assignment.{firstSameScope}
-use Rattle.planner.specs.code.Post.{tabulate}
-use Rattle.planner.specs.Simple.{simple, hasKey, differing, keysOf, mentions}
-use Rattle.value.specs.Value.{valueOf, isValue, same, within, keysᵛ, under}
+use Rattle.planner.specs.Simple.{hasKey, differing, keysOf, admitted}
+use Rattle.value.specs.Value.{valueOf, same, within, keysᵛ, under}
+use Rattle.planner.specs.Names.{occurrences, namesOf}
 use Rattle.matching.specs.Matching.{run, planKeys, sameLength}
 use Rattle.run.specs.Operations.{valuesListed, knownListed, runAnswer, valuesAfter}
 use Rattle.teluddru.specs.Outcome.{operationOutcome}
@@ -34,5 +35,5 @@ abbrev expectedIn : Trial → Shown
 expectedIn t = t .expected
 
 pub trials-hold : map shownIn trials ≡ map expectedIn trials
-unfolding isNumber literalOf bytesOrder keyOrder keyText digits isUnderscore declaredUnbound local bound global isUnbound isName sameScope smallMarks marksOk recordWord widthOf nameBytes sameBytes depth count refOf literalNode items fields headed exprAt expr allFrom elem noRepeat withinLimits wholeRecords spanOk nameTextOk wordsOk childrenBelow nodeOk placesFrom usedPlaces nameOk scopeOk followsRules shallow namesDiffer checked plan insert concat entries words bindsAny answered written planOrder keyTexts insertText sortTexts sameTexts heldUnder structure pairsEntries flatten firstSameScope rows oneByteEach positive operationOutcome simple hasKey differing keysOf mentions valueOf isValue same within keysᵛ under run planKeys sameLength valuesListed knownListed runAnswer valuesAfter tabulate
+unfolding isNumber literalOf bytesOrder keyOrder keyText digits isUnderscore declaredUnbound local bound global isUnbound known isName sameScope smallMarks marksOk recordWord widthOf nameBytes sameBytes depth count refOf literalNode items fields headed exprAt expr allFrom elem noRepeat withinLimits wholeRecords spanOk nameTextOk wordsOk childrenBelow nodeOk placesFrom usedPlaces nameOk scopeOk followsRules shallow namesDiffer checked plan insert concat entries words bindsAny answered written valueOrder keyTexts insertText sortTexts sameTexts heldUnder structure pairsEntries flatten firstSameScope rows oneByteEach positive operationOutcome admitted hasKey differing keysOf occurrences namesOf valueOf same within keysᵛ under run planKeys sameLength valuesListed knownListed runAnswer valuesAfter tabulate
 trials-hold = refl

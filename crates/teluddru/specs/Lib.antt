@@ -1,3 +1,5 @@
 pub mod Records
 pub mod Outcome
 pub mod Trial
+pub mod Demand
+pub mod code

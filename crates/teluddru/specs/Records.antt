@@ -1,28 +1,24 @@
 -- Names as records, and as the pairs of words that the crates below read.
-use Prim.Native.Nat.{ℕ, _*_, _≤_}
-use mathlib.Core.Path.{_≡_}
+use Prim.Native.Nat.{ℕ}
 use mathlib.Core.List.{List, [], _∷_}
-use lib.ListN.{getD, take}
+use denote.Ref.{RefT}
+use denote.Triple.Both.{Both}
+use Rattle.table.specs.Tables.{Tables, tables}
+use Rattle.base.specs.Lent.{Slices, old}
 use Rattle.teluddru.specs.declared.Name.{Name}
-use Rattle.teluddru.specs.declared.records.NameWords.{NameWords}
 
 -- start, length, start, length, ..
 unfoldable pub nameWords : List Name → List ℕ
 nameWords [] = []
 nameWords (n ∷ ns) = n .start ∷ n .length ∷ nameWords ns
 
--- what stands where there is no record
-abbrev pub none : Name
-none = record { start = 0; length = 0 }
+-- lent records, as an `ensures` names them, and what they say
+abbrev pub Records : Type 0
+Records = Both (RefT (List Name)) (RefT (List Name))
 
-abbrev pub nameAt : List Name → ℕ → Name
-nameAt names i = getD names i none
+abbrev pub recordsIn : Records → List Name
+recordsIn names = names .entry .now
 
--- the words of the first `count` names
-abbrev pub held : NameWords → List ℕ
-held names = take (names .count * 2) (names .words)
-
--- the first 129 records, one more than the limit of names
-pub record Copied (records : List Name) (names : NameWords) : Type 0 where
-  pub few : names .count ≤ 129
-  pub same : held names ≡ nameWords (take 129 records)
+-- the tables that a function is lent, the names as records
+abbrev pub lentRecords : Slices → Slices → Slices → Records → Slices → Slices → Tables
+lentRecords nodes children numbers names strings text = tables (old nodes) (old children) (old numbers) (nameWords (recordsIn names)) (old strings) (old text)

@@ -6,13 +6,12 @@ use mathlib.Core.List.{List, [], _∷_, _++_}
 use lib.ListN.{length, getD, drop, replicate}
 use Rattle.scope.specs.declared.Scope.{Scope}
 use Rattle.scope.specs.declared.ScopingMode.the-variants.{RespectParent}
-use Rattle.scope.specs.Scope.{isUnbound}
+use Rattle.scope.specs.Scope.{known}
 use Rattle.table.specs.Tables.{Tables, tables, nameCount}
 use Rattle.table.specs.Decode.{expr}
-use Rattle.planner.specs.Answer.{Line, line, lineOf}
+use Rattle.base.specs.Refusal.{Line, line}
 use Rattle.planner.specs.Operations.{Outcome, answered, written}
-use Rattle.run.specs.declared.RunAnswer.{RunAnswer}
-use Rattle.run.specs.declared.RunAnswer.the-variants.{Match}
+use Rattle.run.specs.Answer.{RunResult, aMatch}
 use Rattle.run.specs.Operations.{RunOutcome, runOutcome, runAnswer, valuesAfter, plannedName}
 use Rattle.teluddru.specs.declared.Operation.{Operation}
 use Rattle.teluddru.specs.declared.Operation.the-variants.{Pattern, ColonEquals, Equals}
@@ -21,7 +20,7 @@ use Rattle.teluddru.specs.Outcome.{operationOutcome}
 -- an answer's line with its entries, or a run's answer with the list afterwards
 pub data Shown : Type 0 where
   planned : List Line → Shown
-  ran : RunAnswer → List ℕ → Shown
+  ran : RunResult → List ℕ → Shown
 
 pub record Trial : Type 0 where
   pub shown : Shown
@@ -41,7 +40,7 @@ abbrev pub entriesIn : Line → ℕ
 entriesIn l = cond (eqb (l .number) 0) (l .fourth) 0
 
 abbrev pub listing : Outcome → List Line
-listing o = lineOf (answered o blank) ∷ rows (entriesIn (lineOf (answered o blank))) (written o blank)
+listing o = answered o blank ∷ rows (entriesIn (answered o blank)) (written o blank)
 
 -- Marks of the names 1, 2 and so on; the others have none.
 abbrev pub marked : List ℕ → Scope
@@ -102,7 +101,7 @@ afterRun toSet outcome values = ran (runAnswer outcome blank) (valuesAfter toSet
 
 abbrev pub runFrom : List ℕ → Tables → ℕ → ℕ → Shown
 runFrom values T root value =
-    afterRun (plannedName (isUnbound (marked []) RespectParent) (expr T root)) (runOutcome T (marked []) RespectParent root value values) values
+    afterRun (plannedName (known (marked []) RespectParent) (expr T root)) (runOutcome T (marked []) RespectParent root value values) values
 
 -- from a list in which no name has a value
 abbrev pub running : Tables → ℕ → ℕ → Shown
@@ -205,6 +204,6 @@ trials =
           (rule (x ∷ []) (98 ∷ 97 ∷ []) (1 ∷ 1 ∷ []) (1 ∷ 2 ∷ 3 ∷ 4 ∷ 6 ∷ 7 ∷ 8 ∷ 9 ∷ [])
           (stringNode 0 1 (nameNode 1 (stringNode 1 1 (nameNode 1 (objectNode 0 2 (stringNode 1 1 (numberNode 0 (stringNode 0 1 (numberNode 1 (objectNode 4 2 [])))))))))))
           5 10;
-      expected = ran Match (9 ∷ []);
+      expected = ran aMatch (9 ∷ []);
     }
     ∷ []

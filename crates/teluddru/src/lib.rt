@@ -13,13 +13,10 @@ use report::ReportAnswer;
 use run::RunAnswer;
 use scope::Scope;
 use scope::ScopingMode;
-ghost use Rattle.scope.specs.Scope.{isUnbound};
-ghost use Rattle.table.specs.Tables.{tables};
-ghost use Rattle.table.specs.Decode.{expr};
-ghost use Rattle.planner.specs.Operations.{Answered};
-ghost use Rattle.report.specs.Report.{ReportedBy};
-ghost use Rattle.run.specs.Operations.{runOutcome, plannedName, Ran};
-ghost use Rattle.teluddru.specs.Records.{nameWords};
+ghost use Rattle.planner.specs.Operations.{AnsweredIn};
+ghost use Rattle.report.specs.Report.{ReportedIn};
+ghost use Rattle.run.specs.Operations.{RanIn};
+ghost use Rattle.teluddru.specs.Records.{lentRecords};
 ghost use Rattle.teluddru.specs.Outcome.{operationOutcome};
 
 // A range of the rule text.
@@ -68,7 +65,7 @@ pub fn plan(
     operation: Operation,
     plan: &mut [u32],
 ) -> PlanAnswer
-    ensures { λ r. ⌜ Answered (operationOutcome (tables (now (nodes .entry)) (now (children .entry)) (now (numbers .entry)) (nameWords (now (names .entry))) (now (strings .entry)) (now (text .entry))) scope operation) (now (plan .entry)) (now (plan .exit)) r ⌝ }
+    ensures { λ r. ⌜ AnsweredIn plan (operationOutcome (lentRecords nodes children numbers names strings text) scope operation) r ⌝ }
 {
     plan_words(
         nodes,
@@ -98,7 +95,7 @@ pub fn run(
     values: &mut [u32],
     plan: &mut [u32],
 ) -> RunAnswer
-    ensures { λ r. ⌜ Ran (plannedName (isUnbound scope scoping) (expr (tables (now (nodes .entry)) (now (children .entry)) (now (numbers .entry)) (nameWords (now (names .entry))) (now (strings .entry)) (now (text .entry))) pattern)) (runOutcome (tables (now (nodes .entry)) (now (children .entry)) (now (numbers .entry)) (nameWords (now (names .entry))) (now (strings .entry)) (now (text .entry))) scope scoping pattern value (now (values .entry))) (now (values .entry)) (now (plan .entry)) (now (values .exit)) (now (plan .exit)) r ⌝ }
+    ensures { λ r. ⌜ RanIn values plan (lentRecords nodes children numbers names strings text) scope scoping pattern value r ⌝ }
 {
     run_words(
         nodes,
@@ -129,7 +126,7 @@ pub fn names_report(
     pattern: u32,
     list: &mut [u32],
 ) -> ReportAnswer
-    ensures { λ r. ⌜ ReportedBy (tables (now (nodes .entry)) (now (children .entry)) (now (numbers .entry)) (nameWords (now (names .entry))) (now (strings .entry)) (now (text .entry))) scope scoping pattern (now (list .entry)) (now (list .exit)) r ⌝ }
+    ensures { λ r. ⌜ ReportedIn list (lentRecords nodes children numbers names strings text) scope scoping pattern r ⌝ }
 {
     report_words(
         nodes,

@@ -9,10 +9,10 @@ use planner::parameters::create_loop_index_binding_plan;
 use planner::parameters::create_parameter_binding_plan;
 use scope::Scope;
 use some_in::create_some_in_binding_plan;
+ghost use Rattle.table.specs.Lent.{lent};
 ghost use Prim.Native.Nat.{_≤_};
-ghost use Rattle.table.specs.Tables.{tables};
-ghost use Rattle.planner.specs.Operations.{Answered};
-ghost use Rattle.teluddru.specs.Records.{held};
+ghost use Rattle.planner.specs.Operations.{AnsweredIn};
+ghost use Rattle.teluddru.specs.code.Copying.{lentWords};
 ghost use Rattle.teluddru.specs.Outcome.{operationOutcome};
 
 fn plan_operation(
@@ -26,7 +26,7 @@ fn plan_operation(
     operation: Operation,
     plan: &mut [u32],
 ) -> PlanAnswer
-    ensures { λ r. ⌜ Answered (operationOutcome (tables (now (nodes .entry)) (now (children .entry)) (now (numbers .entry)) (now (names .entry)) (now (strings .entry)) (now (text .entry))) scope operation) (now (plan .entry)) (now (plan .exit)) r ⌝ }
+    ensures { λ r. ⌜ AnsweredIn plan (operationOutcome (lent nodes children numbers names strings text) scope operation) r ⌝ }
 {
     match operation {
         Operation::Pattern { scoping, root } => create_destructuring_plan(
@@ -122,7 +122,7 @@ pub(crate) fn plan_words(
     plan: &mut [u32],
 ) -> PlanAnswer
     requires { ⌜ names .count ≤ 129 ⌝ }
-    ensures { λ r. ⌜ Answered (operationOutcome (tables (now (nodes .entry)) (now (children .entry)) (now (numbers .entry)) (held names) (now (strings .entry)) (now (text .entry))) scope operation) (now (plan .entry)) (now (plan .exit)) r ⌝ }
+    ensures { λ r. ⌜ AnsweredIn plan (operationOutcome (lentWords nodes children numbers names strings text) scope operation) r ⌝ }
 {
     let all = &names.words[..];
     let end = names.count * 2;

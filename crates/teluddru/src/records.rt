@@ -1,9 +1,11 @@
 // Names from records to pairs of words. A function that takes the records is proved by hand.
 use crate::Name;
+ghost use Rattle.base.specs.Lent.{old, new};
 ghost use mathlib.Core.Path.{_≡_};
 ghost use Prim.Native.Nat.{_+_, _*_, _<_, min};
 ghost use lib.ListN.{length, set};
-ghost use Rattle.teluddru.specs.Records.{nameAt, Copied};
+ghost use Rattle.teluddru.specs.Records.{recordsIn};
+ghost use Rattle.teluddru.specs.code.Copying.{nameAt, Copied};
 
 // The first `count` pairs of the words are names.
 pub(crate) struct NameWords {
@@ -13,7 +15,7 @@ pub(crate) struct NameWords {
 
 fn name_at(names: &[Name], i: usize) -> Name
     requires { ⌜ i < length (now names) ⌝ }
-    ensures { λ r. ⌜ r ≡ nameAt (now (names .entry)) i ⌝ }
+    ensures { λ r. ⌜ r ≡ nameAt (recordsIn names) i ⌝ }
 {
     names[i]
 }
@@ -27,7 +29,7 @@ fn copied_count(count: usize) -> usize
 
 fn put_pair(words: &mut [u32; 258], i: usize, start: u32, length: u32)
     requires { ⌜ i < 129 ⌝ }
-    ensures { λ _. ⌜ now (words .exit) ≡ set (set (now (words .entry)) (i * 2) start) (i * 2 + 1) length ⌝ }
+    ensures { λ _. ⌜ new words ≡ set (set (old words) (i * 2) start) (i * 2 + 1) length ⌝ }
 {
     let at = i * 2;
     words[at] = start;
@@ -36,7 +38,7 @@ fn put_pair(words: &mut [u32; 258], i: usize, start: u32, length: u32)
 
 // Start and length of each record that is copied.
 pub(crate) fn copy_names(names: &[Name]) -> NameWords
-    ensures { λ r. ⌜ Copied (now (names .entry)) r ⌝ }
+    ensures { λ r. ⌜ Copied (recordsIn names) r ⌝ }
 {
     let mut words = [0u32; 258];
     let count = copied_count(names.len());

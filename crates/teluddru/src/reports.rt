@@ -5,9 +5,8 @@ use report::names_report;
 use scope::Scope;
 use scope::ScopingMode;
 ghost use Prim.Native.Nat.{_≤_};
-ghost use Rattle.table.specs.Tables.{tables};
-ghost use Rattle.report.specs.Report.{ReportedBy};
-ghost use Rattle.teluddru.specs.Records.{held};
+ghost use Rattle.report.specs.Report.{ReportedIn};
+ghost use Rattle.teluddru.specs.code.Copying.{lentWords};
 
 pub(crate) fn report_words(
     nodes: &[u32],
@@ -22,7 +21,7 @@ pub(crate) fn report_words(
     list: &mut [u32],
 ) -> ReportAnswer
     requires { ⌜ names .count ≤ 129 ⌝ }
-    ensures { λ r. ⌜ ReportedBy (tables (now (nodes .entry)) (now (children .entry)) (now (numbers .entry)) (held names) (now (strings .entry)) (now (text .entry))) scope scoping pattern (now (list .entry)) (now (list .exit)) r ⌝ }
+    ensures { λ r. ⌜ ReportedIn list (lentWords nodes children numbers names strings text) scope scoping pattern r ⌝ }
 {
     let all = &names.words[..];
     let end = names.count * 2;

@@ -5,11 +5,8 @@ use run::run;
 use scope::Scope;
 use scope::ScopingMode;
 ghost use Prim.Native.Nat.{_≤_};
-ghost use Rattle.scope.specs.Scope.{isUnbound};
-ghost use Rattle.table.specs.Tables.{tables};
-ghost use Rattle.table.specs.Decode.{expr};
-ghost use Rattle.run.specs.Operations.{runOutcome, plannedName, Ran};
-ghost use Rattle.teluddru.specs.Records.{held};
+ghost use Rattle.run.specs.Operations.{RanIn};
+ghost use Rattle.teluddru.specs.code.Copying.{lentWords};
 
 pub(crate) fn run_words(
     nodes: &[u32],
@@ -26,7 +23,7 @@ pub(crate) fn run_words(
     plan: &mut [u32],
 ) -> RunAnswer
     requires { ⌜ names .count ≤ 129 ⌝ }
-    ensures { λ r. ⌜ Ran (plannedName (isUnbound scope scoping) (expr (tables (now (nodes .entry)) (now (children .entry)) (now (numbers .entry)) (held names) (now (strings .entry)) (now (text .entry))) pattern)) (runOutcome (tables (now (nodes .entry)) (now (children .entry)) (now (numbers .entry)) (held names) (now (strings .entry)) (now (text .entry))) scope scoping pattern value (now (values .entry))) (now (values .entry)) (now (plan .entry)) (now (values .exit)) (now (plan .exit)) r ⌝ }
+    ensures { λ r. ⌜ RanIn values plan (lentWords nodes children numbers names strings text) scope scoping pattern value r ⌝ }
 {
     let all = &names.words[..];
     let end = names.count * 2;

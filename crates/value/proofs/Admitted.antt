@@ -1,6 +1,6 @@
--- Simple patterns and values by one definition, and what is admitted of a node is admitted of its parts.
+-- What is admitted of a node is admitted of its parts.
 use Prim.Native.Nat.{ℕ, zero, suc, _+_, _-_, _*_, _≤_, _<_}
-use mathlib.Core.Path.{_≡_, refl, sym, ap, ap₂, _∙_}
+use mathlib.Core.Path.{_≡_, refl, ap}
 use mathlib.Core.List.{List, _∷_}
 use mathlib.Core.Bool.{Bool, true, false, cond, _&&_, false≢true}
 use mathlib.Core.Option.{Option}
@@ -13,56 +13,16 @@ use Rattle.table.specs.Tables.{Tables, kindOf, firstOf, countOf, childAt}
 use Rattle.table.specs.Expr as Expr
 use Rattle.table.specs.Expr.{Expr, literal, name, wildcard, array, set, object, other, Exprs, item, Fields, done, field}
 use Rattle.table.specs.Decode.{expr, items, fields, isWildcard, fieldsOf}
-use Rattle.table.specs.Sound.{Node, WellFormed}
+use Rattle.table.specs.code.Sound.{Node, WellFormed}
 use Rattle.table.proofs.tests.Bools.{and-true}
 use Rattle.table.proofs.trees.Trees.{expr-name, expr-array, expr-object, width-array, width-object, child-node}
 use Rattle.planner.specs.Layout.{literalKey}
 use Rattle.planner.specs.code.Passes.{keyNode, valueNode}
-use Rattle.planner.specs.Simple.{addKey, keysOf, isLiteral, differing, simple, simpleAll, simpleFields}
+use Rattle.planner.specs.Simple.{addKey, keysOf, isLiteral, differing, admitted, admittedAll, admittedFields}
 use Rattle.planner.proofs.destructuring.NodeKinds.{Plain, plain-literal, plain-set, plain-other, plain-kind}
-use Rattle.value.specs.Value.{isValue, areValues, holdValues, filledField, valueOf, valuesOf, valueFieldsOf, keysᵛ, proper, properAll, properFields, Proper}
-use Rattle.value.specs.Post.{admitted, admittedAll, admittedFields, ChildrenAsks, KeyedObject, ValueNode}
+use Rattle.value.specs.Value.{isValue, filledField, valueOf, valuesOf, valueFieldsOf, keysᵛ, proper, properAll, properFields, Proper}
+use Rattle.value.specs.code.Post.{ChildrenAsks, KeyedObject, ValueNode}
 use Rattle.value.proofs.Keys.{and-left, and-right, both}
-
-mutual
-  unfolding admitted simple
-
-  pub admits-simple : (e : Expr) → admitted true e ≡ simple e
-  admits-simple (literal n l) = refl
-  admits-simple (name n x) = refl
-  admits-simple (wildcard n) = refl
-  admits-simple (array n es) = admits-simple-all es
-  admits-simple (set n es) = refl
-  admits-simple (object n fs) = ap (λ (b : Bool). differing (keysOf fs) && b) (admits-simple-fields fs)
-  admits-simple (other n) = refl
-
-  admits-simple-all : (es : Exprs) → admittedAll true es ≡ simpleAll es
-  admits-simple-all Expr.none = refl
-  admits-simple-all (item e es) = ap₂ (λ (a b : Bool). a && b) (admits-simple e) (admits-simple-all es)
-
-  admits-simple-fields : (fs : Fields) → admittedFields true fs ≡ simpleFields fs
-  admits-simple-fields done = refl
-  admits-simple-fields (field k v fs) = ap₂ (λ (a b : Bool). isLiteral (literalKey k) && (a && b)) (admits-simple v) (admits-simple-fields fs)
-
-mutual
-  unfolding admitted isValue
-
-  pub admits-value : (e : Expr) → admitted false e ≡ isValue e
-  admits-value (literal n l) = refl
-  admits-value (name n x) = refl
-  admits-value (wildcard n) = refl
-  admits-value (array n es) = admits-value-all es
-  admits-value (set n es) = refl
-  admits-value (object n fs) = ap (λ (b : Bool). differing (keysOf fs) && b) (admits-value-fields fs)
-  admits-value (other n) = refl
-
-  admits-value-all : (es : Exprs) → admittedAll false es ≡ areValues es
-  admits-value-all Expr.none = refl
-  admits-value-all (item e es) = ap₂ (λ (a b : Bool). a && b) (admits-value e) (admits-value-all es)
-
-  admits-value-fields : (fs : Fields) → admittedFields false fs ≡ holdValues fs
-  admits-value-fields done = refl
-  admits-value-fields (field k v fs) = ap₂ (λ (a b : Bool). isLiteral (literalKey k) && (a && b)) (admits-value v) (admits-value-fields fs)
 
 -- an object's keys are those of its value
 pub value-keys : (fs : Fields) → keysᵛ (valueFieldsOf fs) ≡ keysOf fs
@@ -76,7 +36,7 @@ value-keys (field k v fs) = go (literalKey k) (value-keys fs)
 
 -- the value of an expression that is one has differing keys in each object
 mutual
-  unfolding isValue valueOf proper
+  unfolding admitted valueOf proper
 
   pub value-proper : (e : Expr) → T (isValue e) → Proper (valueOf e)
   value-proper (literal n l) p = tt
@@ -86,20 +46,20 @@ mutual
   value-proper (set n es) p = tt
   value-proper (object n fs) p =
       both (differing (keysᵛ (valueFieldsOf fs))) (properFields (valueFieldsOf fs))
-      (rw (value-keys fs) (and-left (differing (keysOf fs)) (holdValues fs) p))
-      (fields-proper fs (and-right (differing (keysOf fs)) (holdValues fs) p))
+      (rw (value-keys fs) (and-left (differing (keysOf fs)) (admittedFields false fs) p))
+      (fields-proper fs (and-right (differing (keysOf fs)) (admittedFields false fs) p))
   value-proper (other n) p = tt
 
-  values-proper : (es : Exprs) → T (areValues es) → T (properAll (valuesOf es))
+  values-proper : (es : Exprs) → T (admittedAll false es) → T (properAll (valuesOf es))
   values-proper Expr.none p = tt
   values-proper (item e es) p =
-      both (proper (valueOf e)) (properAll (valuesOf es)) (value-proper e (and-left (isValue e) (areValues es) p)) (values-proper es (and-right (isValue e) (areValues es) p))
+      both (proper (valueOf e)) (properAll (valuesOf es)) (value-proper e (and-left (isValue e) (admittedAll false es) p)) (values-proper es (and-right (isValue e) (admittedAll false es) p))
 
-  fields-proper : (fs : Fields) → T (holdValues fs) → T (properFields (valueFieldsOf fs))
+  fields-proper : (fs : Fields) → T (admittedFields false fs) → T (properFields (valueFieldsOf fs))
   fields-proper done p = tt
   fields-proper (field k v fs) p =
-      let q : T (isValue v && holdValues fs) = and-right (isLiteral (literalKey k)) (isValue v && holdValues fs) p in
-      go (literalKey k) (value-proper v (and-left (isValue v) (holdValues fs) q)) (fields-proper fs (and-right (isValue v) (holdValues fs) q))
+      let q : T (isValue v && admittedFields false fs) = and-right (isLiteral (literalKey k)) (isValue v && admittedFields false fs) p in
+      go (literalKey k) (value-proper v (and-left (isValue v) (admittedFields false fs) q)) (fields-proper fs (and-right (isValue v) (admittedFields false fs) q))
     where
       go : (κ : Option Literal) → Proper (valueOf v) → T (properFields (valueFieldsOf fs)) → T (properFields (filledField κ (valueOf v) (valueFieldsOf fs)))
       go (Option.some l) s t = both (proper (valueOf v)) (properFields (valueFieldsOf fs)) s t
@@ -199,9 +159,5 @@ keyed-object T w n v b is k = record {
   differ = object-parts T w n v b is k .0;
 }
 
--- of values
-pub value-admitted : {T : Tables} {n : ℕ} → ValueNode T n → admitted false (expr T n) ≡ true
-value-admitted {T} {n} v = admits-value (expr T n) ∙ v .value
-
 pub admitted-value : (T : Tables) (n : ℕ) → Node T n → admitted false (expr T n) ≡ true → ValueNode T n
-admitted-value T n v is = record { node = v; value = sym (admits-value (expr T n)) ∙ is }
+admitted-value T n v is = record { node = v; value = is }

@@ -14,7 +14,7 @@ use Rattle.literal.specs.Order.{Order, less, same, more, opposite, keyOrder}
 use Rattle.literal.proofs.Orders.{key-order}
 use Rattle.table.specs.Tables.{Tables}
 use Rattle.table.specs.Decode.{expr, fields}
-use Rattle.table.specs.Sound.{Node, WellFormed}
+use Rattle.table.specs.code.Sound.{Node, WellFormed}
 use Rattle.planner.specs.Layout.{Slot, placed, insert, FieldOrder, noFields, addField, heldIn, inOrder}
 use Rattle.planner.specs.code.Passes.{keyNode, fieldKey, orderFrom, orderOf}
 use Rattle.planner.specs.code.Post.{OrderAsks, OrderedBy}
@@ -22,7 +22,7 @@ use Rattle.table.specs.Names.{isSame}
 use Rattle.planner.specs.Simple.{sameKey, hasKey, differing, addKey, keysOf}
 use Rattle.planner.proofs.fields.FieldOrder.{AllSlots, Above, Sorted, none-sorted, insert-sorted}
 use Rattle.planner.proofs.fields.Objects.{key-literal}
-use Rattle.value.specs.Post.{KeysAsks}
+use Rattle.value.specs.code.Post.{KeysAsks}
 use Rattle.value.proofs.Admitted.{key-node}
 
 opposite-same : (o : Order) → isSame (opposite o) ≡ isSame o

@@ -1,3 +1,4 @@
+pub mod Changing
 pub mod Keys
 pub mod Equal
 pub mod Node

@@ -15,17 +15,17 @@ use Rattle.table.specs.Tables.{Tables, kindOf, firstOf, countOf, childAt}
 use Rattle.table.specs.Decode.{expr, items, fields, isWildcard, literalAt, fieldsOf}
 use Rattle.table.specs.Expr as Expr
 use Rattle.table.specs.Expr.{Expr, literal, name, wildcard, array, object, other}
-use Rattle.table.specs.Sound.{WellFormed}
+use Rattle.table.specs.code.Sound.{WellFormed}
 use Rattle.table.proofs.trees.Trees.{expr-literal, expr-name, expr-array, expr-object, child-node, width-array, width-object}
 use Rattle.planner.specs.Layout.{literalKey}
 use Rattle.planner.specs.code.Passes.{valueNode}
-use Rattle.planner.specs.Simple.{sameKey, hasKey, keysOf}
+use Rattle.planner.specs.Simple.{sameKey, hasKey, keysOf, admitted}
 use Rattle.planner.proofs.destructuring.NodeKinds.{Plain, plain-literal, plain-set, plain-other, plain-kind}
 use Rattle.planner.proofs.fields.Objects.{key-literal}
 use Rattle.value.specs.Value.{Value, literalᵛ, ValueFields, doneᵛ, fieldᵛ, isValue, filledField, valueOf, valuesOf, valueFieldsOf, valueAt, keysᵛ, firstOf as firstUnder, under, within, sameKeys, holds, same, sameItems, sameFields}
-use Rattle.value.specs.Post.{sameLiterals, underFrom, underIn, KeyedObject, ValueNode, SameAsks, SameItemsAsks, SameFieldsAsks}
+use Rattle.value.specs.code.Post.{sameLiterals, underFrom, underIn, KeyedObject, ValueNode, SameAsks, SameItemsAsks, SameFieldsAsks}
 use Rattle.value.proofs.Keys.{and-left, and-right, both, is-true, is-false, true-is, sets-by-count, sets-uneven}
-use Rattle.value.proofs.Admitted.{value-keys, array-item, object-value, array-children, value-node, keyed-object, value-admitted, admitted-value}
+use Rattle.value.proofs.Admitted.{value-keys, array-item, object-value, array-children, value-node, keyed-object, admitted-value}
 use Rattle.value.proofs.Under.{Fielded, object-fielded, keys-length, found-field, found-value, key-of, position-fits, position-key-fits, position-value-fits}
 
 -- what a value node is
@@ -35,7 +35,7 @@ pub data ValueShape (T : Tables) (n : ℕ) : Expr → Type 0 where
   value-object : kindOf (T .nodes) n ≡ 9 → ValueShape T n (object n (fieldsOf T n))
 
 pub value-shape : (T : Tables) → WellFormed T → (n : ℕ) → ValueNode T n → (e : Expr) × (expr T n ≡ e) × ValueShape T n e
-unfolding isValue
+unfolding admitted
 value-shape T w n v = go (eqb (kindOf (T .nodes) n) 6) refl (eqb (kindOf (T .nodes) n) 7) refl (eqb (kindOf (T .nodes) n) 9) refl
   where
     named : (c : Bool) (x : ℕ) → isValue (cond c (wildcard n) (name n x)) ≡ true → ⊥
@@ -96,7 +96,7 @@ module _ (T : Tables) (a b : ℕ) (asks : SameAsks T a b) where
   right-shape = value-shape T (asks .table) b (asks .right)
 
   keyed : (n : ℕ) → ValueNode T n → kindOf (T .nodes) n ≡ 9 → KeyedObject T n
-  keyed n v k = keyed-object T (asks .table) n (v .node) false (value-admitted v) k
+  keyed n v k = keyed-object T (asks .table) n (v .node) false (v .value) k
 
   uneven-keys : kindOf (T .nodes) a ≡ 9 → kindOf (T .nodes) b ≡ 9 → (countOf (T .nodes) b ≡ countOf (T .nodes) a → ⊥) → sameKeys (keysᵛ (valueFieldsOf (fieldsOf T a))) (keysᵛ (valueFieldsOf (fieldsOf T b))) ≡ false
   uneven-keys ka kb uneven =
@@ -176,12 +176,12 @@ module _ (T : Tables) (a b : ℕ) (asks : SameAsks T a b) where
                 record {
                   table = asks .table;
                   lefts = λ i lt. rw is-at (
-                    admitted-value T (childAt (T .children) (firstOf (T .nodes) a + i)) (child-node T (asks .table) a (asks .left .node) i (omega arith)) (array-item T (asks .table) a (asks .left .node) false (value-admitted (asks .left)) left-kind i (omega arith)),
+                    admitted-value T (childAt (T .children) (firstOf (T .nodes) a + i)) (child-node T (asks .table) a (asks .left .node) i (omega arith)) (array-item T (asks .table) a (asks .left .node) false (asks .left .value) left-kind i (omega arith)),
                     asks .table .below a (asks .left .node) i (omega arith) .1,
                   );
                   rights = λ i lt. rw is-from (admitted-value T (childAt (T .children) (firstOf (T .nodes) b + i))
                       (array-children T (asks .table) b (asks .right .node) right-kind .each i (omega arith))
-                      (array-item T (asks .table) b (asks .right .node) false (value-admitted (asks .right)) right-kind i (omega arith)));
+                      (array-item T (asks .table) b (asks .right .node) false (asks .right .value) right-kind i (omega arith)));
                   left-small = omega arith;
                   right-small = omega arith;
                 }
@@ -342,7 +342,7 @@ module _ {T : Tables} {a b first size i : ℕ} (go : ByKey T a b first size i) w
             let asks = go .asks .both in
             let (j, lt, e) = found-field T (literalAt T key) (firstOf (T .nodes) b) (countOf (T .nodes) b) (λ z. nz (is-other ∙ z)) in
             rw is-other (rw e (admitted-value T (valueNode T (firstOf (T .nodes) b) j) (value-node (object-fielded by-key-object .asks) j lt)
-            (object-value T (asks .table) b (asks .right .node) false (value-admitted (asks .right)) (go .asks .right-object) j lt)))
+            (object-value T (asks .table) b (asks .right .node) false (asks .right .value) (go .asks .right-object) j lt)))
 
         pub by-key-ask : SameAsks T value other
         by-key-ask =
@@ -351,7 +351,7 @@ module _ {T : Tables} {a b first size i : ℕ} (go : ByKey T a b first size i) w
             record {
               table = asks .table;
               left = rw is-value (rw (go .is-first) (admitted-value T (valueNode T (firstOf (T .nodes) a) i) (value-node (object-fielded left-keyed .asks) i lt)
-                  (object-value T (asks .table) a (asks .left .node) false (value-admitted (asks .left)) (go .asks .left-object) i lt)));
+                  (object-value T (asks .table) a (asks .left .node) false (asks .left .value) (go .asks .left-object) i lt)));
               right = partner;
             }
 

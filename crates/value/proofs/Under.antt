@@ -24,7 +24,7 @@ use Rattle.table.specs.Names.{isSame}
 use Rattle.planner.specs.Simple.{sameKey, hasKey, differing, addKey, keysOf}
 use Rattle.planner.proofs.fields.Objects.{key-literal}
 use Rattle.value.specs.Value.{filledField, valueOf, valueFieldsOf, valueAt, firstOf as firstUnder, under, within, sameKeys}
-use Rattle.value.specs.Post.{ChildrenAsks, sameLiterals, underFrom, underIn, KeyedObject, KeySetsAsk}
+use Rattle.value.specs.code.Post.{ChildrenAsks, sameLiterals, underFrom, underIn, KeyedObject, KeySetsAsk}
 use Rattle.value.proofs.Keys.{or-left, or-right, is-true, is-false, true-is, key→, key-refl, sets-by-count, sets-uneven}
 use Rattle.value.proofs.Admitted.{object-children, key-node}
 use Rattle.value.proofs.Marking.{fields-on, fields-fit, value-fits}

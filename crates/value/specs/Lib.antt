@@ -1,2 +1,2 @@
 pub mod Value
-pub mod Post
+pub mod code

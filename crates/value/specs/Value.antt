@@ -10,7 +10,7 @@ use Rattle.table.specs.Decode.{expr}
 use Rattle.table.specs.Expr as Expr
 use Rattle.table.specs.Expr.{Expr, literal, name, wildcard, array, set, object, other, Exprs, item, Fields, done, field}
 use Rattle.planner.specs.Layout.{literalKey}
-use Rattle.planner.specs.Simple.{sameKey, hasKey, differing, keysOf, isLiteral}
+use Rattle.planner.specs.Simple.{sameKey, hasKey, differing, admitted}
 
 mutual
   pub data Value : Type 0 where
@@ -27,23 +27,8 @@ mutual
     fieldᵛ : Literal → Value → ValueFields → ValueFields
 
 -- Is the expression a value?
-unfoldable mutual
-  pub isValue : Expr → Bool
-  isValue (literal n l) = true
-  isValue (name n x) = false
-  isValue (wildcard n) = false
-  isValue (array n es) = areValues es
-  isValue (set n es) = false
-  isValue (object n fs) = differing (keysOf fs) && holdValues fs
-  isValue (other n) = false
-
-  pub areValues : Exprs → Bool
-  areValues Expr.none = true
-  areValues (item e es) = isValue e && areValues es
-
-  pub holdValues : Fields → Bool
-  holdValues done = true
-  holdValues (field k v fs) = isLiteral (literalKey k) && (isValue v && holdValues fs)
+abbrev pub isValue : Expr → Bool
+isValue = admitted false
 
 abbrev pub filledField : Option Literal → Value → ValueFields → ValueFields
 filledField (some k) v fs = fieldᵛ k v fs
@@ -77,6 +62,11 @@ abbrev pub nodeᵛ : Value → ℕ
 nodeᵛ (literalᵛ n l) = n
 nodeᵛ (arrayᵛ n vs) = n
 nodeᵛ (objectᵛ n fs) = n
+
+-- of no value 0
+abbrev pub nodeIn : Option Value → ℕ
+nodeIn none = 0
+nodeIn (some v) = nodeᵛ v
 
 -- Are all keys of one list in the other? Do two lists hold the same keys?
 unfoldable pub within : List Literal → List Literal → Bool

@@ -1,4 +1,2 @@
 // Values in a table: which nodes are values, the value under a key, equality.
-pub mod equality;
-pub mod fields;
-pub mod marks;
+pub mod inner;

@@ -46,6 +46,16 @@ const SENTENCES: &[Row] = &[
     (r#"[{"a": x}, 1] = [{"b": 2}, z]"#, &[], "16 6 0 0"),
     (r#"[{"a": x, "b": y}, 1] = [{"c": 1, "d": 2}, z]"#, &[], "16 8 0 0"),
     ("[[x], 1] = [[1, 2], y]", &[], "12 2 1 2"),
+    // 17 comes before 18 and 13.
+    (r#"[x] := {"a": 1}"#, &[("x", SAME_SCOPE)], "17 1 0 0"),
+    (r#"[x] := {"a": 1}"#, &[], "18 2 0 0"),
+    ("[x] := [1, 2]", &[("x", SAME_SCOPE)], "17 1 0 0"),
+    // Fields are checked in the value's written order.
+    (r#"{"b": [x], "a": [y]} := {"b": [1, 2], "a": [1, 2, 3]}"#, &[], "13 11 1 2"),
+    (r#"{"b": [x], "a": [y]} := {"a": [1, 2, 3], "b": [1, 2]}"#, &[], "13 12 1 3"),
+    (r#"{"a": [x], "b": [y]} := {"b": [1, 2], "a": [1, 2, 3]}"#, &[], "13 11 1 2"),
+    // Repeated value keys of agreeing text.
+    (r#"{1: [a], "1": [b]} := {"1": [1, 2], "1": [3]}"#, &[], "13 11 1 2"),
     (r#"{"a": x} := {"b": 1}"#, &[], "14 6 3 0"),
     (r#"[{"a": x}] := [{"b": 1}]"#, &[], "14 7 3 0"),
     ("[1, 2] = [x]", &[], "13 3 1 2"),
@@ -56,6 +66,11 @@ const SENTENCES: &[Row] = &[
     (r#"[{k: x}, 1] = [{"a": 1}, y]"#, &[], "0 4 0 5, 7 8 1 0, 6 3 1 0, 1 2 0 1, 7 4 1 0, 1 9 0 0"),
     (r#"[{"a": x}, 1] = [{k: 2}, y]"#, &[], "0 4 0 5, 7 8 1 0, 6 3 1 0, 1 2 0 1, 7 4 1 0, 1 9 0 0"),
     (r#"{k: x} = {"a": y}"#, &[], "18 3 0 0"),
+    // A pair where neither side binds is compared, before 12, 15, 16 or 18 come up.
+    ("[x, [1], 2] = [1, {}, z]", &[], "0 4 0 6, 7 6 1 0, 1 1 0 0, 7 7 1 0, 3 3 0 0, 7 4 1 0, 1 8 0 0"),
+    ("[x, [1], 2] = [1, [1, 2], z]", &[], "0 4 0 6, 7 6 1 0, 1 1 0 0, 7 9 1 0, 3 3 0 0, 7 4 1 0, 1 10 0 0"),
+    (r#"[x, {"a": 1}, 2] = [1, {"a": 1, "b": 2}, z]"#, &[], "0 4 0 6, 7 7 1 0, 1 1 0 0, 7 12 1 0, 3 4 0 0, 7 5 1 0, 1 13 0 0"),
+    (r#"[x, {"a": 1}, 2] = [1, {"b": 1}, z]"#, &[], "0 4 0 6, 7 7 1 0, 1 1 0 0, 7 10 1 0, 3 4 0 0, 7 5 1 0, 1 11 0 0"),
     // A value's field whose key has the text of another key alone is passed over.
     (r#"[{1: x}, [y]] := [{"1": 2}, [1, 2]]"#, &[], "13 12 1 2"),
     // A computed field of the pattern leaves its object unknown, one of the value is passed over.
@@ -66,6 +81,7 @@ const SENTENCES: &[Row] = &[
     // Key texts sorted, with repeats kept.
     ("{2: x, 10: y} := {10: 1, 2: 3}", &[], "0 1 0 3, 6 5 2 0, 1 2 0 1, 1 4 0 3"),
     (r#"{"a": x} := {"a": 1, "a": 2}"#, &[], "14 8 3 0"),
+    (r#"{"a": 1, "a": x} := {"a": 2}"#, &[], "0 1 0 2, 6 5 1 0, 1 4 0 3"),
     // A repeated key keeps the last plan and key node; the lost names stay tracked.
     (r#"pattern {"a": x, `a`: y}"#, &[], "0 0 0 2, 6 5 1 0, 1 4 0 3"),
     (r#"index [{"a": x, "a": 1}, x]"#, &[], "0 0 0 4, 5 7 2 0, 6 5 1 0, 4 4 0 3, 3 6 0 0"),
@@ -84,6 +100,9 @@ const SENTENCES: &[Row] = &[
     // Validation looks inside sets and passes over input and data.
     ("shadowing parameter {x}", &[("x", BOUND)], "17 1 0 0"),
     ("parameter {x}", &[("x", BOUND)], "0 0 0 1, 3 2 0 0"),
+    // What the pattern itself plans passes: under AllowShadowing 17 is for names that stand in sets alone.
+    ("shadowing parameter [x, {x}]", &[("x", BOUND)], "0 0 0 3, 5 4 2 0, 1 1 0 0, 3 3 0 0"),
+    ("shadowing parameter [x, {y}]", &[("x", BOUND), ("y", BOUND)], "17 2 0 0"),
     ("shadowing parameter {input, data}", &[("input", BOUND), ("data", BOUND)], "0 0 0 1, 3 3 0 0"),
     ("some x, y in xs", &[("x", BOUND), ("y", BOUND)], "17 3 0 0"),
     ("some [x] in [[1, 2], f()]", &[], "0 0 0 2, 5 2 1 0, 1 1 0 0"),

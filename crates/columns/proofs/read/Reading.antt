@@ -20,7 +20,7 @@ use Rattle.columns.specs.declared.Column.the-variants as Column
 use Rattle.columns.specs.declared.SignedColumn.{SignedColumn}
 use Rattle.columns.specs.declared.SignedColumn.the-variants as SignedColumn
 use Rattle.columns.specs.Columns.{afterBlanks, isDigit, allDigits, isDecimal, columnBytes, signedNumber, afterSign, readSigned, signedColumnAt}
-use Rattle.columns.specs.Decimals.{digitsNumber, readDecimal}
+use Rattle.columns.specs.code.Decimals.{digitsNumber, readDecimal}
 
 -- the bytes from a place on
 pub drop-here : (bytes : List ℕ) (i : ℕ) → i < length bytes → drop i bytes ≡ getD bytes i 0 ∷ drop (i + 1) bytes

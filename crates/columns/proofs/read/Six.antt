@@ -17,7 +17,7 @@ use Rattle.columns.specs.declared.decimal.Decimal.the-variants.{Number, 
 use Rattle.columns.specs.declared.Column.{Column}
 use Rattle.columns.specs.declared.Column.the-variants as Column
 use Rattle.columns.specs.Columns.{afterBlanks, isDigit, allDigits, isDecimal, decimalNumber, readColumn, sixColumn, columnBytes, columnAt}
-use Rattle.columns.specs.Decimals.{readDecimal, areBlank, columnWord}
+use Rattle.columns.specs.code.Decimals.{readDecimal, areBlank, columnWord}
 use Rattle.columns.proofs.read.Reading.{Skipping, skip-on, rest-whole, read-as, read-not, column-there, blanks-few, decimal-below}
 
 -- four blanks as one number

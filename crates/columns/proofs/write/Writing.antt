@@ -11,7 +11,7 @@ use lib.Seq.{drop-cons, drop-set-lt, take-set-le, getD-set-same, drop-append-le,
 use Rattle.literal.specs.Text.{digit, digits, decimal}
 use Rattle.literal.proofs.Decimals.{digits-one, digits-more, few-or-more, below-tenth, length-more}
 use Rattle.columns.specs.Columns.{justified, stored, columnStored}
-use Rattle.columns.specs.Written.{columnByte, writeRest}
+use Rattle.columns.specs.code.Written.{columnByte, writeRest}
 
 pub byte-blank : (rest : ℕ) → rest ≡ 0 → 32 ≡ columnByte rest
 byte-blank rest e = simp e

@@ -1,23 +1,21 @@
 -- Entries put into the lent buffer as far as they fit.
-use Prim.Native.Nat.{ℕ, zero, suc, _+_, _-_, _*_, _/_, _≤_, _<_}
+use Prim.Native.Nat.{ℕ, suc, _+_, _-_, _*_, _/_, _≤_, _<_}
 use mathlib.Core.Path.{_≡_, refl, sym, ap, _∙_}
 use mathlib.Core.Bool.{Bool, true, false}
 use mathlib.Core.List.{List, [], _∷_, _++_}
 use native.Mathlib.Omega.{arith}
-use mir.Val.{Fits}
-use mir.Syntax.{w64}
 use borrow.Author.Tests.{lt-ltb, le-ltb, leb-true}
 use lib.Dec.{leb, ltb}
-use lib.ListN.{length, set, length-append}
+use lib.ListN.{length, getD, set, length-append}
 use lib.Seq.{length-sets}
 use Rattle.planner.specs.declared.PlanAnswer.{PlanAnswer}
 use Rattle.planner.specs.Layout.{Entry, entry, words}
-use Rattle.planner.specs.Entries.{entryAt, readEntries, putEntry, putEntries, Wrote, CopyAsks}
+use Rattle.planner.specs.Entries.{entryAt, readEntries, putEntry, putEntries, Wrote}
 use Rattle.planner.specs.Operations.{planned, answered, written, Answered}
 use Rattle.planner.specs.code.Post.{Laid, Closed, wordAt}
 use Rattle.planner.proofs.buffer.Filling.{Filling, word-in}
 use Rattle.planner.proofs.buffer.Written.{put-stores, laid-put, laid-none, laid-append}
-use Rattle.planner.proofs.buffer.ReadBack.{read-laid, closed-read}
+use Rattle.planner.proofs.buffer.ReadBack.{length-read, read-laid, closed-read}
 
 -- one entry
 module _ (before : List ℕ) (at kind node count key : ℕ) where
@@ -83,43 +81,49 @@ wrote-append {before} {mid} {after} {at} {r} {s} {es} {fs} a b = record {
       ∙ (ap (λ (k : ℕ). putEntries (putEntries before at es) k fs) (a .end) ∙ sym (puts-append es fs before at)));
 }
 
--- the entries of a scratch, one after the other
-pub record Copying (scratch before : List ℕ) (at count i : ℕ) (mid : List ℕ) : Type 0 where
-  pub asks : CopyAsks scratch at count
-  pub inside : i ≤ count
+-- the entries of a scratch, one after the other: those left put here make what all of them make of the start
+pub record Copying (scratch before : List ℕ) (at count i to : ℕ) (mid : List ℕ) : Type 0 where
+  pub inside : i ≤ to
   pub long : length mid ≡ length before
-  pub wrote : Wrote before at (readEntries scratch 0 i) mid (at + i)
+  pub same : putEntries mid to (readEntries scratch i (count - i)) ≡ putEntries before at (readEntries scratch 0 count)
 
-pub copying-start : {scratch : List ℕ} {at count : ℕ} → CopyAsks scratch at count → (before : List ℕ) → Copying scratch before at count 0 before
-unfolding readEntries
-copying-start {scratch} {at} {count} a before =
-    let z : at + 0 ≡ at = omega arith in
-    record { asks = a; inside = omega arith; long = refl; wrote = rw z (wrote-none before at) }
+pub copying-start : (scratch before : List ℕ) (at count : ℕ) → Copying scratch before at count 0 at before
+copying-start scratch before at count = record { inside = omega arith; long = refl; same = let z : count - 0 ≡ count = omega arith in rw z }
 
-read-snoc : (scratch : List ℕ) (i k : ℕ) → readEntries scratch i (k + 1) ≡ readEntries scratch i k ++ (entryAt scratch (i + k) ∷ [])
-unfolding readEntries
-read-snoc scratch i zero = let z : i + 0 ≡ i = omega arith in rw z
-read-snoc scratch i (suc k) =
-    let p : suc k + 1 ≡ suc (k + 1) = omega arith in
-    let e : i + suc k ≡ i + 1 + k = omega arith in
-    rw (p, e) (ap (λ (es : List Entry). entryAt scratch i ∷ es) (read-snoc scratch (i + 1) k))
+-- no space left
+puts-full : (es : List Entry) (before : List ℕ) (at : ℕ) → length before / 4 ≤ at → putEntries before at es ≡ before
+unfolding putEntries
+puts-full [] before at full = refl
+puts-full (e ∷ es) before at full = let b = le-ltb at (length before / 4) full in simp b (puts-full es before (at + 1) (omega arith))
 
-module _ {scratch before : List ℕ} {at count i : ℕ} {mid : List ℕ} (go : Copying scratch before at count i mid) where
-  module _ (lt : i < count) where
-    pub copying-place : Fits w64 (at + i)
-    copying-place = let f = go .asks .few in let l = go .asks .low in record { fits = omega arith }
+module _ {scratch before : List ℕ} {at count i to : ℕ} {mid : List ℕ} (go : Copying scratch before at count i to mid) where
+  pub copying-full : length mid / 4 ≤ to → mid ≡ putEntries before at (readEntries scratch 0 count)
+  copying-full full = sym (puts-full (readEntries scratch i (count - i)) mid to full) ∙ go .same
 
-    pub copying-on : {next : List ℕ} → Wrote mid (at + i) (entryAt scratch i ∷ []) next (at + i + 1) → Copying scratch before at count (i + 1) next
-    copying-on {next} w =
-        let e : at + i + 1 ≡ at + (i + 1) = omega arith in
-        let z : 0 + i ≡ i = omega arith in
-        record { asks = go .asks; inside = omega arith; long = wrote-long w ∙ go .long; wrote = rw (← e, read-snoc scratch 0 i, z) (wrote-append (go .wrote) w) }
+  pub copying-on : i < count → {a b c d : ℕ} {next : List ℕ} → a ≡ getD scratch (i * 4) 0 → b ≡ getD scratch (i * 4 + 1) 0 → c ≡ getD scratch (i * 4 + 2) 0 → d ≡ getD scratch (i * 4 + 3) 0
+      → Wrote mid to (entry a b c d ∷ []) next (to + 1) → Copying scratch before at count (i + 1) (to + 1) next
+  unfolding putEntries readEntries
+  copying-on lt {a} {b} {c} {d} {next} is-a is-b is-c is-d w =
+      let n = go .inside in
+      let s : count - i ≡ suc (count - (i + 1)) = omega arith in
+      let e : entry a b c d ≡ entryAt scratch i = rw (is-a, is-b, is-c, is-d) in
+      let p : next ≡ putEntry mid to (entryAt scratch i) = w .put ∙ ap (putEntry mid to) e in
+      record {
+        inside = omega arith;
+        long = wrote-long w ∙ go .long;
+        same = ap (λ (l : List ℕ). putEntries l (to + 1) (readEntries scratch (i + 1) (count - (i + 1)))) p ∙ (ap (λ (k : ℕ). putEntries mid to (readEntries scratch i k)) (sym s) ∙ go .same);
+      }
 
-  pub copying-end-fits : Fits w64 (at + count)
-  copying-end-fits = let f = go .asks .few in let l = go .asks .low in record { fits = omega arith }
+  pub copying-ends : count ≤ i → mid ≡ putEntries before at (readEntries scratch 0 count)
+  unfolding putEntries readEntries
+  copying-ends le = let z : count - i ≡ 0 = omega arith in ap (λ (k : ℕ). putEntries mid to (readEntries scratch i k)) (sym z) ∙ go .same
 
-  pub copying-ends : count ≤ i → Wrote before at (readEntries scratch 0 count) mid (at + count)
-  copying-ends le = let n = go .inside in let e : i ≡ count = omega arith in rw e at (go .wrote)
+-- such entries, and the place after them
+pub wrote-copied : (scratch before : List ℕ) (at count : ℕ) {after : List ℕ} → after ≡ putEntries before at (readEntries scratch 0 count) → Wrote before at (readEntries scratch 0 count) after (at + count)
+wrote-copied scratch before at count e = record { end = let l = length-read scratch 0 count in omega arith; put = e }
+
+pub wrote-first : (scratch before : List ℕ) (count : ℕ) {after : List ℕ} → after ≡ putEntries before 0 (readEntries scratch 0 count) → Wrote before 0 (readEntries scratch 0 count) after count
+wrote-first scratch before count e = record { end = let l = length-read scratch 0 count in omega arith; put = e }
 
 -- entries that all fit stand where they were put
 pub wrote-laid : {before after : List ℕ} {at r : ℕ} {es : List Entry} → Wrote before at es after r → r ≤ length before / 4 → Laid before at es after r

@@ -6,10 +6,11 @@ use mathlib.Core.Bool.{Bool, true, false}
 use native.Mathlib.Omega.{arith}
 use borrow.Author.Tests.{eqb-true, eqb-false, le-leb, lt-leb, lt-ltb, le-ltb}
 use lib.Dec.{eqb}
-use lib.ListN.{length, getD, set, replicate, length-set, length-replicate, getD-replicate}
+use lib.ListN.{length, getD, set, replicate, length-set, length-replicate, getD-replicate, List·getD-eq-default}
 use lib.Seq.{getD-set-same, getD-set-other, ext-getD}
 use Rattle.planner.specs.declared.PlanAnswer.the-variants.{Planned, PlanTooLarge}
-use Rattle.planner.specs.code.Post.{wordAt, tabulate, Closed}
+use Rattle.base.specs.Lists.{tabulate}
+use Rattle.planner.specs.code.Post.{wordAt, Closed}
 
 -- an array filled from place 0 on
 pub record Filling (f : ℕ → ℕ) (size i : ℕ) (here : List ℕ) : Type 0 where
@@ -51,7 +52,12 @@ getD-tabulate f i zero j lt = absurd (omega arith)
 getD-tabulate f i (suc k) zero lt = let e : i ≡ i + 0 = omega arith in ap f e
 getD-tabulate f i (suc k) (suc j) lt = let e : i + 1 + j ≡ i + suc j = omega arith in getD-tabulate f (i + 1) k j (omega arith) ∙ ap f e
 
-tabulate-same : (f g : ℕ → ℕ) → ((i : ℕ) → f i ≡ g i) → (i k : ℕ) → tabulate f i k ≡ tabulate g i k
+pub tabulate-next : (f : ℕ → ℕ) (i k : ℕ) → tabulate (λ j. f (j + 1)) i k ≡ tabulate f (i + 1) k
+unfolding tabulate
+tabulate-next f i zero = refl
+tabulate-next f i (suc k) = ap (λ t. f (i + 1) ∷ t) (tabulate-next f (i + 1) k)
+
+pub tabulate-same : (f g : ℕ → ℕ) → ((i : ℕ) → f i ≡ g i) → (i k : ℕ) → tabulate f i k ≡ tabulate g i k
 unfolding tabulate
 tabulate-same f g same i zero = refl
 tabulate-same f g same i (suc k) = ap (λ h. h ∷ tabulate f (i + 1) k) (same i) ∙ ap (λ t. g i ∷ t) (tabulate-same f g same (i + 1) k)
@@ -68,6 +74,10 @@ pub zeros-end : {size i : ℕ} {here : List ℕ} → Filling (λ _. 0) size i he
 zeros-end {size} {i} {here} go done =
     let long = go .long in
     ext-getD 0 here (replicate size 0) (long ∙ sym (length-replicate size 0)) (λ k lt. go .each k (omega arith) ∙ sym (getD-replicate size k 0 0 (omega arith)))
+
+-- behind the end
+pub past-end : (l : List ℕ) (i : ℕ) → length l ≤ i → 0 ≡ getD l i 0
+past-end l i le = sym (List·getD-eq-default l 0 le)
 
 -- a word that is kept, or cleared
 module _ (before : List ℕ) (size i : ℕ) where

@@ -13,7 +13,8 @@ use Rattle.planner.specs.declared.PlanAnswer.{PlanAnswer}
 use Rattle.planner.specs.Layout.{Entry, words}
 use Rattle.planner.specs.Entries.{readEntries}
 use Rattle.planner.specs.Operations.{planned, answered, written, Answered}
-use Rattle.planner.specs.code.Post.{Laid, Closed, wordAt, tabulate}
+use Rattle.base.specs.Lists.{tabulate}
+use Rattle.planner.specs.code.Post.{Laid, Closed, wordAt}
 use Rattle.planner.proofs.buffer.Filling.{length-tabulate, getD-tabulate}
 use Rattle.planner.proofs.buffer.Written.{length-words}
 

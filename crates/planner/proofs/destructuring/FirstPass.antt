@@ -1,12 +1,13 @@
 -- The first pass: the binders of a pattern, in written order.
 use Prim.Native.Nat.{ℕ, zero, suc, _+_, _-_, _≤_, _<_}
-use mathlib.Core.Path.{_≡_, refl, sym, ap, _∙_}
+use mathlib.Core.Path.{_≡_, refl, sym, ap, subst, _∙_}
 use mathlib.Core.List.{List}
-use mathlib.Core.Bool.{Bool, true, false}
+use mathlib.Core.Bool.{Bool, true, false, cond}
 use native.Mathlib.Omega.{arith}
 use mir.Val.{Fits}
 use mir.Syntax.{w64}
-use borrow.Author.Tests.{eq-eqb, ne-eqb, eqb-true}
+use borrow.Author.Tests.{eq-eqb, ne-eqb, eqb-true, eqb-false}
+use lib.Dec.{eqb}
 use lib.ListN.{getD}
 use lib.ListN as ListN
 use Rattle.table.specs.Tables.{Tables, kindOf, firstOf, countOf, childAt}
@@ -15,6 +16,7 @@ use Rattle.table.specs.Decode.{expr, items, fields, isWildcard}
 use Rattle.table.proofs.trees.Trees.{expr-name, expr-array, expr-object}
 use Rattle.planner.specs.code.Passes.{unboundIn, bindName, bindersOf, bindersAll, bindersFields, bindersFrom}
 use Rattle.planner.specs.code.Post.{Walks, WalksChildren}
+use Rattle.planner.specs.code.Validation.{Places, places, placesBy, SpanOf}
 use Rattle.planner.proofs.destructuring.Walking.{walk-fits, walk-on, walk-child, walk-below}
 use Rattle.planner.proofs.destructuring.NodeKinds.{Plain, plain-literal, plain-set, plain-other, plain-kind}
 
@@ -70,19 +72,19 @@ module _ (T : Tables) (states before : List ℕ) (n : ℕ) (a : Walks T states n
           sym (ap (λ (t : Expr). bindersOf (unboundIn states) t before) tree)
 
   module _ {size : ℕ} (is-size : size ≡ countOf (T .nodes) n) where
-    pub decided-items : {after : List ℕ} → kind ≡ 7 → after ≡ bindersFrom (unboundIn states) (expr T) (T .children) first 1 size before → after ≡ bindersOf (unboundIn states) (expr T n) before
+    decided-items : {after : List ℕ} → kind ≡ 7 → after ≡ bindersFrom (unboundIn states) (expr T) (T .children) first 1 size before → after ≡ bindersOf (unboundIn states) (expr T n) before
     unfolding bindersOf
     decided-items k e =
         (rw (is-first, is-size) at e) ∙ (sym (all-from (unboundIn states) (expr T) (T .children) (firstOf (T .nodes) n) (countOf (T .nodes) n) before)
         ∙ sym (ap (λ (t : Expr). bindersOf (unboundIn states) t before) (expr-array T (a .table) n (a .node) (node-kind k))))
 
-    pub decided-values : {after : List ℕ} → kind ≡ 9 → after ≡ bindersFrom (unboundIn states) (expr T) (T .children) (first + 1) 2 size before → after ≡ bindersOf (unboundIn states) (expr T n) before
+    decided-values : {after : List ℕ} → kind ≡ 9 → after ≡ bindersFrom (unboundIn states) (expr T) (T .children) (first + 1) 2 size before → after ≡ bindersOf (unboundIn states) (expr T n) before
     unfolding bindersOf
     decided-values k e =
         (rw (is-first, is-size) at e) ∙ (sym (fields-from (unboundIn states) (expr T) (T .children) (firstOf (T .nodes) n) (countOf (T .nodes) n) before)
         ∙ sym (ap (λ (t : Expr). bindersOf (unboundIn states) t before) (expr-object T (a .table) n (a .node) (node-kind k))))
 
-  pub decided-plain : (kind ≡ 6 → ⊥) → (kind ≡ 7 → ⊥) → (kind ≡ 9 → ⊥) → before ≡ bindersOf (unboundIn states) (expr T n) before
+  decided-plain : (kind ≡ 6 → ⊥) → (kind ≡ 7 → ⊥) → (kind ≡ 9 → ⊥) → before ≡ bindersOf (unboundIn states) (expr T n) before
   unfolding bindersOf
   decided-plain not-6 not-7 not-9 = let p = plain-kind T (a .table) n (a .node) (λ k. not-6 (is-kind ∙ k)) (λ k. not-7 (is-kind ∙ k)) (λ k. not-9 (is-kind ∙ k)) in go (p .0) (p .1) (p .2)
     where
@@ -90,6 +92,34 @@ module _ (T : Tables) (states before : List ℕ) (n : ℕ) (a : Walks T states n
       go e q (plain-literal l h) = sym (ap (λ (t : Expr). bindersOf (unboundIn states) t before) q)
       go e q (plain-set es h) = sym (ap (λ (t : Expr). bindersOf (unboundIn states) t before) q)
       go e q (plain-other h) = sym (ap (λ (t : Expr). bindersOf (unboundIn states) t before) q)
+
+-- by the places below a node
+module _ (T : Tables) (states before : List ℕ) (n : ℕ) (a : Walks T states n) where
+  abbrev Bound : Places → Type 0
+  Bound p = bindersFrom (unboundIn states) (expr T) (T .children) (p .at) (p .step) (p .left) before ≡ bindersOf (unboundIn states) (expr T n) before
+
+  bound-places : (kindOf (T .nodes) n ≡ 6 → ⊥) → Bound (placesBy false false (kindOf (T .nodes) n) (firstOf (T .nodes) n) (countOf (T .nodes) n))
+  unfolding bindersFrom
+  bound-places not-6 = go7 (eqb (kindOf (T .nodes) n) 7) refl
+    where
+      go9 : (kindOf (T .nodes) n ≡ 7 → ⊥) → (b : Bool) → eqb (kindOf (T .nodes) n) 9 ≡ b → Bound (cond b (places (firstOf (T .nodes) n + 1) 2 (countOf (T .nodes) n)) (places (firstOf (T .nodes) n) 1 0))
+      go9 not-7 true p = decided-values T states before n a refl refl refl (eqb-true (kindOf (T .nodes) n) 9 p) refl
+      go9 not-7 false p = decided-plain T states before n a refl refl not-6 not-7 (eqb-false (kindOf (T .nodes) n) 9 p)
+
+      go8 : (kindOf (T .nodes) n ≡ 7 → ⊥) → (b : Bool) → eqb (kindOf (T .nodes) n) 8 ≡ b
+          → Bound (cond b (places (firstOf (T .nodes) n) 1 0) (cond (eqb (kindOf (T .nodes) n) 9) (places (firstOf (T .nodes) n + 1) 2 (countOf (T .nodes) n)) (places (firstOf (T .nodes) n) 1 0)))
+      go8 not-7 true p = let k = eqb-true (kindOf (T .nodes) n) 8 p in decided-plain T states before n a refl refl not-6 not-7 (λ e. omega arith)
+      go8 not-7 false p = go9 not-7 (eqb (kindOf (T .nodes) n) 9) refl
+
+      go7 : (b : Bool) → eqb (kindOf (T .nodes) n) 7 ≡ b
+          → Bound (cond b (places (firstOf (T .nodes) n) 1 (countOf (T .nodes) n))
+          (cond (eqb (kindOf (T .nodes) n) 8) (places (firstOf (T .nodes) n) 1 0) (cond (eqb (kindOf (T .nodes) n) 9) (places (firstOf (T .nodes) n + 1) 2 (countOf (T .nodes) n)) (places (firstOf (T .nodes) n) 1 0))))
+      go7 true p = decided-items T states before n a refl refl refl (eqb-true (kindOf (T .nodes) n) 7 p) refl
+      go7 false p = go8 (eqb-false (kindOf (T .nodes) n) 7 p) (eqb (kindOf (T .nodes) n) 8) refl
+
+  pub decided-below : {kind : ℕ} → kind ≡ kindOf (T .nodes) n → (kind ≡ 6 → ⊥) → {at step left : ℕ} → SpanOf (T .nodes) false false n at step left → {after : List ℕ}
+      → after ≡ bindersFrom (unboundIn states) (expr T) (T .children) at step left before → after ≡ bindersOf (unboundIn states) (expr T n) before
+  decided-below is-kind not-6 s e = e ∙ subst Bound (sym (s .is)) (bound-places (λ k. not-6 (is-kind ∙ k)))
 
 -- the walk over children: what is left makes of the binders here the same as all of it of those at the start
 pub record Deciding (T : Tables) (states : List ℕ) (parent at₀ step left₀ : ℕ) (before : List ℕ) (at left : ℕ) (here : List ℕ) : Type 0 where

@@ -9,7 +9,7 @@ use Rattle.literal.specs.Literal.{Literal}
 use Rattle.table.specs.Tables.{Tables, kindOf}
 use Rattle.table.specs.Expr.{Expr, literal, set, other, Exprs}
 use Rattle.table.specs.Decode.{expr}
-use Rattle.table.specs.Sound.{Node, WellFormed}
+use Rattle.table.specs.code.Sound.{Node, WellFormed}
 use Rattle.table.proofs.trees.Trees.{expr-literal, expr-set, expr-other}
 
 -- what is left where a node is neither a name nor an array nor an object: it is a leaf or a set

@@ -12,7 +12,7 @@ use lib.ListN.{length, getD, length-append}
 use Rattle.table.specs.Tables.{Tables, kindOf, firstOf, countOf, childAt}
 use Rattle.table.specs.Expr.{Expr, literal, name, wildcard, array, set, object, other, Exprs}
 use Rattle.table.specs.Decode.{expr, items, isWildcard}
-use Rattle.table.specs.Sound.{Node}
+use Rattle.table.specs.code.Sound.{Node}
 use Rattle.table.proofs.trees.Trees.{expr-name, expr-array, items-step, items-end, count-items}
 use Rattle.planner.specs.Layout.{Entry, entry}
 use Rattle.planner.specs.Entries.{Wrote}
@@ -183,9 +183,6 @@ ordering-start T states binders parent first order total before at a =
 module _ {T : Tables} {states binders : List ℕ} {parent first : ℕ} {order : List ℕ} {total : ℕ} {before : List ℕ} {at q : ℕ} {mid : List ℕ} {here : ℕ} (go : LayingFields T states binders parent first order total before at q mid here) where
   pub ordering-long : length mid ≡ length before
   ordering-long = wrote-long (go .wrote)
-
-  pub ordering-inside : q < total → q < 256
-  ordering-inside lt = let f = go .asks .few in omega arith
 
   -- the field's child entries
   module _ (lt : q < total) {i : ℕ} (is-field : i ≡ getD order q 0) where

@@ -7,8 +7,8 @@ use native.Mathlib.Nat.{add-mul, one-mul}
 use mir.Val.{Fits}
 use mir.Syntax.{w64}
 use Rattle.table.specs.Tables.{Tables, kindOf, firstOf, countOf, width, childAt}
-use Rattle.table.specs.Sound.{Node}
-use Rattle.table.proofs.trees.Trees.{width-array, width-set, width-object, child-node}
+use Rattle.table.specs.code.Sound.{Node}
+use Rattle.table.proofs.trees.Trees.{width-array, child-node}
 use Rattle.planner.specs.code.Post.{NameNumber, Walks, WalksChildren}
 
 -- a node by its kind, as the readers gave its words
@@ -25,33 +25,16 @@ module _ (T : Tables) (states : List ℕ) (n : ℕ) (a : Walks T states n) {kind
       record { low = omega arith; high = omega arith }
 
   module _ {size : ℕ} (is-size : size ≡ countOf (T .nodes) n) where
-    ask-each : width (T .nodes) n ≡ size → first < 2 ^ 32 → size < 2 ^ 32 → WalksChildren T states n first 1 size
-    ask-each w f s = record {
-      table = a .table;
-      states-ok = a .states-ok;
-      each = λ i lt.
-          let e : first + i * 1 ≡ firstOf (T .nodes) n + i = omega arith in
-          let in-width : i < width (T .nodes) n = omega arith in
-          rw e (child-node T (a .table) n (a .node) i in-width, a .table .below n (a .node) i in-width .1);
-      small = omega arith;
-    }
-
     pub ask-items : kind ≡ 7 → first < 2 ^ 32 → size < 2 ^ 32 → WalksChildren T states n first 1 size
-    ask-items k = ask-each (width-array (kindOf (T .nodes) n) (countOf (T .nodes) n) (node-kind k) ∙ sym is-size)
-
-    pub ask-members : kind ≡ 8 → first < 2 ^ 32 → size < 2 ^ 32 → WalksChildren T states n first 1 size
-    ask-members k = ask-each (width-set (kindOf (T .nodes) n) (countOf (T .nodes) n) (node-kind k) ∙ sym is-size)
-
-    pub ask-values : kind ≡ 9 → first < 2 ^ 32 → size < 2 ^ 32 → WalksChildren T states n (first + 1) 2 size
-    ask-values k f s =
-        let w = width-object (kindOf (T .nodes) n) (countOf (T .nodes) n) (node-kind k) in
+    ask-items k f s =
+        let w = width-array (kindOf (T .nodes) n) (countOf (T .nodes) n) (node-kind k) in
         record {
           table = a .table;
           states-ok = a .states-ok;
           each = λ i lt.
-              let e : first + 1 + i * 2 ≡ firstOf (T .nodes) n + (i * 2 + 1) = omega arith in
-              let in-width : i * 2 + 1 < width (T .nodes) n = omega arith in
-              rw e (child-node T (a .table) n (a .node) (i * 2 + 1) in-width, a .table .below n (a .node) (i * 2 + 1) in-width .1);
+              let e : first + i * 1 ≡ firstOf (T .nodes) n + i = omega arith in
+              let in-width : i < width (T .nodes) n = omega arith in
+              rw e (child-node T (a .table) n (a .node) i in-width, a .table .below n (a .node) i in-width .1);
           small = omega arith;
         }
 

@@ -10,6 +10,7 @@ use borrow.Author.Tests.{eqb-true, eqb-false}
 use lib.Dec.{eqb}
 use lib.ListN.{length, getD, take, drop, set, length-append, length-map, length-set, take-append-drop, List·getD-append, List·getD-map}
 use lib.Seq.{take-nil, take-append-le, drop-append-le, take-take, getD-take, set-split, set-append-left, take-set-lt}
+use Rattle.base.proofs.Search.{between-up, between-down}
 use Rattle.literal.specs.Literal.{Literal, null}
 use Rattle.literal.specs.Order.{Order, less, same, more, opposite, keyOrder, compared, told}
 use Rattle.literal.specs.Laws.{TotalOrder}
@@ -18,7 +19,7 @@ use Rattle.table.specs.Tables.{childAt}
 use Rattle.table.specs.Decode.{fields}
 use Rattle.planner.specs.Layout.{Entry, literalKey, Slot, placed, insert, FieldOrder, noFields, addField, heldIn, inOrder}
 use Rattle.planner.specs.code.Passes.{layOut, layOutFields, orderFrom}
-use Rattle.planner.specs.code.Ordering.{At, Between}
+use Rattle.planner.specs.code.Ordering.{At, KeyBetween}
 
 -- what is held, mapped
 
@@ -432,31 +433,18 @@ module _ (laws : TotalOrder keyOrder) {key : ℕ → Option Literal} {o : FieldO
 
 -- search
 
-pub between-start : (key : ℕ → Option Literal) (own : Option Literal) (order : List ℕ) (m : ℕ) → Between key own order m 0 m
-between-start key own order m = record { spans = omega arith; inside = omega arith; before = λ q lt. absurd (omega arith); behind = λ q le lt. absurd (omega arith) }
-
 module _ (laws : TotalOrder keyOrder) {key : ℕ → Option Literal} {o : FieldOrder ℕ} {order : List ℕ} {m total : ℕ} (a : Ordered key o order m total)
-    {k : Option Literal} {l : Literal} (own : k ≡ Option.some l) {low high : ℕ} (b : Between key k order m low high) where
+    {k : Option Literal} {l : Literal} (own : k ≡ Option.some l) {low high : ℕ} (b : KeyBetween key k order m low high) where
   module _ (q : ℕ) (from : low ≤ q) (to : q < high) where
-    pub between-up : At more key k order q → Between key k order m (q + 1) high
-    between-up h = record {
-      spans = omega arith;
-      inside = b .inside;
-      before = λ i lt. let n = b .inside in order-before a own laws q (omega arith) h i (omega arith);
-      behind = b .behind;
-    }
+    pub keys-up : At more key k order q → KeyBetween key k order m (q + 1) high
+    keys-up h = between-up b q from to (λ i le. let n = b .inside in order-before a own laws q (omega arith) h i le)
 
-    pub between-down : At less key k order q → Between key k order m low q
-    between-down h = record {
-      spans = from;
-      inside = let n = b .inside in omega arith;
-      before = b .before;
-      behind = λ i le lt. let n = b .inside in order-behind a own laws q (omega arith) h i le lt;
-    }
+    pub keys-down : At less key k order q → KeyBetween key k order m low q
+    keys-down h = between-down b q from to (λ i le lt. let n = b .inside in order-behind a own laws q (omega arith) h i le lt)
 
 -- nothing between: the key is new, and goes in at low
 pub between-insert : (laws : TotalOrder keyOrder) {key : ℕ → Option Literal} {o : FieldOrder ℕ} {order : List ℕ} {m total : ℕ} → Ordered key o order m total
-    → {j : ℕ} {l : Literal} → key j ≡ Option.some l → {low high : ℕ} → Between key (key j) order m low high
+    → {j : ℕ} {l : Literal} → key j ≡ Option.some l → {low high : ℕ} → KeyBetween key (key j) order m low high
     → high ≤ low → (later : List ℕ) → take (total + 1) later ≡ take low order ++ (j ∷ take (total - low) (drop low order))
     → Ordered key (addField (key j) j o) later (m + 1) (total + 1)
 between-insert laws a {j} {l} own {low} b closed later moved =

@@ -14,12 +14,13 @@ use Rattle.literal.specs.Literal.{Literal}
 use Rattle.table.specs.Tables.{Tables, kindOf, firstOf, countOf, width, childAt}
 use Rattle.table.specs.Expr.{Expr, object, Exprs, Fields, nodeOf}
 use Rattle.table.specs.Decode.{expr, fields, isWildcard, headed, literalAt, literalNode, refOf}
-use Rattle.table.specs.Sound.{Node, WellFormed}
+use Rattle.table.specs.code.Sound.{Node, WellFormed}
 use Rattle.table.proofs.trees.Trees.{expr-unfolds, expr-literal, expr-object, width-object, child-node}
 use Rattle.planner.specs.Layout.{Entry, entry, literalKey, Slot, heldIn, FieldOrder, noFields, inOrder, addField, concat}
 use Rattle.planner.specs.Entries.{Wrote}
 use Rattle.planner.specs.code.Passes.{layOut, layOutFields, orderFrom, concatAt, layOutOrdered, keyNode, valueNode, fieldKey, fieldEntries, orderOf}
-use Rattle.planner.specs.code.Post.{LayObjectAsks, OrderAsks, OrderedBy, LayOrderedAsks}
+use Rattle.planner.specs.code.Post.{LayObjectAsks, OrderAsks, OrderedBy, Arranged, LayOrderedAsks}
+use Rattle.planner.proofs.fields.FieldLoops.{arranged-first}
 use Rattle.planner.proofs.fields.FieldOrder as Fields
 use Rattle.planner.proofs.fields.FieldOrder.{AllSlots, insert-all, order-entries}
 use Rattle.planner.proofs.buffer.Copies.{wrote-append}
@@ -192,7 +193,10 @@ module _ (T : Tables) (states binders : List ℕ) (n key at : ℕ) (a : LayObjec
       ∙ (ap (λ (l : List (List Entry)). entry 6 n (length l) key ∷ concat l) order-is
       ∙ ap (λ (k : ℕ). entry 6 n k key ∷ concat (map (fieldEntries binders T first) (inOrder (orderOf T first size)))) (length-map (inOrder (orderOf T first size)) (fieldEntries binders T first)))
 
-  module _ {order : List ℕ} {total : ℕ} (by : OrderedBy T first size order total) where
+  module _ {from order : List ℕ} {total : ℕ} (arranged : Arranged T first size from order total) where
+    by : OrderedBy T first size order total
+    by = arranged-first arranged
+
     fits-array : total ≤ length order
     fits-array = let t = by .total in omega (arith, ap length (by .fields), length-take total order)
 

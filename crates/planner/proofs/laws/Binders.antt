@@ -16,8 +16,8 @@ use Rattle.table.specs.Expr as Expr
 use Rattle.table.specs.Expr.{Expr, literal, name, wildcard, array, object, other, Exprs, none, item, Fields, done, field, nodeOf, count, parts, partsAll, partsFields}
 use Rattle.table.specs.Tables.{Tables, kindOf, firstOf, countOf, width, childAt}
 use Rattle.table.specs.Decode.{literalAt, items, fields, leafOf, namedBy, isWildcard, headed, expr}
-use Rattle.table.specs.Rules.{elem, noRepeat}
-use Rattle.table.specs.Sound.{Node, WellFormed}
+use Rattle.base.specs.Lists.{elem, noRepeat}
+use Rattle.table.specs.code.Sound.{Node, WellFormed}
 use Rattle.table.proofs.tests.Bools.{and-true}
 use Rattle.table.proofs.trees.Lists.{elem-head, elem-left, elem-right, elem-tail, no-repeat-append}
 use Rattle.table.proofs.trees.Trees.{width-array, width-set, width-object, child-node, expr-unfolds, expr-name, expr-array, expr-set, expr-object}

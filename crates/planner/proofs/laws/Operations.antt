@@ -1,68 +1,69 @@
 -- The planning operations, answer by answer.
 use Prim.Native.Nat.{ℕ, _-_}
 use mathlib.Core.Path.{_≡_, refl, sym, ap, subst, _∙_}
-use mathlib.Core.List.{List, []}
-use mathlib.Core.Bool.{Bool, true, false, not, false≢true}
+use mathlib.Core.List.{List, [], _∷_}
+use mathlib.Core.Bool.{Bool, true, false, not}
 use native.Mathlib.Omega.{arith}
 use borrow.Author.Tests.{leb-true, not-true, not-false}
 use lib.Dec.{eqb, leb}
 use lib.ListN.{length, getD, replicate}
 use Rattle.scope.specs.declared.Scope.{Scope}
 use Rattle.scope.specs.declared.ScopingMode.{ScopingMode}
+use Rattle.base.specs.Refusal as Refusal
 use Rattle.table.specs.declared.TableAnswer.{TableAnswer}
-use Rattle.table.specs.declared.TableAnswer.the-variants.{Sound, OverLimit, BreaksRules, TooDeep, EqualNames}
+use Rattle.table.specs.declared.TableAnswer.the-variants.{Sound, Refused}
+use Rattle.table.specs.declared.TableRefusal.{TableRefusal}
 use Rattle.table.specs.Tables.{Tables, nodeCount, isNode}
-use Rattle.table.specs.Check.{checked}
-use Rattle.table.specs.Rules.{elem}
-use Rattle.table.specs.Sound.{Node, WellFormed}
+use Rattle.table.specs.Check.{checked, tableRefused, TableAnswered, testedOf, allNodes}
+use Rattle.base.specs.Lists.{elem}
+use Rattle.table.specs.Decode.{expr}
+use Rattle.scope.specs.Scope.{isUnbound}
+use Rattle.table.specs.code.Sound.{Node, WellFormed}
 use Rattle.table.proofs.tests.Bools.{and-true}
 use Rattle.table.proofs.trees.Facts.{sound-table}
 use Rattle.planner.specs.declared.PlanAnswer.{PlanAnswer}
 use Rattle.planner.specs.declared.PlanAnswer.the-variants.{TableRefused, RootOutside}
-use Rattle.planner.specs.Plan.{DestructuringPlan}
+use Rattle.base.specs.Refusal.{Refusal, refusalLine, passed, rootOutside}
+use Rattle.planner.specs.Answer.{lineOf}
+use Rattle.planner.specs.Plan.{DestructuringPlan, after}
 use Rattle.planner.specs.Layout.{entries}
-use Rattle.planner.specs.code.Passes.{unboundIn}
 use Rattle.planner.specs.Entries.{Wrote}
-use Rattle.planner.specs.Operations.{Outcome, refused, answered, written, Answered, tableFirst, isSound, rootInside, planOf, patternPlanned}
-use Rattle.planner.specs.code.Post.{StatesOf, PlanAsks, PlannedBy, PatternAsks, PatternPlanned, GoodRoot, Closed}
+use Rattle.planner.specs.Operations.{Outcome, refused, answered, written, Answered, tableFirst, checkedFirst, planOf, patternPlanned}
+use Rattle.planner.specs.code.Post.{NameNumber, statesOf, PlanAsks, PlannedBy, PatternAsks, PatternPlanned, GoodRoot, Closed}
 use Rattle.planner.proofs.laws.Binders.{bound-agree-of}
-use Rattle.planner.proofs.laws.SamePlan.{states-wild, same-plan, same-after}
+use Rattle.planner.proofs.laws.SamePlan.{states-wild, same-plan, same-binders}
 use Rattle.planner.proofs.buffer.Copies.{wrote-closed}
 
 -- a pattern under a scope
 module _ (T : Tables) (s : Scope) (mode : ScopingMode) (root : ℕ) {start : List ℕ} (at : ℕ) (a : PatternAsks T root start at) where
-  module _ {states : List ℕ} (of : StatesOf (T .names) (T .text) s mode states) where
+  module _ {states : List ℕ} (of : states ≡ statesOf (T .names) (T .text) s mode) where
     pub ask-plan : PlanAsks T states root start at
-    ask-plan = record { walks = record { table = a .table; states-ok = states-wild T s mode states of; node = a .node }; none-bound = a .none-bound; low = a .low }
+    ask-plan = record { walks = record { table = a .table; states-ok = states-wild T s mode states of (a .table); node = a .node }; none-bound = a .none-bound; low = a .low }
 
     pub pattern-planned : {before binders later : List ℕ} {r : ℕ} → PlannedBy T states root at before binders later r → PatternPlanned T s mode root at before binders later r
     pattern-planned {before} {binders} {later} {r} p = record {
-      tracked = λ x v.
-          ap (elem x) (sym (same-after T s mode states of (a .table) root (a .node) []))
-          ∙ (bound-agree-of T (a .table) (unboundIn states) root (a .node) x (v .low) (v .high)
-          ∙ ap (λ (bs : List ℕ). not (eqb (getD bs (x - 1) 0) 0)) (sym (p .bound)));
+      bound = p .bound ∙ same-binders T s mode states of (a .table) root (a .node) (replicate 128 0);
       wrote = subst (λ (q : DestructuringPlan). Wrote before at (entries q 0) later r) (same-plan T s mode states of (a .table) root (a .node) []) (p .wrote);
       few = p .few;
       space = p .space;
     }
 
-pub refuses : (a : PlanAnswer) {before later : List ℕ} → later ≡ replicate (length before) 0 → Answered (refused a) before later a
+-- the names that the plan tracks have binders
+pub pattern-tracked : {T : Tables} {s : Scope} {mode : ScopingMode} {root at : ℕ} {before binders later : List ℕ} {r : ℕ} → WellFormed T → Node T root → PatternPlanned T s mode root at before binders later r
+    → (x : ℕ) → NameNumber x → elem x (after (isUnbound s mode) (expr T root) []) ≡ not (eqb (getD binders (x - 1) 0) 0)
+pattern-tracked {T} {s} {mode} {root} w v p x named =
+    bound-agree-of T w (isUnbound s mode) root v x (named .low) (named .high) ∙ ap (λ (bs : List ℕ). not (eqb (getD bs (x - 1) 0) 0)) (sym (p .bound))
+
+pub refuses : (a : Refusal) {r : PlanAnswer} {before later : List ℕ} → lineOf r ≡ refusalLine a → later ≡ replicate (length before) 0 → Answered (refused a) before later r
 unfolding answered written
-refuses a e = record { answer = refl; buffer = e }
+refuses a l e = record { answer = l; buffer = e }
 
 -- the table check, the root, and a plan that is delivered
-sound-is : (c : TableAnswer) → isSound c ≡ true → c ≡ Sound
-sound-is Sound e = refl
-sound-is OverLimit e = absurd (false≢true e)
-sound-is BreaksRules e = absurd (false≢true e)
-sound-is TooDeep e = absurd (false≢true e)
-sound-is EqualNames e = absurd (false≢true e)
+pub check-passes : (T : Tables) (s : Scope) {c : TableAnswer} → TableAnswered T s c → c ≡ Sound → checked T s ≡ passed
+check-passes T s is sound = sym (is .answer) ∙ ap testedOf sound
 
-pub table-passes : {c : TableAnswer} {ok : Bool} → ok ≡ isSound c → not ok ≡ false → c ≡ Sound
-table-passes {c} {ok} of passes = sound-is c (sym of ∙ not-false ok passes)
-
-pub sound-well : (T : Tables) (s : Scope) {c : TableAnswer} → c ≡ checked T s → {ok : Bool} → ok ≡ isSound c → not ok ≡ false → WellFormed T
-sound-well T s is of passes = sound-table T s (sym is ∙ table-passes of passes) .wellFormed
+pub sound-well : (T : Tables) (s : Scope) {c : TableAnswer} → TableAnswered T s c → c ≡ Sound → WellFormed T
+sound-well T s is sound = sound-table T s (check-passes T s is sound) .wellFormed
 
 is-node : (T : Tables) (root : ℕ) {inside : Bool} → inside ≡ isNode T root → not inside ≡ false → isNode T root ≡ true
 is-node T root {inside} told in-table = sym told ∙ not-false inside in-table
@@ -72,35 +73,30 @@ root-node T root told in-table =
     let b = and-true (leb 1 root) _ (is-node T root told in-table) in
     record { low = leb-true 1 root (b .0); high = leb-true root (nodeCount T) (b .1) }
 
-module _ (T : Tables) (s : Scope) {c : TableAnswer} (is : c ≡ checked T s) {ok : Bool} (of : ok ≡ isSound c) (before : List ℕ) where
-  pub table-refuses : (o : Outcome) {later : List ℕ} → not ok ≡ true → later ≡ replicate (length before) 0 → Answered (tableFirst (checked T s) o) before later (TableRefused c)
-  unfolding answered written
-  table-refuses o {later} unsound e = go c refl
-    where
-      go : (d : TableAnswer) → c ≡ d → Answered (tableFirst (checked T s) o) before later (TableRefused c)
-      go Sound p = absurd (false≢true (sym (not-true ok unsound) ∙ (of ∙ ap isSound p)))
-      go OverLimit p = let q : checked T s ≡ OverLimit = sym is ∙ p in record { answer = simp (q, p); buffer = simp q e }
-      go BreaksRules p = let q : checked T s ≡ BreaksRules = sym is ∙ p in record { answer = simp (q, p); buffer = simp q e }
-      go TooDeep p = let q : checked T s ≡ TooDeep = sym is ∙ p in record { answer = simp (q, p); buffer = simp q e }
-      go EqualNames p = let q : checked T s ≡ EqualNames = sym is ∙ p in record { answer = simp (q, p); buffer = simp q e }
+pub good-root : (T : Tables) (s : Scope) {c : TableAnswer} → TableAnswered T s c → c ≡ Sound → (root : ℕ) {inside : Bool} → inside ≡ isNode T root → not inside ≡ false → GoodRoot T root
+good-root T s is sound root told in-table = record { table = sound-well T s is sound; node = root-node T root told in-table }
 
-  module _ (passes : not ok ≡ false) where
+-- a table that passed the check, and the roots of an operation
+module _ (T : Tables) (s : Scope) (sound : checked T s ≡ passed) (roots : List ℕ) (o : Outcome) {before later : List ℕ} where
+  pub roots-refuse : allNodes T roots ≡ false → later ≡ replicate (length before) 0 → Answered (checkedFirst T s roots o) before later RootOutside
+  roots-refuse out e = simp (sound, out) (refuses rootOutside refl e)
+
+  pub roots-pass : {r : PlanAnswer} → allNodes T roots ≡ true → Answered o before later r → Answered (checkedFirst T s roots o) before later r
+  roots-pass inside p = simp (sound, inside) p
+
+module _ (T : Tables) (s : Scope) {c : TableAnswer} (is : TableAnswered T s c) (before : List ℕ) where
+  pub table-refuses : (o : Outcome) {d : TableRefusal} {later : List ℕ} → c ≡ Refused d → later ≡ replicate (length before) 0 → Answered (tableFirst (checked T s) o) before later (TableRefused d)
+  table-refuses o {d} p e = let q : checked T s ≡ Refusal.refused (tableRefused d) = sym (is .answer) ∙ ap testedOf p in simp q (refuses (tableRefused d) refl e)
+
+  module _ (sound : c ≡ Sound) where
     module _ (root : ℕ) {inside : Bool} (told : inside ≡ isNode T root) where
-      pub root-refuses : (o : Outcome) {later : List ℕ} → not inside ≡ true → later ≡ replicate (length before) 0 → Answered (tableFirst (checked T s) (rootInside T root o)) before later RootOutside
-      unfolding answered written
-      root-refuses o {later} out e =
-          let q : checked T s ≡ Sound = sym is ∙ table-passes of passes in
-          let r : isNode T root ≡ false = sym told ∙ not-true inside out in
-          record { answer = simp (q, r); buffer = simp (q, r) e }
+      pub root-refuses : (o : Outcome) {later : List ℕ} → not inside ≡ true → later ≡ replicate (length before) 0 → Answered (checkedFirst T s (root ∷ []) o) before later RootOutside
+      root-refuses o {later} out e = let r : isNode T root ≡ false = sym told ∙ not-true inside out in roots-refuse T s (check-passes T s is sound) (root ∷ []) o (rw r) e
 
       module _ (in-table : not inside ≡ false) where
         -- the operation goes on
-        pub goes-on : (o : Outcome) {later : List ℕ} {r : PlanAnswer} → Answered o before later r → Answered (tableFirst (checked T s) (rootInside T root o)) before later r
-        goes-on o {later} {r} p =
-            let q : checked T s ≡ Sound = sym is ∙ table-passes of passes in
-            let n = is-node T root told in-table in
-            let e : tableFirst (checked T s) (rootInside T root o) ≡ o = simp (q, n) in
-            rw e p
+        pub goes-on : (o : Outcome) {later : List ℕ} {r : PlanAnswer} → Answered o before later r → Answered (checkedFirst T s (root ∷ []) o) before later r
+        goes-on o {later} {r} p = let n = is-node T root told in-table in roots-pass T s (check-passes T s is sound) (root ∷ []) o (rw n) p
 
 -- a pattern's plan in the lent buffer
 pub ask-pattern : (T : Tables) (root : ℕ) → GoodRoot T root → PatternAsks T root (replicate 128 0) 0

@@ -12,13 +12,13 @@ use lib.Dec.{eqb}
 use Rattle.table.specs.Expr.{Expr, literal, name, wildcard, array, set, object, other, Exprs, none, item, Fields, done, field, nodeOf}
 use Rattle.table.specs.Tables.{Tables, firstOf}
 use Rattle.table.specs.Decode.{expr}
-use Rattle.table.specs.Rules.{elem, noRepeat}
-use Rattle.table.specs.Sound.{Node, WellFormed}
+use Rattle.base.specs.Lists.{elem, noRepeat}
+use Rattle.table.specs.code.Sound.{Node, WellFormed}
 use Rattle.table.proofs.tests.Bools.{and-true}
 use Rattle.table.proofs.trees.Lists.{elem-nil, elem-cons, elem-append, no-repeat-cons, cons-no-repeat, append-no-repeat}
-use Rattle.planner.specs.Plan.{DestructuringPlan, var, ignore, equalityExpr, equalityValue, arrayPlan, objectPlan, Plans, noPlan, itemPlan, FieldPlans, noField, fieldPlan, fresh, plan, plans, fieldPlans, after, afterAll, afterFields, boundVars, boundVarsAll, boundVarsFields}
-use Rattle.planner.specs.Layout.{Entry, literalKey, FieldOrder, noFields, addField, inOrder, concat, entries, entriesAll, fieldOrder}
-use Rattle.planner.specs.Laws.{createPlan, createPlans, createFieldPlans, PlanLaws, boundNames}
+use Rattle.planner.specs.Plan.{DestructuringPlan, var, ignore, equalityExpr, equalityValue, arrayPlan, objectPlan, Plans, noPlan, itemPlan, FieldPlans, noField, fieldPlan, fresh, plan, plans, fieldPlans, after, afterAll, afterFields, trackedVars, trackedVarsAll, trackedVarsFields}
+use Rattle.planner.specs.Layout.{Entry, literalKey, FieldOrder, noFields, addField, inOrder, concat, entries, entriesAll, fieldOrder, boundNames}
+use Rattle.planner.specs.Laws.{createPlan, createPlans, createFieldPlans, PlanLaws}
 use Rattle.planner.proofs.laws.Sizes.{total, total-append, add-total}
 use Rattle.planner.proofs.laws.Binders.{AllNames, AllNamesAll, AllNamesFields, names-all}
 
@@ -78,9 +78,9 @@ module _ (u : ℕ → Bool) where
   -- the names planned after are those before and those bound
   module _ (x : ℕ) where
     mutual
-      unfolding plan after boundVars elem
+      unfolding plan after trackedVars elem
 
-      pub after-bound : (e : Expr) (seen : List ℕ) → elem x (after u e seen) ≡ (elem x (boundVars (plan u e seen)) || elem x seen)
+      pub after-bound : (e : Expr) (seen : List ℕ) → elem x (after u e seen) ≡ (elem x (trackedVars (plan u e seen)) || elem x seen)
       after-bound (literal n l) seen = refl
       after-bound (name n y) seen = go (fresh u seen y)
         where
@@ -88,7 +88,7 @@ module _ (u : ℕ → Bool) where
           one true = refl
           one false = refl
 
-          go : (c : Bool) → elem x (cond c (y ∷ seen) seen) ≡ (elem x (boundVars (cond c (var n y) (equalityExpr (name n y)))) || elem x seen)
+          go : (c : Bool) → elem x (cond c (y ∷ seen) seen) ≡ (elem x (trackedVars (cond c (var n y) (equalityExpr (name n y)))) || elem x seen)
           go true = one (eqb x y)
           go false = refl
       after-bound (wildcard n) seen = refl
@@ -97,38 +97,38 @@ module _ (u : ℕ → Bool) where
       after-bound (object n fs) seen = after-bound-fields fs seen
       after-bound (other n) seen = refl
 
-      pub after-bound-all : (es : Exprs) (seen : List ℕ) → elem x (afterAll u es seen) ≡ (elem x (boundVarsAll (plans u es seen)) || elem x seen)
+      pub after-bound-all : (es : Exprs) (seen : List ℕ) → elem x (afterAll u es seen) ≡ (elem x (trackedVarsAll (plans u es seen)) || elem x seen)
       after-bound-all none seen = refl
       after-bound-all (item e es) seen =
           let h = after-bound e seen in
           let t = after-bound-all es (after u e seen) in
-          t ∙ rw (h, elem-either x (boundVars (plan u e seen)) (boundVarsAll (plans u es (after u e seen))))
-          (or-turn (elem x (boundVars (plan u e seen))) (elem x (boundVarsAll (plans u es (after u e seen)))) (elem x seen))
+          t ∙ rw (h, elem-either x (trackedVars (plan u e seen)) (trackedVarsAll (plans u es (after u e seen))))
+          (or-turn (elem x (trackedVars (plan u e seen))) (elem x (trackedVarsAll (plans u es (after u e seen)))) (elem x seen))
 
-      pub after-bound-fields : (fs : Fields) (seen : List ℕ) → elem x (afterFields u fs seen) ≡ (elem x (boundVarsFields (fieldPlans u fs seen)) || elem x seen)
+      pub after-bound-fields : (fs : Fields) (seen : List ℕ) → elem x (afterFields u fs seen) ≡ (elem x (trackedVarsFields (fieldPlans u fs seen)) || elem x seen)
       after-bound-fields done seen = refl
       after-bound-fields (field k v fs) seen =
           let h = after-bound v seen in
           let t = after-bound-fields fs (after u v seen) in
-          t ∙ rw (h, elem-either x (boundVars (plan u v seen)) (boundVarsFields (fieldPlans u fs (after u v seen))))
-          (or-turn (elem x (boundVars (plan u v seen))) (elem x (boundVarsFields (fieldPlans u fs (after u v seen)))) (elem x seen))
+          t ∙ rw (h, elem-either x (trackedVars (plan u v seen)) (trackedVarsFields (fieldPlans u fs (after u v seen))))
+          (or-turn (elem x (trackedVars (plan u v seen))) (elem x (trackedVarsFields (fieldPlans u fs (after u v seen)))) (elem x seen))
 
     -- a name planned before or bound here is planned after
     still : (e : Expr) (seen : List ℕ) → elem x seen ≡ true → elem x (after u e seen) ≡ true
-    still e seen h = after-bound e seen ∙ or-right (elem x (boundVars (plan u e seen))) (elem x seen) h
+    still e seen h = after-bound e seen ∙ or-right (elem x (trackedVars (plan u e seen))) (elem x seen) h
 
-    now : (e : Expr) (seen : List ℕ) → elem x (boundVars (plan u e seen)) ≡ true → elem x (after u e seen) ≡ true
-    now e seen h = after-bound e seen ∙ or-left (elem x (boundVars (plan u e seen))) (elem x seen) h
+    now : (e : Expr) (seen : List ℕ) → elem x (trackedVars (plan u e seen)) ≡ true → elem x (after u e seen) ≡ true
+    now e seen h = after-bound e seen ∙ or-left (elem x (trackedVars (plan u e seen))) (elem x seen) h
 
     -- a bound name was not planned before
     mutual
-      unfolding plan after boundVars
+      unfolding plan after trackedVars
 
-      pub bound-new : (e : Expr) (seen : List ℕ) → elem x (boundVars (plan u e seen)) ≡ true → elem x seen ≡ true → ⊥
+      pub bound-new : (e : Expr) (seen : List ℕ) → elem x (trackedVars (plan u e seen)) ≡ true → elem x seen ≡ true → ⊥
       bound-new (literal n l) seen h old = elem-nil x h
       bound-new (name n y) seen h old = go (fresh u seen y) refl h
         where
-          go : (c : Bool) → fresh u seen y ≡ c → elem x (boundVars (cond c (var n y) (equalityExpr (name n y)))) ≡ true → ⊥
+          go : (c : Bool) → fresh u seen y ≡ c → elem x (trackedVars (cond c (var n y) (equalityExpr (name n y)))) ≡ true → ⊥
           go true e t =
               ⊎-elim (λ q. false≢true (sym (not-true (elem y seen) (and-true (u y) (not (elem y seen)) e .1)) ∙ (ap (λ (z : ℕ). elem z seen) (sym q) ∙ old)))
               (elem-nil x) (elem-cons x y [] t)
@@ -139,26 +139,26 @@ module _ (u : ℕ → Bool) where
       bound-new (object n fs) seen h old = bound-new-fields fs seen h old
       bound-new (other n) seen h old = elem-nil x h
 
-      pub bound-new-all : (es : Exprs) (seen : List ℕ) → elem x (boundVarsAll (plans u es seen)) ≡ true → elem x seen ≡ true → ⊥
+      pub bound-new-all : (es : Exprs) (seen : List ℕ) → elem x (trackedVarsAll (plans u es seen)) ≡ true → elem x seen ≡ true → ⊥
       bound-new-all none seen h old = elem-nil x h
       bound-new-all (item e es) seen h old =
           ⊎-elim (λ p. bound-new e seen p old) (λ p. bound-new-all es (after u e seen) p (still e seen old))
-          (elem-append x (boundVars (plan u e seen)) (boundVarsAll (plans u es (after u e seen))) h)
+          (elem-append x (trackedVars (plan u e seen)) (trackedVarsAll (plans u es (after u e seen))) h)
 
-      pub bound-new-fields : (fs : Fields) (seen : List ℕ) → elem x (boundVarsFields (fieldPlans u fs seen)) ≡ true → elem x seen ≡ true → ⊥
+      pub bound-new-fields : (fs : Fields) (seen : List ℕ) → elem x (trackedVarsFields (fieldPlans u fs seen)) ≡ true → elem x seen ≡ true → ⊥
       bound-new-fields done seen h old = elem-nil x h
       bound-new-fields (field k v fs) seen h old =
           ⊎-elim (λ p. bound-new v seen p old) (λ p. bound-new-fields fs (after u v seen) p (still v seen old))
-          (elem-append x (boundVars (plan u v seen)) (boundVarsFields (fieldPlans u fs (after u v seen))) h)
+          (elem-append x (trackedVars (plan u v seen)) (trackedVarsFields (fieldPlans u fs (after u v seen))) h)
 
   mutual
-    unfolding plan boundVars noRepeat elem
+    unfolding plan trackedVars noRepeat elem
 
-    pub bound-once : (e : Expr) (seen : List ℕ) → noRepeat (boundVars (plan u e seen)) ≡ true
+    pub bound-once : (e : Expr) (seen : List ℕ) → noRepeat (trackedVars (plan u e seen)) ≡ true
     bound-once (literal n l) seen = refl
     bound-once (name n x) seen = go (fresh u seen x)
       where
-        go : (c : Bool) → noRepeat (boundVars (cond c (var n x) (equalityExpr (name n x)))) ≡ true
+        go : (c : Bool) → noRepeat (trackedVars (cond c (var n x) (equalityExpr (name n x)))) ≡ true
         go true = refl
         go false = refl
     bound-once (wildcard n) seen = refl
@@ -167,16 +167,16 @@ module _ (u : ℕ → Bool) where
     bound-once (object n fs) seen = bound-once-fields fs seen
     bound-once (other n) seen = refl
 
-    pub bound-once-all : (es : Exprs) (seen : List ℕ) → noRepeat (boundVarsAll (plans u es seen)) ≡ true
+    pub bound-once-all : (es : Exprs) (seen : List ℕ) → noRepeat (trackedVarsAll (plans u es seen)) ≡ true
     bound-once-all none seen = refl
     bound-once-all (item e es) seen =
-        append-no-repeat (boundVars (plan u e seen)) (boundVarsAll (plans u es (after u e seen))) (bound-once e seen) (bound-once-all es (after u e seen))
+        append-no-repeat (trackedVars (plan u e seen)) (trackedVarsAll (plans u es (after u e seen))) (bound-once e seen) (bound-once-all es (after u e seen))
         (λ m p q. bound-new-all m es (after u e seen) q (now m e seen p))
 
-    pub bound-once-fields : (fs : Fields) (seen : List ℕ) → noRepeat (boundVarsFields (fieldPlans u fs seen)) ≡ true
+    pub bound-once-fields : (fs : Fields) (seen : List ℕ) → noRepeat (trackedVarsFields (fieldPlans u fs seen)) ≡ true
     bound-once-fields done seen = refl
     bound-once-fields (field k v fs) seen =
-        append-no-repeat (boundVars (plan u v seen)) (boundVarsFields (fieldPlans u fs (after u v seen))) (bound-once v seen) (bound-once-fields fs (after u v seen))
+        append-no-repeat (trackedVars (plan u v seen)) (trackedVarsFields (fieldPlans u fs (after u v seen))) (bound-once v seen) (bound-once-fields fs (after u v seen))
         (λ m p q. bound-new-fields m fs (after u v seen) q (now m v seen p))
 
   pub plan-laws : (e : Expr) → PlanLaws u e
@@ -267,9 +267,9 @@ module _ (nm : ℕ → ℕ) where
     times-concat (l ∷ ls) = let t = times-concat ls in let a = times-append l (concat ls) in omega arith
 
     mutual
-      unfolding entries boundVars NamesNodes boundNames total concat
+      unfolding entries trackedVars NamesNodes boundNames total concat
 
-      entries-times : (p : DestructuringPlan) → NamesNodes p → (key : ℕ) → times (entries p key) ≤ occurs x (boundVars p)
+      entries-times : (p : DestructuringPlan) → NamesNodes p → (key : ℕ) → times (entries p key) ≤ occurs x (trackedVars p)
       entries-times (var n y) named key = rw named (omega arith)
       entries-times (ignore n) named key = omega arith
       entries-times (equalityExpr e) named key = omega arith
@@ -277,31 +277,31 @@ module _ (nm : ℕ → ℕ) where
       entries-times (arrayPlan n ps) named key = entries-times-all ps named
       entries-times (objectPlan n fs) named key = let h = entries-times-fields fs named noFields in omega arith
 
-      entries-times-all : (ps : Plans) → NamesNodesAll ps → times (entriesAll ps) ≤ occurs x (boundVarsAll ps)
+      entries-times-all : (ps : Plans) → NamesNodesAll ps → times (entriesAll ps) ≤ occurs x (trackedVarsAll ps)
       entries-times-all noPlan named = omega arith
       entries-times-all (itemPlan p ps) named =
           let h = entries-times p (named .0) 0 in
           let t = entries-times-all ps (named .1) in
           let a = times-append (entries p 0) (entriesAll ps) in
-          let b = total-append (hit x) (boundVars p) (boundVarsAll ps) in
+          let b = total-append (hit x) (trackedVars p) (trackedVarsAll ps) in
           omega arith
 
       entries-times-fields : (fs : FieldPlans) → NamesNodesFields fs → (o : FieldOrder (List Entry))
-          → times (concat (inOrder (fieldOrder fs o))) ≤ occurs x (boundVarsFields fs) + times (concat (inOrder o))
+          → times (concat (inOrder (fieldOrder fs o))) ≤ occurs x (trackedVarsFields fs) + times (concat (inOrder o))
       entries-times-fields noField named o = omega arith
       entries-times-fields (fieldPlan k p fs) named o =
           let new = addField (literalKey k) (entries p (nodeOf k)) o in
           let h = entries-times p (named .0) (nodeOf k) in
           let t = entries-times-fields fs (named .1) new in
           let a = add-total times (literalKey k) (entries p (nodeOf k)) o in
-          let b = total-append (hit x) (boundVars p) (boundVarsFields fs) in
+          let b = total-append (hit x) (trackedVars p) (trackedVarsFields fs) in
           let d = times-concat (inOrder new) in
           let e = times-concat (inOrder o) in
           omega arith
 
-  pub entries-bound : (p : DestructuringPlan) → NamesNodes p → noRepeat (boundVars p) ≡ true → (key : ℕ) → noRepeat (boundNames nm (entries p key)) ≡ true
+  pub entries-bound : (p : DestructuringPlan) → NamesNodes p → noRepeat (trackedVars p) ≡ true → (key : ℕ) → noRepeat (boundNames nm (entries p key)) ≡ true
   entries-bound p named once key =
-      occurs-once (boundNames nm (entries p key)) (λ x. let a = entries-times x p named key in let b = once-occurs x (boundVars p) once in omega arith)
+      occurs-once (boundNames nm (entries p key)) (λ x. let a = entries-times x p named key in let b = once-occurs x (trackedVars p) once in omega arith)
 
   -- the plan of a tree whose name nodes nm names
   module _ (u : ℕ → Bool) where

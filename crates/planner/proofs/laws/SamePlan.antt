@@ -12,10 +12,11 @@ use Rattle.table.specs.Names.{classOf, sameBytes, underscoreBytes, inputBytes, 
 use Rattle.table.specs.Expr.{Expr, literal, name, wildcard, array, object, other, Exprs, none, item, Fields, done, field}
 use Rattle.table.specs.Expr as Expr
 use Rattle.table.specs.Decode.{expr}
-use Rattle.table.specs.Sound.{Node, WellFormed}
+use Rattle.table.specs.code.Sound.{Node, WellFormed}
 use Rattle.planner.specs.Plan.{DestructuringPlan, itemPlan, fieldPlan, plan, plans, fieldPlans, after, afterAll, afterFields, arrayPlan, objectPlan}
-use Rattle.planner.specs.code.Passes.{stateBy, unboundIn}
-use Rattle.planner.specs.code.Post.{States, StatesOf}
+use Rattle.planner.specs.code.Passes.{stateBy, unboundIn, bindersOf, bindersAll, bindersFields}
+use Rattle.planner.specs.code.Post.{States, statesOf}
+use Rattle.planner.proofs.laws.States.{states-each}
 use Rattle.planner.proofs.laws.Binders.{AllNames, AllNamesAll, AllNamesFields, names-all}
 
 -- two scopes' answers that agree on a pattern's names
@@ -42,6 +43,26 @@ module _ (u v : ℕ → Bool) where
     after-same-fields : (fs : Fields) → AllNamesFields (SameOn u v) fs → (seen : List ℕ) → afterFields u fs seen ≡ afterFields v fs seen
     after-same-fields done same seen = refl
     after-same-fields (field k e fs) same seen = let h = after-same e (same .1) seen in ap (λ (l : List ℕ). afterFields u fs l) h ∙ after-same-fields fs (same .2) (after v e seen)
+
+  mutual
+    unfolding bindersOf AllNames
+
+    pub binders-same : (e : Expr) → AllNames (SameOn u v) e → (binders : List ℕ) → bindersOf u e binders ≡ bindersOf v e binders
+    binders-same (literal n l) same binders = refl
+    binders-same (name n x) same binders = simp same
+    binders-same (wildcard n) same binders = refl
+    binders-same (array n es) same binders = binders-same-all es same binders
+    binders-same (Expr.set n es) same binders = refl
+    binders-same (object n fs) same binders = binders-same-fields fs same binders
+    binders-same (other n) same binders = refl
+
+    binders-same-all : (es : Exprs) → AllNamesAll (SameOn u v) es → (binders : List ℕ) → bindersAll u es binders ≡ bindersAll v es binders
+    binders-same-all none same binders = refl
+    binders-same-all (item e es) same binders = let h = binders-same e (same .0) binders in ap (λ (l : List ℕ). bindersAll u es l) h ∙ binders-same-all es (same .1) (bindersOf v e binders)
+
+    binders-same-fields : (fs : Fields) → AllNamesFields (SameOn u v) fs → (binders : List ℕ) → bindersFields u fs binders ≡ bindersFields v fs binders
+    binders-same-fields done same binders = refl
+    binders-same-fields (field k e fs) same binders = let h = binders-same e (same .1) binders in ap (λ (l : List ℕ). bindersFields u fs l) h ∙ binders-same-fields fs (same .2) (bindersOf v e binders)
 
   mutual
     unfolding plan AllNames
@@ -91,20 +112,20 @@ class-unbound bs u p = go (sameBytes bs inputBytes || sameBytes bs dataBytes) re
     go false q true = simp (p, q)
     go false q false = simp (p, q)
 
-module _ (T : Tables) (s : Scope) (mode : ScopingMode) (states : List ℕ) (of : StatesOf (T .names) (T .text) s mode states) where
-  pub states-wild : States T states
-  states-wild = record {
-    wild = λ x v. sym (ap (λ (m : ℕ). eqb m 2) (of .each x (v .low) (v .high)) ∙ class-wild (nameBytes (T .names) (T .text) x) (isUnbound s mode x));
+module _ (T : Tables) (s : Scope) (mode : ScopingMode) (states : List ℕ) (of : states ≡ statesOf (T .names) (T .text) s mode) where
+  pub states-wild : WellFormed T → States T states
+  states-wild w = record {
+    wild = λ x v. sym (ap (λ (m : ℕ). eqb m 2) (states-each (T .names) (T .text) s mode of (w .limits .names) x (v .low) (v .high)) ∙ class-wild (nameBytes (T .names) (T .text) x) (isUnbound s mode x));
   }
 
   pub states-agree : WellFormed T → (n : ℕ) → Node T n → AllNames (SameOn (unboundIn states) (isUnbound s mode)) (expr T n)
   states-agree w n v = names-all T w (SameOn (unboundIn states) (isUnbound s mode)) (λ m z k named.
       let x = w .named m z k in
-      ap (λ (i : ℕ). eqb i 1) (of .each (firstOf (T .nodes) m) (x .low) (x .high))
+      ap (λ (i : ℕ). eqb i 1) (states-each (T .names) (T .text) s mode of (w .limits .names) (firstOf (T .nodes) m) (x .low) (x .high))
       ∙ class-unbound (nameBytes (T .names) (T .text) (firstOf (T .nodes) m)) (isUnbound s mode (firstOf (T .nodes) m)) named) n v
 
   pub same-plan : WellFormed T → (n : ℕ) → Node T n → (seen : List ℕ) → plan (unboundIn states) (expr T n) seen ≡ plan (isUnbound s mode) (expr T n) seen
   same-plan w n v seen = plan-same (unboundIn states) (isUnbound s mode) (expr T n) (states-agree w n v) seen
 
-  pub same-after : WellFormed T → (n : ℕ) → Node T n → (seen : List ℕ) → after (unboundIn states) (expr T n) seen ≡ after (isUnbound s mode) (expr T n) seen
-  same-after w n v seen = after-same (unboundIn states) (isUnbound s mode) (expr T n) (states-agree w n v) seen
+  pub same-binders : WellFormed T → (n : ℕ) → Node T n → (binders : List ℕ) → bindersOf (unboundIn states) (expr T n) binders ≡ bindersOf (isUnbound s mode) (expr T n) binders
+  same-binders w n v binders = binders-same (unboundIn states) (isUnbound s mode) (expr T n) (states-agree w n v) binders

@@ -12,7 +12,7 @@ use Rattle.table.specs.Expr as Expr
 use Rattle.table.specs.Expr.{Expr, literal, name, wildcard, array, object, other, Exprs, none, item, Fields, done, field, nodeOf, countFields, parts, partsAll, partsFields}
 use Rattle.table.specs.Tables.{Tables}
 use Rattle.table.specs.Decode.{expr}
-use Rattle.table.specs.Sound.{Node, WellFormed}
+use Rattle.table.specs.code.Sound.{Node, WellFormed}
 use Rattle.table.proofs.trees.Forest.{forest, tree-few}
 use Rattle.planner.specs.Layout.{Entry, literalKey, Slot, placed, insert, FieldOrder, noFields, addField, heldIn, inOrder, concat}
 use Rattle.planner.specs.code.Passes.{layOut, layOutAll, layOutFields, orderFrom}

@@ -1,64 +1,119 @@
 -- What the scope says of the names, as the code asks it.
-use Prim.Native.Nat.{ℕ, _+_, _-_, _/_, _≤_}
+use Prim.Native.Nat.{ℕ, _+_, _-_, _/_, _≤_, _<_}
 use mathlib.Core.Path.{_≡_, refl, sym, ap, _∙_}
-use mathlib.Core.List.{List}
-use mathlib.Core.Bool.{Bool, true, false, cond}
+use mathlib.Core.List.{List, []}
+use mathlib.Core.Bool.{Bool, true, false, cond, not, false≢true}
 use native.Mathlib.Omega.{arith}
-use borrow.Author.Tests.{le-leb}
-use lib.ListN.{length}
+use borrow.Author.Tests.{le-leb, lt-leb, eq-eqb, ne-eqb, not-true, not-false}
+use lib.Dec.{leb}
+use lib.ListN.{length, getD}
 use Rattle.scope.specs.declared.Scope.{Scope}
 use Rattle.scope.specs.declared.ScopingMode.{ScopingMode}
 use Rattle.scope.specs.declared.Binding.{Binding}
 use Rattle.scope.specs.declared.Binding.the-variants as Binding
-use Rattle.scope.specs.Scope.{isName, isUnbound, bindingOf}
-use Rattle.scope.proofs.Laws.{answer-promise}
+use Rattle.scope.specs.Scope.{isName, isUnbound, asked, questionOf}
+use Rattle.scope.proofs.Laws.{says-yes, says-no, says-outside}
 use Rattle.table.specs.declared.NameClass.{NameClass}
 use Rattle.table.specs.declared.NameClass.the-variants.{Underscore, InputOrData, Ordinary}
 use Rattle.table.specs.Tables.{nameBytes}
 use Rattle.table.specs.Names.{classOf}
-use Rattle.planner.specs.code.Passes.{stateBy, unboundMark}
-use Rattle.planner.specs.code.Post.{NameNumber, StatesOf}
-use Rattle.planner.proofs.buffer.Filling.{Filling}
+use Rattle.planner.specs.code.Passes.{binderOf, stateBy, nameState, unboundMark}
+use Rattle.planner.specs.code.Post.{NameNumber, statesOf}
+use Rattle.planner.specs.code.Validation.{markIf, flagBy, flagOf, flagsOf}
+use Rattle.planner.proofs.buffer.Filling.{Filling, filling-ends, getD-tabulate, tabulate-next, tabulate-same}
 
 -- the scope's answer of a name's number
-module _ (x : ℕ) (u : Bool) {b : Binding} (is : b ≡ bindingOf x u) where
+module _ (x : ℕ) (u : Bool) {b : Binding} (is : questionOf b ≡ asked x u) where
   pub mark-yes : b ≡ Binding.Yes → 1 ≡ unboundMark u
-  mark-yes e = simp (answer-promise x u .is-yes (sym is ∙ e))
+  mark-yes e = simp (says-yes x u (ap questionOf (sym e) ∙ is) .1)
 
   pub mark-no : b ≡ Binding.No → 0 ≡ unboundMark u
-  mark-no e = simp (answer-promise x u .is-no (sym is ∙ e))
+  mark-no e = simp (says-no x u (ap questionOf (sym e) ∙ is) .1)
 
-  pub mark-never : NameNumber x → b ≡ Binding.NameOutside → 0 ≡ unboundMark u
+  pub name-never : NameNumber x → b ≡ Binding.NameOutside → ⊥
   unfolding isName
-  mark-never v e =
+  name-never v e =
       let l = le-leb 1 x (v .low) in
       let h = le-leb x 128 (v .high) in
-      let both : bindingOf x u ≡ cond u Binding.Yes Binding.No = simp (l, h) in
-      go u (sym both ∙ (sym is ∙ e))
-    where
-      go : (u : Bool) → cond u Binding.Yes Binding.No ≡ Binding.NameOutside → 0 ≡ unboundMark u
-      go true p = let z : _≡_ {A = ℕ} 0 1 = cc in z
-      go false p = refl
+      let both : isName x ≡ true = simp (l, h) in
+      false≢true (sym (says-outside x u (ap questionOf (sym e) ∙ is)) ∙ both)
 
--- by the class of the name
-module _ {class : NameClass} (bs : List ℕ) (u : Bool) (is : class ≡ classOf bs) where
-  pub state-underscore : class ≡ Underscore → 2 ≡ stateBy (classOf bs) u
-  state-underscore e = simp (sym is ∙ e)
+  pub mark-never : NameNumber x → b ≡ Binding.NameOutside → 0 ≡ unboundMark u
+  mark-never v e = absurd (name-never v e)
 
-  pub state-reserved : {r : ℕ} → class ≡ InputOrData → r ≡ unboundMark u → r ≡ stateBy (classOf bs) u
-  state-reserved e m = simp (sym is ∙ e) m
+-- a name's mark
+module _ (defined : Bool) (binder : ℕ) (u : Bool) where
+  pub mark-unbound : {m : ℕ} → not defined ≡ true → m ≡ unboundMark u → m ≡ markIf defined binder u
+  mark-unbound off e = simp (not-true defined off) e
 
-  pub state-ordinary : {r : ℕ} → class ≡ Ordinary → r ≡ unboundMark u → r ≡ stateBy (classOf bs) u
-  state-ordinary e m = simp (sym is ∙ e) m
+  module _ (on : not defined ≡ false) where
+    pub mark-planned : (binder ≡ 0 → ⊥) → 0 ≡ markIf defined binder u
+    mark-planned some = simp (not-false defined on, ne-eqb binder 0 some)
 
--- the states of all names
-abbrev pub stateAt : List ℕ → List ℕ → Scope → ScopingMode → ℕ → ℕ
-stateAt names text s mode k = stateBy (classOf (nameBytes names text (k + 1))) (isUnbound s mode (k + 1))
+    pub mark-free : {m : ℕ} → binder ≡ 0 → m ≡ unboundMark u → m ≡ 1 → 0 ≡ markIf defined binder u
+    mark-free {m} unset e one = simp (not-false defined on, eq-eqb binder 0 unset) (go u (sym e ∙ one))
+      where
+        go : (u : Bool) → unboundMark u ≡ 1 → _≡_ {A = ℕ} 0 (cond u 0 1)
+        go true p = refl
+        go false p = p
 
-pub states-end : {names text : List ℕ} {s : Scope} {mode : ScopingMode} {i : ℕ} {here : List ℕ} → Filling (stateAt names text s mode) 128 i here → length names / 2 ≤ i → StatesOf names text s mode here
-states-end {names} {text} {s} {mode} go le = record {
-  long = go .long;
-  each = λ x low high.
-      let e : x - 1 + 1 ≡ x = omega arith in
-      go .each (x - 1) (omega arith) ∙ ap (λ (y : ℕ). stateBy (classOf (nameBytes names text y)) (isUnbound s mode y)) e;
-}
+    pub mark-defined : {m : ℕ} → binder ≡ 0 → m ≡ unboundMark u → (m ≡ 1 → ⊥) → 1 ≡ markIf defined binder u
+    mark-defined {m} unset e differs = simp (not-false defined on, eq-eqb binder 0 unset) (go u e)
+      where
+        go : (u : Bool) → m ≡ unboundMark u → _≡_ {A = ℕ} 1 (cond u 0 1)
+        go true p = absurd (differs p)
+        go false p = refl
+
+module _ (names text : List ℕ) (s : Scope) (mode : ScopingMode) (defined : Bool) (binders : List ℕ) where
+  -- by the class of the name
+  module _ (x : ℕ) where
+    pub state-none : length names / 2 < x → 0 ≡ flagOf names text s mode defined binders x
+    state-none out = simp (lt-leb x (length names / 2) out)
+
+    module _ (inside : x ≤ length names / 2) {class : NameClass} (is : class ≡ classOf (nameBytes names text x)) where
+      has : leb x (length names / 2) ≡ true
+      has = le-leb x (length names / 2) inside
+
+      pub state-underscore : class ≡ Underscore → 2 ≡ flagOf names text s mode defined binders x
+      state-underscore e = simp (has, sym is ∙ e)
+
+      pub state-reserved : {r : ℕ} → class ≡ InputOrData → r ≡ markIf defined 1 (isUnbound s mode x) → r ≡ flagOf names text s mode defined binders x
+      state-reserved e m = simp (has, sym is ∙ e) m
+
+      pub state-ordinary : {r : ℕ} → class ≡ Ordinary → r ≡ markIf defined (binderOf binders x) (isUnbound s mode x) → r ≡ flagOf names text s mode defined binders x
+      state-ordinary e m = simp (has, sym is ∙ e) m
+
+  -- the flags of all names
+  abbrev pub flagAt : ℕ → ℕ
+  flagAt k = flagOf names text s mode defined binders (k + 1)
+
+  pub flags-end : {i : ℕ} {here : List ℕ} → Filling flagAt 128 i here → 128 ≤ i → here ≡ flagsOf names text s mode defined binders
+  flags-end {i} {here} go le = let long = go .long in filling-ends go (omega arith) ∙ tabulate-next (flagOf names text s mode defined binders) 0 128
+
+  -- a name that the table has
+  pub flags-each : {flags : List ℕ} → flags ≡ flagsOf names text s mode defined binders → length names / 2 ≤ 128 → (x : ℕ) → 1 ≤ x → x ≤ length names / 2
+      → getD flags (x - 1) 0 ≡ flagBy defined (classOf (nameBytes names text x)) (binderOf binders x) (isUnbound s mode x)
+  flags-each is few x low high =
+      let e : 1 + (x - 1) ≡ x = omega arith in
+      let has = le-leb x (length names / 2) high in
+      ap (λ (l : List ℕ). getD l (x - 1) 0) is
+      ∙ (getD-tabulate (flagOf names text s mode defined binders) 1 128 (x - 1) (omega arith) ∙ (ap (flagOf names text s mode defined binders) e ∙ simp has))
+
+-- the states are such flags
+state-flag : (class : NameClass) (binder : ℕ) (u : Bool) → flagBy false class binder u ≡ stateBy class u
+state-flag Underscore binder u = refl
+state-flag InputOrData binder u = refl
+state-flag Ordinary binder u = refl
+
+module _ (names text : List ℕ) (s : Scope) (mode : ScopingMode) where
+  same-states : (binders : List ℕ) → flagsOf names text s mode false binders ≡ statesOf names text s mode
+  same-states binders = tabulate-same (flagOf names text s mode false binders) (nameState names text s mode) (λ x.
+      ap (λ (v : ℕ). cond (leb x (length names / 2)) v 0) (state-flag (classOf (nameBytes names text x)) (binderOf binders x) (isUnbound s mode x))) 1 128
+
+  pub states-flags : (binders : List ℕ) {states : List ℕ} → states ≡ flagsOf names text s mode false binders → states ≡ statesOf names text s mode
+  states-flags binders is = is ∙ same-states binders
+
+  pub states-each : {states : List ℕ} → states ≡ statesOf names text s mode → length names / 2 ≤ 128 → (x : ℕ) → 1 ≤ x → x ≤ length names / 2
+      → getD states (x - 1) 0 ≡ stateBy (classOf (nameBytes names text x)) (isUnbound s mode x)
+  states-each is few x low high =
+      flags-each names text s mode false [] (is ∙ sym (same-states [])) few x low high ∙ state-flag (classOf (nameBytes names text x)) (binderOf [] x) (isUnbound s mode x)

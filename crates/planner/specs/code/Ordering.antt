@@ -2,15 +2,16 @@
 use Prim.Native.Nat.{ℕ, _+_, _-_, _≤_, _<_}
 use mathlib.Core.Path.{_≡_}
 use mathlib.Core.Bool.{Bool, true, false}
-use mathlib.Core.List.{List, _∷_, _++_}
+use mathlib.Core.List.{List}
 use mathlib.Core.Option.{Option, some}
 use lib.ListN.{length, getD, take, drop}
+use Rattle.base.specs.code.Search.{Between}
 use Rattle.literal.specs.Literal.{Literal}
 use Rattle.literal.specs.Order.{Order, less, same, more, compared, told}
 use Rattle.table.specs.Tables.{Tables}
 use Rattle.table.specs.Decode.{literalAt}
 use Rattle.planner.specs.Layout.{inOrder}
-use Rattle.planner.specs.code.Passes.{orderOf}
+use Rattle.planner.specs.code.Passes.{fieldKey, orderOf}
 use Rattle.planner.specs.code.Post.{OrderAsks}
 
 -- how a key `own` compares with the key of the field number at place q
@@ -18,11 +19,8 @@ abbrev pub At : Order → (ℕ → Option Literal) → Option Literal → List �
 At r key own order q = compared own (key (getD order q 0)) ≡ told r
 
 -- the place of `own`, among m literal keys, is from low to high
-pub record Between (key : ℕ → Option Literal) (own : Option Literal) (order : List ℕ) (m low high : ℕ) : Type 0 where
-  pub spans : low ≤ high
-  pub inside : high ≤ m
-  pub before : (q : ℕ) → q < low → At more key own order q
-  pub behind : (q : ℕ) → high ≤ q → q < m → At less key own order q
+abbrev pub KeyBetween : (ℕ → Option Literal) → Option Literal → List ℕ → ℕ → ℕ → ℕ → Type 0
+KeyBetween key own order = Between (At more key own order) (At less key own order)
 
 -- the first i fields of an object in order: m numbers of fields with literal keys, `total` numbers in all
 pub record FieldsIn (T : Tables) (first i : ℕ) (order : List ℕ) (m total : ℕ) : Type 0 where
@@ -34,6 +32,12 @@ pub record FieldsIn (T : Tables) (first i : ℕ) (order : List ℕ) (m total : �
 pub record AddAsks (T : Tables) (first i : ℕ) (order : List ℕ) (m total : ℕ) : Type 0 where
   pub asks : OrderAsks T first (i + 1)
   pub so-far : FieldsIn T first i order m total
+
+-- field i is in; what stands behind the fields is kept
+pub record FieldAdded (T : Tables) (first i : ℕ) (before : List ℕ) (from : ℕ) (order : List ℕ) (m total : ℕ) : Type 0 where
+  pub fields : FieldsIn T first (i + 1) order m total
+  pub grows : from ≤ total
+  pub behind : drop total order ≡ drop total before
 
 -- a literal's node, whose key is looked for among the first fields in order
 pub record FindAsks (T : Tables) (first : ℕ) (order : List ℕ) (m node : ℕ) : Type 0 where
@@ -48,12 +52,8 @@ pub record FindAsks (T : Tables) (first : ℕ) (order : List ℕ) (m node : ℕ)
 -- either a literal field has an equal key, or the key goes in before `place`
 pub record FoundBy (key : ℕ → Option Literal) (own : Option Literal) (order : List ℕ) (m place : ℕ) (equal : Bool) : Type 0 where
   pub old : equal ≡ true → (place < m) × At same key own order place
-  pub new : equal ≡ false → Between key own order m place place
+  pub new : equal ≡ false → KeyBetween key own order m place place
 
-pub record RoomAsks (order : List ℕ) (place total : ℕ) : Type 0 where
-  pub inside : place ≤ total
-  pub room : total < length order
-
--- the numbers from `place` to `total` move up by one
-abbrev pub moved : List ℕ → ℕ → ℕ → ℕ → List ℕ
-moved before place total new = take place before ++ (new ∷ (take (total - place) (drop place before) ++ drop (total + 1) before))
+-- the key of a literal's node, among an object's fields
+abbrev pub FoundIn : Tables → ℕ → ℕ → List ℕ → ℕ → ℕ → Bool → Type 0
+FoundIn T first node order m place equal = FoundBy (fieldKey T first) (literalAt T node) order m place equal

@@ -1,12 +1,16 @@
 -- What the code's two passes over a pattern make: `binders`, in written order, and the entries by binders, in plan order.
-use Prim.Native.Nat.{ℕ, zero, suc, _+_, _-_, _*_}
+use Prim.Native.Nat.{ℕ, zero, suc, _+_, _-_, _*_, _/_}
 use mathlib.Core.Bool.{Bool, cond, _&&_}
 use mathlib.Core.List.{List, [], _∷_, _++_}
 use mathlib.Core.Option.{Option}
 use lib.Dec.{eqb, leb}
 use lib.ListN.{length, getD, set}
 use Rattle.literal.specs.Literal.{Literal}
-use Rattle.table.specs.Tables.{Tables, childAt}
+use Rattle.scope.specs.declared.Scope.{Scope}
+use Rattle.scope.specs.declared.ScopingMode.{ScopingMode}
+use Rattle.scope.specs.Scope.{isUnbound}
+use Rattle.table.specs.Tables.{Tables, childAt, nameBytes}
+use Rattle.table.specs.Names.{classOf}
 use Rattle.table.specs.Decode.{expr, items, literalAt}
 use Rattle.table.specs.declared.NameClass.{NameClass}
 use Rattle.table.specs.declared.NameClass.the-variants.{Underscore, InputOrData, Ordinary}
@@ -74,6 +78,10 @@ bindersFrom unbound g ch at step (suc k) binders = bindersFrom unbound g ch (at 
 abbrev pub unboundIn : List ℕ → ℕ → Bool
 unboundIn states x = eqb (getD states (x - 1) 0) 1
 
+-- the same of a table, by the states
+abbrev pub bindersBelow : List ℕ → Tables → ℕ → ℕ → ℕ → List ℕ → List ℕ
+bindersBelow states T at step k binders = bindersFrom (unboundIn states) (expr T) (T .children) at step k binders
+
 -- the order of k fields from field number i on, by their keys
 unfoldable pub orderFrom : (ℕ → Option Literal) → ℕ → ℕ → FieldOrder ℕ → FieldOrder ℕ
 orderFrom key i zero o = o
@@ -123,3 +131,7 @@ abbrev pub stateBy : NameClass → Bool → ℕ
 stateBy Underscore unbound = 2
 stateBy InputOrData unbound = unboundMark unbound
 stateBy Ordinary unbound = unboundMark unbound
+
+-- the state of name x; 0 where the table does not have it
+abbrev pub nameState : List ℕ → List ℕ → Scope → ScopingMode → ℕ → ℕ
+nameState names text s mode x = cond (leb x (length names / 2)) (stateBy (classOf (nameBytes names text x)) (isUnbound s mode x)) 0

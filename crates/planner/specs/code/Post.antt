@@ -1,26 +1,26 @@
 -- What the planner's own functions ask of their caller.
-use Prim.Native.Nat.{ℕ, zero, suc, _+_, _-_, _*_, _/_, _^_, _≤_, _<_}
+use Prim.Native.Nat.{ℕ, _+_, _-_, _*_, _/_, _^_, _≤_, _<_}
 use mathlib.Core.Path.{_≡_}
-use mathlib.Core.Bool.{cond, not}
-use mathlib.Core.List.{List, [], _∷_}
+use mathlib.Core.Bool.{cond}
+use mathlib.Core.List.{List, [], _++_}
 use lib.Dec.{eqb, leb, ltb}
-use lib.ListN.{length, getD, take, replicate}
+use lib.ListN.{length, getD, take, drop, replicate}
 use lib.Seq.{sets}
-use Rattle.table.specs.Tables.{Tables, kindOf, childAt, nameBytes}
-use Rattle.table.specs.Names.{classOf}
+use Rattle.table.specs.Tables.{Tables, kindOf, childAt}
+use Rattle.base.specs.Lent.{Slices}
 use Rattle.scope.specs.declared.Scope.{Scope}
 use Rattle.scope.specs.declared.ScopingMode.{ScopingMode}
 use Rattle.scope.specs.Scope.{isUnbound}
 use Rattle.table.specs.Decode.{isWildcard, expr}
 use Rattle.planner.specs.Layout.{Entry, entries, words, inOrder}
 use Rattle.planner.specs.Entries.{Wrote}
-use Rattle.planner.specs.code.Passes.{layOut, layOutItems, layOutOrdered, keyNode, valueNode, orderOf, stateBy, bindersOf, unboundIn}
+use Rattle.planner.specs.code.Passes.{layOut, layOutItems, layOutOrdered, keyNode, valueNode, orderOf, nameState, bindersOf, unboundIn}
 use Rattle.planner.specs.Plan.{plan}
-use Rattle.planner.specs.Plan as Plan
 use Rattle.planner.specs.declared.PlanAnswer.{PlanAnswer}
-use Rattle.planner.specs.declared.PlanAnswer.the-variants.{Planned, PlanTooLarge}
-use Rattle.table.specs.Rules.{elem}
-use Rattle.table.specs.Sound.{Node, Named, WellFormed}
+use Rattle.base.specs.Refusal.{planTooLarge, line, refusalLine}
+use Rattle.planner.specs.Answer.{lineOf}
+use Rattle.base.specs.Lists.{tabulate}
+use Rattle.table.specs.code.Sound.{Node, Named, WellFormed}
 
 pub record NameNumber (x : ℕ) : Type 0 where
   pub low : 1 ≤ x
@@ -72,17 +72,18 @@ pub record OrderedBy (T : Tables) (first size : ℕ) (order : List ℕ) (r : ℕ
   pub fields : take r order ≡ inOrder (orderOf T first size)
   pub few : r ≤ 256
 
+-- the fields in order, and behind them what was there before
+pub record Arranged (T : Tables) (first size : ℕ) (before order : List ℕ) (r : ℕ) : Type 0 where
+  pub total : r ≡ length (inOrder (orderOf T first size))
+  pub numbers : order ≡ inOrder (orderOf T first size) ++ drop r before
+  pub few : r ≤ 256
+
 pub record LayOrderedAsks (T : Tables) (states binders : List ℕ) (parent first : ℕ) (order : List ℕ) (total at : ℕ) : Type 0 where
   pub table : WellFormed T
   pub states-ok : States T states
   pub few : total ≤ 256
   pub each : (q : ℕ) → q < total → (first + getD order q 0 * 2 + 1 < 2 ^ 32) × Node T (valueNode T first (getD order q 0)) × (valueNode T first (getD order q 0) < parent)
   pub room : at + length (layOutOrdered binders T first order 0 total) ≤ 2 ^ 41
-
--- the states of all names of a table
-pub record StatesOf (names text : List ℕ) (s : Scope) (mode : ScopingMode) (states : List ℕ) : Type 0 where
-  pub long : length states ≡ 128
-  pub each : (x : ℕ) → 1 ≤ x → x ≤ length names / 2 → getD states (x - 1) 0 ≡ stateBy (classOf (nameBytes names text x)) (isUnbound s mode x)
 
 -- a pattern to be planned from no names, its entries from place `at` on
 pub record PlanAsks (T : Tables) (states : List ℕ) (root : ℕ) (binders : List ℕ) (at : ℕ) : Type 0 where
@@ -101,13 +102,13 @@ pub record PlannedBy (T : Tables) (states : List ℕ) (root at : ℕ) (before bi
 abbrev pub wordAt : List ℕ → ℕ → ℕ → ℕ
 wordAt before size i = cond (ltb i size) (getD before i 0) 0
 
-unfoldable pub tabulate : (ℕ → ℕ) → ℕ → ℕ → List ℕ
-tabulate f i zero = []
-tabulate f i (suc k) = f i ∷ tabulate f (i + 1) k
+-- the states of all names, by their numbers
+abbrev pub statesOf : List ℕ → List ℕ → Scope → ScopingMode → List ℕ
+statesOf names text s mode = tabulate (nameState names text s mode) 1 128
 
 -- as many entries of a buffer, if it has space for them, and zeros behind them
 pub record Closed (form count : ℕ) (before after : List ℕ) (r : PlanAnswer) : Type 0 where
-  pub answer : r ≡ cond (leb count (length before / 4)) (Planned form 0 count) (PlanTooLarge count)
+  pub answer : lineOf r ≡ cond (leb count (length before / 4)) (line 0 form 0 count) (refusalLine (planTooLarge count))
   pub buffer : after ≡ cond (leb count (length before / 4)) (tabulate (wordAt before (count * 4)) 0 (length before)) (replicate (length before) 0)
 
 -- a root in a good table
@@ -128,9 +129,19 @@ pub record PatternAsks (T : Tables) (root : ℕ) (binders : List ℕ) (at : ℕ)
   pub none-bound : binders ≡ replicate 128 0
   pub low : at ≤ 2 ^ 40
 
--- the names that its plan tracks, and its plan's entries, no more than its root's number
+-- its binders, and its plan's entries, no more than its root's number
 pub record PatternPlanned (T : Tables) (s : Scope) (mode : ScopingMode) (root at : ℕ) (before binders after : List ℕ) (r : ℕ) : Type 0 where
-  pub tracked : (x : ℕ) → NameNumber x → elem x (Plan.after (isUnbound s mode) (expr T root) []) ≡ not (eqb (getD binders (x - 1) 0) 0)
+  pub bound : binders ≡ bindersOf (isUnbound s mode) (expr T root) (replicate 128 0)
   pub wrote : Wrote before at (entries (plan (isUnbound s mode) (expr T root) []) 0) after r
   pub few : r ≤ at + 512
   pub space : r ≤ at + root
+
+-- the same of a `&mut` buffer and `&mut` binders, at entry and at exit
+abbrev pub ClosedIn : Slices → ℕ → ℕ → PlanAnswer → Type 0
+ClosedIn plan form count r = Closed form count (plan .entry .now) (plan .exit .now) r
+
+abbrev pub PlannedIn : Slices → Slices → Tables → List ℕ → ℕ → ℕ → ℕ → Type 0
+PlannedIn plan binders T states root at r = PlannedBy T states root at (plan .entry .now) (binders .exit .now) (plan .exit .now) r
+
+abbrev pub PatternPlannedIn : Slices → Slices → Tables → Scope → ScopingMode → ℕ → ℕ → ℕ → Type 0
+PatternPlannedIn plan binders T s mode root at r = PatternPlanned T s mode root at (plan .entry .now) (binders .exit .now) (plan .exit .now) r

@@ -6,35 +6,27 @@ use Rattle.report.proofs.mark_entry.Reads as reads
 use Rattle.report.proofs.mark_entry.Lts as lts
 use Rattle.table.proofs.reading.first_of.Reads as first-of-reads
 
--- src/lib.rt:88:20
 first-of-requires : tie.Need-first-of-requires
 first-of-requires c κs = search needs
 
--- src/lib.rt:88:20
 cast-name : tie.Need-cast-name
 cast-name c = search needs
 
--- src/lib.rt:89:14
 sub-list : tie.Need-sub-list
 sub-list c = search (bound-low, needs)
 
--- src/lib.rt:89:9
 mul-list : tie.Need-mul-list
 mul-list c = search needs
 
--- src/lib.rt:89:9
 slice-write-list : tie.Need-slice-write-list
 slice-write-list c = search (bound-place, needs)
 
--- src/lib.rt:83:1
 same-length : tie.Need-same-length
 same-length c = search needs
 
--- src/lib.rt:83:1
 returns : tie.Need-returns
 returns c = search (marked-one, needs)
 
--- src/lib.rt:83:1
 returns-2 : tie.Need-returns-2
 returns-2 c = search (marked-none, needs)
 

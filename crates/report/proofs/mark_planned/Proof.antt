@@ -4,28 +4,23 @@ use Rattle.report.proofs.mark_planned.Statement.{statement}
 use Rattle.report.proofs.mark_planned.Tie as tie
 use Rattle.report.proofs.mark_planned.Reads as reads
 use Rattle.report.proofs.mark_planned.Lts as lts
-use Rattle.planner.proofs.destructuring.plan_pattern.Reads as plan-pattern-reads
+use Rattle.planner.proofs.inner.destructuring.plan_pattern.Reads as plan-pattern-reads
 use Rattle.report.proofs.mark_bound.Reads as mark-bound-reads
 
--- src/lib.rt:137:9
 slice-aggregate-plan-pattern : tie.Need-slice-aggregate-plan-pattern
 slice-aggregate-plan-pattern c = search needs
 
--- src/lib.rt:126:9
 plan-pattern-requires : tie.Need-plan-pattern-requires
 plan-pattern-requires c κs = search needs
 
--- src/lib.rt:140:5
 mark-bound-requires : tie.Need-mark-bound-requires
 mark-bound-requires c κs =
     let s = c .before .before .before .before .before .before .before .before .before .before .before .before .before in
     ask-bound _ (s .args .scope) (s .args .scoping) (s .args .pattern) (s .pre) (c .before .before .before .plan-pattern .ensures)
 
--- src/lib.rt:109:1
 same-length : tie.Need-same-length
 same-length c = search needs
 
--- src/lib.rt:109:1
 returns : tie.Need-returns
 returns c = search (planned-marked, needs)
 

@@ -5,68 +5,55 @@ use Rattle.report.proofs.names_report.Tie as tie
 use Rattle.report.proofs.names_report.Reads as reads
 use Rattle.report.proofs.names_report.Lts as lts
 use Rattle.planner.proofs.buffer.clear.Reads as clear-reads
-use Rattle.planner.proofs.context.is_sound.Reads as is-sound-reads
 use Rattle.report.proofs.report_names.Reads as report-names-reads
 use Rattle.table.proofs.check.Reads as check-reads
 use Rattle.table.proofs.reading.is_node.Reads as is-node-reads
 
--- src/lib.rt:188:9
 check-requires : tie.Need-check-requires
 check-requires c κs = search needs
 
--- src/lib.rt:189:9
-is-sound-requires : tie.Need-is-sound-requires
-is-sound-requires c κs = search needs
+enum-known-checked : tie.Need-enum-known-checked
+enum-known-checked c = search needs
 
--- src/lib.rt:190:9
 clear-requires : tie.Need-clear-requires
 clear-requires c κs = search needs
 
--- src/lib.rt:191:9
 same-length : tie.Need-same-length
 same-length c = search needs
 
--- src/lib.rt:191:9
 returns : tie.Need-returns
 returns c = search (report-table, needs)
 
--- src/lib.rt:193:9
+enum-told : tie.Need-enum-told
+enum-told c = search needs
+
 is-node-requires : tie.Need-is-node-requires
 is-node-requires c κs = search needs
 
--- src/lib.rt:194:9
 clear-requires-2 : tie.Need-clear-requires-2
 clear-requires-2 c κs = search needs
 
--- src/lib.rt:195:9
 same-length-2 : tie.Need-same-length-2
 same-length-2 c = search needs
 
--- src/lib.rt:195:9
 returns-2 : tie.Need-returns-2
 returns-2 c = search (report-root, needs)
 
--- src/lib.rt:198:9
 clear-requires-3 : tie.Need-clear-requires-3
 clear-requires-3 c κs = search needs
 
--- src/lib.rt:199:9
 same-length-3 : tie.Need-same-length-3
 same-length-3 c = search needs
 
--- src/lib.rt:199:9
 returns-3 : tie.Need-returns-3
 returns-3 c = search (report-short, needs)
 
--- src/lib.rt:201:5
 report-names-requires : tie.Need-report-names-requires
-report-names-requires c κs = ask-report _ _ (c .before .before .before .before .before .before .before .before .before .before .before .before .before .before .args .scoping) _ _ (c .before .before .before .before .before .before .check .ensures) (c .before .before .before .before .before .is-sound .ensures) (c .before .before .before .before .if1 .left) (c .before .before .before .is-node .ensures) (c .before .before .if2 .left) (c .before .if3 .left)
+report-names-requires c κs = ask-report _ _ (c .before .before .before .before .before .before .before .before .before .before .before .before .before .before .args .scoping) _ _ (c .before .before .before .before .before .before .check .ensures) (c .before .before .before .before .enum-told .given .1) (c .before .before .before .is-node .ensures) (c .before .before .if1 .left) (c .before .if2 .left)
 
--- src/lib.rt:174:1
 same-length-4 : tie.Need-same-length-4
 same-length-4 c = search needs
 
--- src/lib.rt:174:1
 returns-4 : tie.Need-returns-4
 returns-4 c = search (report-done, needs)
 
@@ -75,10 +62,11 @@ names-report-spec =
     tie.close
     (tie.spec
     check-requires
-    is-sound-requires
+    enum-known-checked
     clear-requires
     same-length
     returns
+    enum-told
     is-node-requires
     clear-requires-2
     same-length-2

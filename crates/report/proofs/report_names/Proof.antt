@@ -4,27 +4,22 @@ use Rattle.report.proofs.report_names.Statement.{statement}
 use Rattle.report.proofs.report_names.Tie as tie
 use Rattle.report.proofs.report_names.Reads as reads
 use Rattle.report.proofs.report_names.Lts as lts
-use Rattle.report.proofs.names_met.Reads as names-met-reads
-use Rattle.report.proofs.mark_met.Reads as mark-met-reads
+use Rattle.report.proofs.inner.names_met.Reads as names-met-reads
+use Rattle.report.proofs.inner.mark_met.Reads as mark-met-reads
 use Rattle.report.proofs.mark_planned.Reads as mark-planned-reads
 
--- src/lib.rt:157:15
 names-met-requires : tie.Need-names-met-requires
 names-met-requires c κs = search needs
 
--- src/lib.rt:158:5
 mark-met-requires : tie.Need-mark-met-requires
 mark-met-requires c κs = search needs
 
--- src/lib.rt:159:5
 mark-planned-requires : tie.Need-mark-planned-requires
 mark-planned-requires c κs = search needs
 
--- src/lib.rt:142:1
 same-length : tie.Need-same-length
 same-length c = search needs
 
--- src/lib.rt:142:1
 returns : tie.Need-returns
 returns c = search (report-marked, needs)
 

@@ -1,4 +1,5 @@
 use Rattle.run.proofs.Running.{ask-plan, ask-values, too-large, carried}
+use Rattle.planner.proofs.buffer.Copies.{wrote-first}
 use borrow.Author.Needs.{needs}
 use Rattle.run.proofs.carry_out.Statement.{statement}
 use Rattle.run.proofs.carry_out.Tie as tie
@@ -6,58 +7,47 @@ use Rattle.run.proofs.carry_out.Reads as reads
 use Rattle.run.proofs.carry_out.Lts as lts
 use Rattle.planner.proofs.buffer.close.Reads as close-reads
 use Rattle.planner.proofs.buffer.copy_entries.Reads as copy-entries-reads
-use Rattle.planner.proofs.destructuring.plan_pattern.Reads as plan-pattern-reads
+use Rattle.planner.proofs.inner.destructuring.plan_pattern.Reads as plan-pattern-reads
 use Rattle.run.proofs.match_values.Reads as match-values-reads
 
--- src/lib.rt:111:9
 slice-aggregate-plan-pattern : tie.Need-slice-aggregate-plan-pattern
 slice-aggregate-plan-pattern c = search needs
 
--- src/lib.rt:100:9
 plan-pattern-requires : tie.Need-plan-pattern-requires
 plan-pattern-requires c κs = search (ask-plan, needs)
 
--- src/lib.rt:114:37
 slice-aggregate-copy-entries : tie.Need-slice-aggregate-copy-entries
 slice-aggregate-copy-entries c = search needs
 
--- src/lib.rt:114:9
 copy-entries-requires : tie.Need-copy-entries-requires
 copy-entries-requires c κs = search needs
 
--- src/lib.rt:115:5
 close-requires : tie.Need-close-requires
 close-requires c κs = search needs
 
--- src/lib.rt:117:9
 same-length : tie.Need-same-length
 same-length c = search needs
 
--- src/lib.rt:117:9
 returns : tie.Need-returns
 returns c =
     let s = c .before .before .before .before .before .before .before .before .before .before .before .before .before .before .before .before .before .before .before .before .before .before in
-    too-large _ _ _ _ _ (s .pre) (c .before .before .before .before .before .before .before .before .before .before .before .plan-pattern .ensures) (c .before .before .before .before .before .before .before .copy-entries .ensures) (c .before .before .before .close .ensures) (c .if1 .taken)
+    too-large _ _ _ _ _ (s .pre) (c .before .before .before .before .before .before .before .before .before .before .before .plan-pattern .ensures) (wrote-first _ _ _ (c .before .before .before .before .before .before .before .copy-entries .ensures)) (c .before .before .before .close .ensures) (c .if1 .taken)
 
--- src/lib.rt:119:5
 match-values-requires : tie.Need-match-values-requires
 match-values-requires c κs =
     let s = c .before .before .before .before .before .before .before .before .before .before .before .before .before .before .before .before .before .before .before .before .before .before .before .before .before in
     ask-values _ _ _ _ _ (s .pre) (c .before .before .before .before .before .before .before .before .before .before .before .before .before .before .plan-pattern .ensures)
 
--- src/lib.rt:81:1
 same-length-2 : tie.Need-same-length-2
 same-length-2 c = search needs
 
--- src/lib.rt:81:1
 same-length-3 : tie.Need-same-length-3
 same-length-3 c = search needs
 
--- src/lib.rt:81:1
 returns-2 : tie.Need-returns-2
 returns-2 c =
     let s = c .before .before .before .before .before .before .before .before .before .before .before .before .before .before .before .before .before .before .before .before .before .before .before .before .before .before .before .before in
-    carried _ _ _ _ _ (s .pre) (c .before .before .before .before .before .before .before .before .before .before .before .before .before .before .before .before .before .plan-pattern .ensures) (c .before .before .before .before .before .before .before .before .before .before .before .before .before .copy-entries .ensures) (c .before .before .before .before .before .before .before .before .before .close .ensures) (c .before .before .before .before .before .before .if1 .left) (c .before .before .match-values .ensures)
+    carried _ _ _ _ _ (s .pre) (c .before .before .before .before .before .before .before .before .before .before .before .before .before .before .before .before .before .plan-pattern .ensures) (wrote-first _ _ _ (c .before .before .before .before .before .before .before .before .before .before .before .before .before .copy-entries .ensures)) (c .before .before .before .before .before .before .before .before .before .close .ensures) (c .before .before .before .before .before .before .if1 .left) (c .before .before .match-values .ensures)
 
 pub carry-out-spec : {M : Type 1} → statement M
 carry-out-spec =

@@ -4,35 +4,28 @@ use Rattle.run.proofs.match_values.Statement.{statement}
 use Rattle.run.proofs.match_values.Tie as tie
 use Rattle.run.proofs.match_values.Reads as reads
 use Rattle.run.proofs.match_values.Lts as lts
-use Rattle.matching.proofs.walk.match_pattern.Reads as match-pattern-reads
+use Rattle.matching.proofs.inner.match_pattern.Reads as match-pattern-reads
 use Rattle.run.proofs.names.set_names.Reads as set-names-reads
 use Rattle.run.proofs.names.start_list.Reads as start-list-reads
 
--- src/lib.rt:59:20
 start-list-requires : tie.Need-start-list-requires
 start-list-requires c κs = search (ask-list, needs)
 
--- src/lib.rt:60:9
 match-pattern-requires : tie.Need-match-pattern-requires
 match-pattern-requires c κs = search (ask-match, needs)
 
--- src/lib.rt:73:9
 same-length : tie.Need-same-length
 same-length c = search needs
 
--- src/lib.rt:73:9
 returns : tie.Need-returns
 returns c = search (values-missed, needs)
 
--- src/lib.rt:75:5
 set-names-requires : tie.Need-set-names-requires
 set-names-requires c κs = search (ask-list, needs)
 
--- src/lib.rt:41:1
 same-length-2 : tie.Need-same-length-2
 same-length-2 c = search needs
 
--- src/lib.rt:41:1
 returns-2 : tie.Need-returns-2
 returns-2 c = search (values-matched, needs)
 

@@ -10,75 +10,57 @@ use Rattle.run.proofs.checks.all_values.Reads as all-values-reads
 use Rattle.run.proofs.checks.is_simple.Reads as is-simple-reads
 use Rattle.run.proofs.names.known_listed.Reads as known-listed-reads
 
--- src/lib.rt:151:9
 is-simple-requires : tie.Need-is-simple-requires
 is-simple-requires c κs = search (ask-simple, needs)
 
--- src/lib.rt:152:9
 clear-requires : tie.Need-clear-requires
 clear-requires c κs = search needs
 
--- src/lib.rt:153:9
 same-length : tie.Need-same-length
 same-length c = search needs
 
--- src/lib.rt:153:9
 returns : tie.Need-returns
 returns c = search (not-simple, needs)
 
--- src/lib.rt:155:9
 all-values-requires : tie.Need-all-values-requires
 all-values-requires c κs = search (ask-all, needs)
 
--- src/lib.rt:165:9
 clear-requires-2 : tie.Need-clear-requires-2
 clear-requires-2 c κs = search needs
 
--- src/lib.rt:166:9
 same-length-2 : tie.Need-same-length-2
 same-length-2 c = search needs
 
--- src/lib.rt:166:9
 same-length-3 : tie.Need-same-length-3
 same-length-3 c = search needs
 
--- src/lib.rt:166:9
 returns-2 : tie.Need-returns-2
 returns-2 c = search (no-value, needs)
 
--- src/lib.rt:168:9
 known-listed-requires : tie.Need-known-listed-requires
 known-listed-requires c κs = ask-known _ _ (c .before .before .before .before .before .before .before .before .before .before .before .before .before .before .args .scoping) _ _ _ (c .before .before .before .before .before .before .before .before .before .before .before .before .before .before .pre) (c .before .before .before .before .before .is-simple .ensures) (c .before .before .before .before .if1 .left)
 
--- src/lib.rt:180:9
 clear-requires-3 : tie.Need-clear-requires-3
 clear-requires-3 c κs = search needs
 
--- src/lib.rt:181:9
 same-length-4 : tie.Need-same-length-4
 same-length-4 c = search needs
 
--- src/lib.rt:181:9
 same-length-5 : tie.Need-same-length-5
 same-length-5 c = search needs
 
--- src/lib.rt:181:9
 returns-3 : tie.Need-returns-3
 returns-3 c = search (unlisted, needs)
 
--- src/lib.rt:183:5
 carry-out-requires : tie.Need-carry-out-requires
 carry-out-requires c κs = ask-carry _ _ _ _ _ _ (c .before .before .before .before .before .before .before .before .before .before .before .before .before .before .before .before .before .before .pre) (c .before .before .before .before .before .before .before .before .before .is-simple .ensures) (c .before .before .before .before .before .before .before .before .if1 .left) (c .before .before .before .before .before .before .all-values .ensures) (c .before .before .before .before .before .if2 .left) (c .before .before .before .known-listed .ensures) (c .before .before .if3 .left)
 
--- src/lib.rt:134:1
 same-length-6 : tie.Need-same-length-6
 same-length-6 c = search needs
 
--- src/lib.rt:134:1
 same-length-7 : tie.Need-same-length-7
 same-length-7 c = search needs
 
--- src/lib.rt:134:1
 returns-4 : tie.Need-returns-4
 returns-4 c = goes-on _ _ _ _ _ _ (c .before .before .before .before .before .before .before .before .before .before .before .before .before .before .before .before .before .before .before .before .before .before .before .pre) (c .before .before .before .before .before .before .before .before .before .before .before .before .before .before .is-simple .ensures) (c .before .before .before .before .before .before .before .before .before .before .before .before .before .if1 .left) (c .before .before .before .before .before .before .before .before .before .before .before .all-values .ensures) (c .before .before .before .before .before .before .before .before .before .before .if2 .left) (c .before .before .before .before .before .before .before .before .known-listed .ensures) (c .before .before .before .before .before .before .before .if3 .left) (c .before .before .before .before .carry-out .ensures)
 

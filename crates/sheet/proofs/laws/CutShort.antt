@@ -7,9 +7,9 @@ use native.Mathlib.Omega.{arith}
 use borrow.Author.Tests.{le-leb}
 use lib.ListN.{length, take, drop, length-append, length-drop, take-append-drop, List·getD-append}
 use lib.Seq.{length-take-le, take-append-le, drop-append-le}
-use Rattle.literal.specs.Reading.{part}
+use Rattle.base.specs.Refusal.{overLimit, layoutBroken}
+use Rattle.base.specs.Lists.{part, allFrom}
 use Rattle.columns.specs.Columns.{readColumn, columnBytes, columnAt}
-use Rattle.table.specs.Rules.{allFrom}
 use Rattle.sheet.specs.declared.layout.Counts.{Counts}
 use Rattle.sheet.specs.Lines.{numberOf, numberAt, isLine}
 use Rattle.sheet.specs.Sheet.{countsOf, withinLimits, layoutOk, sheetOf, Parsed, unparsed, parsed, parsedBy, parse}
@@ -52,7 +52,7 @@ module _ (xs ys : List ℕ) (long : 37 ≤ length xs) where
 
 -- a too long input, by its line 1
 abbrev tooLong : Bool → Counts → Parsed
-tooLong readable c = cond readable (cond (withinLimits c) (unparsed 7) (unparsed 1)) (unparsed 7)
+tooLong readable c = cond readable (cond (withinLimits c) (unparsed layoutBroken) (unparsed overLimit)) (unparsed layoutBroken)
 
 module _ (sheet : List ℕ) (long : 51915 ≤ length sheet) where
   layout-fails : (c : Counts) → withinLimits c ≡ true → layoutOk sheet c ≡ false
@@ -60,16 +60,16 @@ module _ (sheet : List ℕ) (long : 51915 ≤ length sheet) where
       let most = limited c (sym few) refl in
       sym (length-differs sheet c refl (λ e. omega (arith, most)))
 
-  refused-by : (c : Counts) → parsedBy sheet c ≡ cond (withinLimits c) (unparsed 7) (unparsed 1)
+  refused-by : (c : Counts) → parsedBy sheet c ≡ cond (withinLimits c) (unparsed layoutBroken) (unparsed overLimit)
   refused-by c = go (withinLimits c) refl
     where
-      go : (b : Bool) → withinLimits c ≡ b → cond b (cond (layoutOk sheet c) (parsed (sheetOf sheet c)) (unparsed 7)) (unparsed 1) ≡ cond b (unparsed 7) (unparsed 1)
+      go : (b : Bool) → withinLimits c ≡ b → cond b (cond (layoutOk sheet c) (parsed (sheetOf sheet c)) (unparsed layoutBroken)) (unparsed overLimit) ≡ cond b (unparsed layoutBroken) (unparsed overLimit)
       go true e = rw (layout-fails c e)
       go false e = refl
 
   parsed-long : parse sheet ≡ tooLong (isLine sheet 0 6) (countsOf sheet)
   unfolding parse
-  parsed-long = ap (λ (p : Parsed). cond (isLine sheet 0 6) p (unparsed 7)) (refused-by (countsOf sheet))
+  parsed-long = ap (λ (p : Parsed). cond (isLine sheet 0 6) p (unparsed layoutBroken)) (refused-by (countsOf sheet))
 
 parsed-alike : (xs ys : List ℕ) → 51915 ≤ length xs → parse xs ≡ parse (xs ++ ys)
 parsed-alike xs ys long =

@@ -7,27 +7,35 @@ use borrow.Author.Tests.{eq-eqb, ne-eqb, le-leb, lt-leb}
 use lib.ListN.{length, getD, take, drop, set, replicate, length-append, length-set, length-replicate, length-map, List·getD-eq-default}
 use lib.Seq.{ext-getD, drop-drop}
 use Rattle.literal.specs.Text.{digits}
-use Rattle.table.specs.declared.TableAnswer.{TableAnswer}
-use Rattle.table.specs.Check.{refusal}
+use Rattle.table.specs.declared.TableRefusal.{TableRefusal}
+use Rattle.table.specs.declared.TableRefusal.the-variants.{OverLimit, BreaksRules, TooDeep, EqualNames}
+use Rattle.table.specs.Check.{tableRefused}
 use Rattle.columns.specs.Columns.{justified, writeColumn, stored, columnStored}
 use Rattle.columns.proofs.ReadBack.{read-back}
 use Rattle.columns.proofs.write.Storing.{stored-is, stored-long, stored-none, stored-on, stored-one}
 use Rattle.planner.specs.declared.PlanAnswer.{PlanAnswer}
 use Rattle.planner.specs.declared.PlanAnswer.the-variants.{TableRefused}
-use Rattle.planner.specs.Answer.{Line, line, lineOf}
+use Rattle.base.specs.Refusal.{Line, line, refusalLine as refusalLineOf}
+use Rattle.planner.specs.Answer.{lineOf}
 use Rattle.planner.specs.Entries.{entryAt, readEntries}
 use Rattle.planner.proofs.buffer.Filling.{Filling}
 use Rattle.planner.proofs.buffer.ReadBack.{length-read}
 use Rattle.sheet.specs.declared.listing.Row.{Row}
 use Rattle.sheet.specs.Listing.{entryLine, lineBytes, linesBytes, printed, printedCount, Printed}
-use Rattle.sheet.specs.Post.{wordIn, rowLine, writePair, entriesIn, entryLines, answerLines, EntriesAsked, refusalLine}
+use Rattle.sheet.specs.code.Post.{wordIn, rowLine, writePair, entriesIn, entryLines, answerLines, EntriesAsked, refusalLine}
 
 -- the numbers of a line
 pub row-is : (answer : PlanAnswer) {a : PlanAnswer} {l : Line} → answer ≡ a → l ≡ lineOf a → l ≡ lineOf answer
 row-is answer e is = rw e is
 
-pub row-table : (answer : PlanAnswer) {t : TableAnswer} {l : Line} {n : ℕ} → answer ≡ TableRefused t → n ≡ refusal t → l ≡ line n 0 0 0 → l ≡ lineOf answer
-row-table answer e n is = rw (e, ← n) is
+table-line : (t : TableRefusal) → refusalLineOf (tableRefused t) ≡ line (tableRefused t .number) 0 0 0
+table-line OverLimit = refl
+table-line BreaksRules = refl
+table-line TooDeep = refl
+table-line EqualNames = refl
+
+pub row-table : (answer : PlanAnswer) {t : TableRefusal} {l : Line} {n : ℕ} → answer ≡ TableRefused t → n ≡ tableRefused t .number → l ≡ line n 0 0 0 → l ≡ lineOf answer
+row-table answer {t} e n is = rw e (is ∙ (ap (λ (m : ℕ). line m 0 0 0) n ∙ sym (table-line t)))
 
 module _ (r : Row) where
   pub entries-some : r .number ≡ 0 → r .fourth ≡ entriesIn (rowLine r)

@@ -8,7 +8,7 @@ use borrow.Author.Tests.{eq-eqb}
 use lib.ListN.{length, getD, length-append}
 use Rattle.table.specs.Rules as Rules
 use Rattle.table.specs.Tables.{Tables, tables, nodeCount, numberCount, nameCount}
-use Rattle.table.specs.Sound.{Limits}
+use Rattle.table.specs.code.Sound.{Limits}
 use Rattle.table.proofs.trees.Facts.{limits-of}
 use Rattle.sheet.specs.declared.layout.Counts.{Counts}
 use Rattle.sheet.specs.declared.operation.Operation.{Operation}

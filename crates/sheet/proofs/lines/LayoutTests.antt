@@ -11,7 +11,7 @@ use Rattle.sheet.specs.declared.layout.Counts.{Counts}
 use Rattle.sheet.specs.declared.operation.Operation.{Operation}
 use Rattle.sheet.specs.Lines.{numberAt}
 use Rattle.sheet.specs.Sheet.{countsOf, withinLimits, operationOf, operationOk}
-use Rattle.sheet.specs.Post.{Limited, Space, countsIn}
+use Rattle.sheet.specs.code.Post.{Limited, Space, countsIn}
 
 -- limits
 module _ (c : Counts) where

@@ -17,12 +17,11 @@ use Rattle.columns.specs.declared.SignedColumn.{SignedColumn}
 use Rattle.columns.specs.declared.SignedColumn.the-variants as SignedColumn
 use Rattle.columns.specs.Columns.{sixColumn, columnAt, signedColumnAt}
 use Rattle.columns.proofs.read.Six.{column-inside}
-use Rattle.table.specs.Rules.{allFrom}
+use Rattle.base.specs.Lists.{allFrom, tabulate}
 use Rattle.table.proofs.tests.Scan.{Scan, scan-start, scan-ends, all-on, all-fails}
-use Rattle.planner.specs.code.Post.{tabulate}
 use Rattle.planner.proofs.buffer.Filling.{filling-next, length-tabulate, getD-tabulate}
 use Rattle.sheet.specs.Lines.{numberAt, isLineFeed, columnOk, isLine, lineLength, lineOk, linesOk, isNumberLine, numberLineOk, numberLinesOk, signedWord, wordAt, numberWord}
-use Rattle.sheet.specs.Post.{Inside, WordRead, wordIn, Filled, Read, LinesAsked, LineAsked, NodesAsked, NumbersAsked, NumbersOnAsked, NumberAsked}
+use Rattle.sheet.specs.code.Post.{Inside, WordRead, wordIn, Filled, Read, LinesAsked, LineAsked, NodesAsked, NumbersAsked, NumbersOnAsked, NumberAsked}
 
 -- a column, by what was read
 module _ (sheet : List ℕ) (at w : ℕ) (before : List ℕ) (inside : at + 6 ≤ length sheet) {column : Column}

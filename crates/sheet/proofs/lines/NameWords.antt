@@ -10,7 +10,7 @@ use lib.Seq.{getD-set-other}
 use mir.Syntax.{w8, w64}
 use mir.Val.{Fits}
 use Rattle.table.proofs.tests.Scan.{Scan, scan-start, scan-on, scan-fails, scan-ends}
-use Rattle.sheet.specs.Post.{Filled, nameWord, rowMark, rowMarkOk, NamesAsked, MarksAsked, Overlaid, MarksRead}
+use Rattle.sheet.specs.code.Post.{Filled, nameWord, rowMark, rowMarkOk, NamesAsked, MarksAsked, Overlaid, MarksRead}
 use Rattle.sheet.proofs.lines.LineTests.{filled-none, filled-on}
 
 -- an array whose first words are written anew

@@ -4,7 +4,7 @@ use mathlib.Core.Bool.{Bool, true, false, cond, _&&_, false≢true}
 use mathlib.Core.List.{List, _++_}
 use mathlib.Core.Path.{_≡_, refl, sym, ap, _∙_}
 use native.Mathlib.Omega.{arith}
-use borrow.Author.Tests.{eq-eqb, ne-eqb, eqb-true, eqb-false, leb-true, le-leb, ltb-true, ltb-false}
+use borrow.Author.Tests.{eq-eqb, ne-eqb, eqb-false, leb-true, le-leb, ltb-true, ltb-false}
 use lib.Dec.{eqb, leb, ltb}
 use lib.ListN.{length, drop, replicate, length-append, List·getD-append}
 use Rattle.literal.proofs.Numbers.{and-true}
@@ -13,8 +13,8 @@ use Rattle.scope.specs.declared.ScopingMode.{ScopingMode}
 use Rattle.scope.specs.declared.ScopingMode.the-variants.{RespectParent, AllowShadowing}
 use Rattle.table.specs.Tables.{Tables}
 use Rattle.planner.specs.declared.PlanAnswer.{PlanAnswer}
-use Rattle.planner.specs.declared.PlanAnswer.the-variants.{Planned, PlanTooLarge}
-use Rattle.planner.specs.Answer.{Line, line, lineOf}
+use Rattle.base.specs.Refusal.{Refusal, planTooLarge, Line, line, refusalLine}
+use Rattle.planner.specs.Answer.{lineOf}
 use Rattle.planner.specs.Layout.{Entry, words}
 use Rattle.planner.specs.Operations.{Outcome, refused, planned, answered, written, Answered, patternOutcome, indexOutcome, parameterOutcome}
 use Rattle.planner.specs.Entries.{readEntries}
@@ -28,8 +28,7 @@ use Rattle.sheet.specs.Sheet.{scopingOf}
 use Rattle.sheet.specs.Listing.{operated, linesOf, linesBytes, Printed}
 use Rattle.sheet.specs.declared.plan.Tried.{Tried}
 use Rattle.sheet.specs.declared.plan.Tried.the-variants as Tried
-use Rattle.sheet.specs.Post.{entriesIn, answerLines, TriedBy}
-use Rattle.sheet.proofs.plan.OneLine.{oneLine, one-line}
+use Rattle.sheet.specs.code.Post.{entriesIn, answerLines, TriedBy}
 
 -- the scoping
 module _ (o : Operation) where
@@ -73,10 +72,10 @@ record Listed (o : Outcome) (first : Line) (plan : List ℕ) : Type 0 where
   held : entriesIn first * 4 ≤ length plan
   lines : answerLines first plan ≡ linesOf o
 
-listed-refused : (a : PlanAnswer) (plan : List ℕ) → eqb (entriesIn (lineOf a)) 0 ≡ true → Listed (refused a) (lineOf a) plan
+listed-refused : (a : Refusal) (plan : List ℕ) → Listed (refused a) (refusalLine a) plan
 unfolding linesOf readEntries
-listed-refused a plan e =
-    let z = eqb-true (entriesIn (lineOf a)) 0 e in
+listed-refused a plan =
+    let z : entriesIn (refusalLine a) ≡ 0 = rw (a .refuses) in
     record { held = omega arith; lines = rw z }
 
 module _ (form side : ℕ) (es : List Entry) {plan : List ℕ} where
@@ -92,34 +91,34 @@ module _ (form side : ℕ) (es : List Entry) {plan : List ℕ} where
       rw (z, e) (List·getD-append (words es) rest 0 j (omega arith))) in
       record { held = omega arith; lines = rw (fits, read) }
 
-  listed-large : leb (length es) 1536 ≡ false → Listed (planned form side es) (line 6 0 (length es) 0) plan
+  listed-large : leb (length es) 1536 ≡ false → Listed (planned form side es) (refusalLine (planTooLarge (length es))) plan
   unfolding linesOf readEntries
   listed-large past = record { held = omega arith; lines = rw past }
 
-listed-as : (o : Outcome) {blank plan : List ℕ} {a : PlanAnswer} → length blank ≡ 6144 → oneLine o ≡ true → Answered o blank plan a → Listed o (lineOf a) plan
+listed-as : (o : Outcome) {blank plan : List ℕ} {a : PlanAnswer} → length blank ≡ 6144 → Answered o blank plan a → Listed o (lineOf a) plan
 unfolding answered written
-listed-as (refused b) {plan = plan} long one done = rw (done .answer) (listed-refused b plan one)
-listed-as (planned form side es) {blank} {plan} {a} long one done = go (leb (length es) 1536) refl (rw long at (done .answer)) (rw long at (done .buffer))
+listed-as (refused b) {plan = plan} long done = rw (done .answer) (listed-refused b plan)
+listed-as (planned form side es) {blank} {plan} {a} long done = go (leb (length es) 1536) refl (rw long at (done .answer)) (rw long at (done .buffer))
   where
-    go : (b : Bool) → leb (length es) 1536 ≡ b → a ≡ cond b (Planned form side (length es)) (PlanTooLarge (length es))
+    go : (b : Bool) → leb (length es) 1536 ≡ b → lineOf a ≡ cond b (line 0 form side (length es)) (refusalLine (planTooLarge (length es)))
         → plan ≡ cond b (words es ++ drop (4 * length es) (replicate 6144 0)) (replicate 6144 0)
         → Listed (planned form side es) (lineOf a) plan
     go true p e f = rw e (listed-planned form side es 6144 p f)
     go false p e f = rw e (listed-large form side es p)
 
 -- in a smaller space, where that suffices
-listed-small : (o : Outcome) {blank plan : List ℕ} {a : PlanAnswer} → length blank ≤ 6144 → oneLine o ≡ true → Answered o blank plan a → (lineOf a .number ≡ 6 → ⊥) → Listed o (lineOf a) plan
+listed-small : (o : Outcome) {blank plan : List ℕ} {a : PlanAnswer} → length blank ≤ 6144 → Answered o blank plan a → (lineOf a .number ≡ 6 → ⊥) → Listed o (lineOf a) plan
 unfolding answered written
-listed-small (refused b) {plan = plan} few one done other = rw (done .answer) (listed-refused b plan one)
-listed-small (planned form side es) {blank} {plan} {a} few one done other = go (leb (length es) (length blank / 4)) refl (done .answer) (done .buffer)
+listed-small (refused b) {plan = plan} few done other = rw (done .answer) (listed-refused b plan)
+listed-small (planned form side es) {blank} {plan} {a} few done other = go (leb (length es) (length blank / 4)) refl (done .answer) (done .buffer)
   where
-    go : (b : Bool) → leb (length es) (length blank / 4) ≡ b → a ≡ cond b (Planned form side (length es)) (PlanTooLarge (length es))
+    go : (b : Bool) → leb (length es) (length blank / 4) ≡ b → lineOf a ≡ cond b (line 0 form side (length es)) (refusalLine (planTooLarge (length es)))
         → plan ≡ cond b (words es ++ drop (4 * length es) (replicate (length blank) 0)) (replicate (length blank) 0)
         → Listed (planned form side es) (lineOf a) plan
     go true p e f =
         let fits = leb-true (length es) (length blank / 4) p in
         rw e (listed-planned form side es (length blank) (le-leb (length es) 1536 (omega arith)) f)
-    go false p e f = absurd (other (ap (λ (x : PlanAnswer). lineOf x .number) e))
+    go false p e f = absurd (other (ap (λ (l : Line). l .number) e))
 
 -- is an answer 6, and the space small?
 module _ (number words : ℕ) where
@@ -130,19 +129,19 @@ module _ (number words : ℕ) where
   not-six h = simp (ne-eqb number 6 h)
 
 -- in any space, unless the answer is 6 for want of space for 1,536 entries
-listed-in : (o : Outcome) {blank plan : List ℕ} {a : PlanAnswer} → length blank ≤ 6144 → oneLine o ≡ true → Answered o blank plan a → (eqb (lineOf a .number) 6 && ltb (length blank) 6144) ≡ false → Listed o (lineOf a) plan
-listed-in o {blank} {plan} {a} few one done other = go (eqb (lineOf a .number) 6) (ltb (length blank) 6144) refl refl other
+listed-in : (o : Outcome) {blank plan : List ℕ} {a : PlanAnswer} → length blank ≤ 6144 → Answered o blank plan a → (eqb (lineOf a .number) 6 && ltb (length blank) 6144) ≡ false → Listed o (lineOf a) plan
+listed-in o {blank} {plan} {a} few done other = go (eqb (lineOf a .number) 6) (ltb (length blank) 6144) refl refl other
   where
     go : (six small : Bool) → eqb (lineOf a .number) 6 ≡ six → ltb (length blank) 6144 ≡ small → (six && small) ≡ false → Listed o (lineOf a) plan
-    go true false p q e = listed-as o (omega (arith, ltb-false (length blank) 6144 q)) one done
+    go true false p q e = listed-as o (omega (arith, ltb-false (length blank) 6144 q)) done
     go true true p q e = absurd (false≢true (sym e))
-    go false small p q e = listed-small o few one done (eqb-false (lineOf a .number) 6 p)
+    go false small p q e = listed-small o few done (eqb-false (lineOf a .number) 6 p)
 
 module _ (o : Operation) (T : Tables) (s : Scope) {blank plan : List ℕ} {a : PlanAnswer} {first : Line}
     (few : length blank ≤ 6144) (done : Answered (operated o T s) blank plan a) (is : first ≡ lineOf a) {m : Bool} (told : m ≡ (eqb (first .number) 6 && ltb (length plan) 6144)) (kept : length plan ≡ length blank) where
   module _ (fits : m ≡ false) where
     listed : Listed (operated o T s) (lineOf a) plan
-    listed = listed-in (operated o T s) few (one-line o T s) done (rw (is, kept) at (sym told ∙ fits))
+    listed = listed-in (operated o T s) few done (rw (is, kept) at (sym told ∙ fits))
 
     pub tried-held : entriesIn first * 4 ≤ length plan
     tried-held = rw is (listed .held)

@@ -9,10 +9,10 @@ use borrow.Author.Tests.{eq-eqb, ne-eqb, ltb-true, ltb-false, not-false}
 use lib.Dec.{ltb}
 use lib.ListN.{length, getD, take, drop, replicate, length-append, length-replicate, getD-replicate, List·getD-append}
 use lib.Seq.{ext-getD, length-take-le, getD-append-add}
-use Rattle.table.specs.Rules.{allFrom}
+use Rattle.base.specs.Refusal.{overLimit, layoutBroken}
+use Rattle.base.specs.Lists.{allFrom, tabulate}
 use Rattle.table.specs.Tables.{tables}
 use Rattle.table.proofs.tests.Bools.{told-no, told-yes}
-use Rattle.planner.specs.code.Post.{tabulate}
 use Rattle.planner.proofs.buffer.Filling.{length-tabulate, getD-tabulate}
 use Rattle.sheet.specs.declared.layout.Counts.{Counts}
 use Rattle.sheet.specs.declared.layout.Places.{Places}
@@ -20,7 +20,7 @@ use Rattle.sheet.specs.declared.operation.Operation.{Operation}
 use Rattle.sheet.specs.Lines.{numberAt, isLine, linesOk, numberLinesOk, wordAt, numberWord}
 use Rattle.sheet.specs.Sheet.{countsOf, withinLimits, numbersPlace, namesPlace, stringsPlace, textPlace, endPlace, placesOf, operationOf, operationOk, markOk, marksOk, layoutOk, marksOf, sheetOf, unparsed, parsed, parse, parsedBy}
 use Rattle.sheet.specs.Listing.{operated, linesOf, linesBytes, listingOf, Printed}
-use Rattle.sheet.specs.Post.{Limited, Space, Filled, Read, LinesAsked, NodesAsked, NumbersAsked, NumbersOnAsked, nameWord, rowMark, rowMarkOk, NamesAsked, MarksAsked, Overlaid, MarksRead, countsIn, operationIn, refusalLine, laidListing, scopeIn, namesOk, NamesHeld, NamesRead, Headed, FirstRead, NodesRead, ChildrenRead, FirstNumbersRead, NumbersRead, childrenLeft, TablesAsked, TablesRead, Tabled}
+use Rattle.sheet.specs.code.Post.{Limited, Space, Filled, Read, LinesAsked, NodesAsked, NumbersAsked, NumbersOnAsked, nameWord, rowMark, rowMarkOk, NamesAsked, MarksAsked, Overlaid, MarksRead, countsIn, operationIn, refusalLine, laidListing, scopeIn, namesOk, NamesHeld, NamesRead, Headed, FirstRead, NodesRead, ChildrenRead, FirstNumbersRead, NumbersRead, childrenLeft, TablesAsked, TablesRead, Tabled}
 use Rattle.sheet.proofs.lines.LineTests.{filled-first, word-in-line, nodes-split, numbers-split}
 use Rattle.sheet.proofs.lines.LayoutTests.{counts-read, operation-read}
 
@@ -37,10 +37,10 @@ module _ (sheet : List ℕ) (at : ℕ) {line : List ℕ} {r : Bool} (read : Read
   line-word : not r ≡ false → (k : ℕ) → k < 6 → getD line k 0 ≡ wordAt sheet at 37 6 k
   line-word good k lt = read .filled (not-false r good) .each k (omega arith)
 
-parses : (sheet : List ℕ) {c : Counts} → isLine sheet 0 6 ≡ true → c ≡ countsOf sheet → withinLimits c ≡ true → parse sheet ≡ cond (layoutOk sheet c) (parsed (sheetOf sheet c)) (unparsed 7)
+parses : (sheet : List ℕ) {c : Counts} → isLine sheet 0 6 ≡ true → c ≡ countsOf sheet → withinLimits c ≡ true → parse sheet ≡ cond (layoutOk sheet c) (parsed (sheetOf sheet c)) (unparsed layoutBroken)
 unfolding parse
 parses sheet line-1 counts limits =
-    ap (λ (b : Bool). cond b (parsedBy sheet (countsOf sheet)) (unparsed 7)) line-1
+    ap (λ (b : Bool). cond b (parsedBy sheet (countsOf sheet)) (unparsed layoutBroken)) line-1
     ∙ (ap (parsedBy sheet) (sym counts) ∙ rw limits)
 
 -- the sheet, by line 1

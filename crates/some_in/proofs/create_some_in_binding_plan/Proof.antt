@@ -6,101 +6,82 @@ use Rattle.some_in.proofs.create_some_in_binding_plan.Tie as tie
 use Rattle.some_in.proofs.create_some_in_binding_plan.Reads as reads
 use Rattle.some_in.proofs.create_some_in_binding_plan.Lts as lts
 use Rattle.planner.proofs.buffer.clear.Reads as clear-reads
-use Rattle.planner.proofs.context.is_sound.Reads as is-sound-reads
 use Rattle.some_in.proofs.plan_key.Reads as plan-key-reads
 use Rattle.some_in.proofs.plan_without_key.Reads as plan-without-key-reads
 use Rattle.table.proofs.check.Reads as check-reads
 use Rattle.table.proofs.reading.is_node.Reads as is-node-reads
 
--- src/lib.rt:252:9
 check-requires : tie.Need-check-requires
 check-requires c κs = search needs
 
--- src/lib.rt:253:9
-is-sound-requires : tie.Need-is-sound-requires
-is-sound-requires c κs = search needs
+enum-known-checked : tie.Need-enum-known-checked
+enum-known-checked c = search needs
 
--- src/lib.rt:254:9
 clear-requires : tie.Need-clear-requires
 clear-requires c κs = search needs
 
--- src/lib.rt:255:9
 same-length : tie.Need-same-length
 same-length c = search needs
 
--- src/lib.rt:255:9
 returns : tie.Need-returns
 returns c = search (table-refuses, needs)
 
--- src/lib.rt:257:9
+enum-told : tie.Need-enum-told
+enum-told c = search needs
+
 is-node-requires : tie.Need-is-node-requires
 is-node-requires c κs = search needs
 
--- src/lib.rt:258:9
 clear-requires-2 : tie.Need-clear-requires-2
 clear-requires-2 c κs = search needs
 
--- src/lib.rt:259:9
 same-length-2 : tie.Need-same-length-2
 same-length-2 c = search needs
 
--- src/lib.rt:259:9
 returns-2 : tie.Need-returns-2
 returns-2 c = search (value-outside, needs)
 
--- src/lib.rt:261:9
 is-node-requires-2 : tie.Need-is-node-requires-2
 is-node-requires-2 c κs = search needs
 
--- src/lib.rt:262:9
 clear-requires-3 : tie.Need-clear-requires-3
 clear-requires-3 c κs = search needs
 
--- src/lib.rt:263:9
 same-length-3 : tie.Need-same-length-3
 same-length-3 c = search needs
 
--- src/lib.rt:263:9
 returns-3 : tie.Need-returns-3
 returns-3 c = search (collection-outside, needs)
 
--- src/lib.rt:266:9
 plan-without-key-requires : tie.Need-plan-without-key-requires
 plan-without-key-requires c κs =
     let m = c .before .before .before in
     let n = m .before .before in
     let s = n .before .before in
     record {
-      table = sound-well _ _ (s .before .check .ensures) (s .is-sound .ensures) (n .before .if1 .left);
-      first = root-node _ _ (n .is-node .ensures) (m .before .if2 .left);
-      second = root-node _ _ (m .is-node2 .ensures) (c .before .before .if3 .left);
+      table = sound-well _ _ (s .before .check .ensures) (n .before .enum-told .given .1);
+      first = root-node _ _ (n .is-node .ensures) (m .before .if1 .left);
+      second = root-node _ _ (m .is-node2 .ensures) (c .before .before .if2 .left);
     }
 
--- src/lib.rt:266:9
 same-length-4 : tie.Need-same-length-4
 same-length-4 c = search needs
 
--- src/lib.rt:266:9
 returns-4 : tie.Need-returns-4
 returns-4 c = search (goes-without, needs)
 
--- src/lib.rt:279:9
 is-node-requires-3 : tie.Need-is-node-requires-3
 is-node-requires-3 c κs = search needs
 
--- src/lib.rt:280:9
 clear-requires-4 : tie.Need-clear-requires-4
 clear-requires-4 c κs = search needs
 
--- src/lib.rt:281:9
 same-length-5 : tie.Need-same-length-5
 same-length-5 c = search needs
 
--- src/lib.rt:281:9
 returns-5 : tie.Need-returns-5
 returns-5 c = search (key-outside, needs)
 
--- src/lib.rt:283:5
 plan-key-requires : tie.Need-plan-key-requires
 plan-key-requires c κs =
     let k = c .before .before in
@@ -109,18 +90,16 @@ plan-key-requires c κs =
     let s = n .before .before in
     record {
       pair = record {
-        table = sound-well _ _ (s .before .check .ensures) (s .is-sound .ensures) (n .before .if1 .left);
-        first = root-node _ _ (n .is-node .ensures) (m .before .if2 .left);
-        second = root-node _ _ (m .is-node2 .ensures) (k .before .before .if3 .left);
+        table = sound-well _ _ (s .before .check .ensures) (n .before .enum-told .given .1);
+        first = root-node _ _ (n .is-node .ensures) (m .before .if1 .left);
+        second = root-node _ _ (m .is-node2 .ensures) (k .before .before .if2 .left);
       };
-      node = root-node _ _ (k .is-node3 .ensures) (c .before .if5 .left);
+      node = root-node _ _ (k .is-node3 .ensures) (c .before .if4 .left);
     }
 
--- src/lib.rt:237:1
 same-length-6 : tie.Need-same-length-6
 same-length-6 c = search needs
 
--- src/lib.rt:237:1
 returns-6 : tie.Need-returns-6
 returns-6 c = search (goes-with, needs)
 
@@ -129,10 +108,11 @@ create-some-in-binding-plan-spec =
     tie.close
     (tie.spec
     check-requires
-    is-sound-requires
+    enum-known-checked
     clear-requires
     same-length
     returns
+    enum-told
     is-node-requires
     clear-requires-2
     same-length-2

@@ -7,67 +7,51 @@ use Rattle.some_in.proofs.deliver_some_in.Lts as lts
 use Rattle.planner.proofs.buffer.clear.Reads as clear-reads
 use Rattle.planner.proofs.buffer.close.Reads as close-reads
 
--- src/lib.rt:82:47
 enum-told : tie.Need-enum-told
 enum-told c = search needs
 
--- src/lib.rt:82:41
 close-requires : tie.Need-close-requires
 close-requires c κs = search needs
 
--- src/lib.rt:83:49
 enum-told-2 : tie.Need-enum-told-2
 enum-told-2 c = search needs
 
--- src/lib.rt:83:43
 close-requires-2 : tie.Need-close-requires-2
 close-requires-2 c κs = search needs
 
--- src/lib.rt:85:13
 enum-known-check : tie.Need-enum-known-check
 enum-known-check c = search needs
 
--- src/lib.rt:89:13
 clear-requires : tie.Need-clear-requires
 clear-requires c κs = search needs
 
--- src/lib.rt:96:49
 enum-known-check-2 : tie.Need-enum-known-check-2
 enum-known-check-2 c = search needs
 
--- src/lib.rt:97:13
 clear-requires-2 : tie.Need-clear-requires-2
 clear-requires-2 c κs = search needs
 
--- src/lib.rt:73:1
 same-length : tie.Need-same-length
 same-length c = search needs
 
--- src/lib.rt:73:1
 returns : tie.Need-returns
 returns c = search (closed-match, needs)
 
--- src/lib.rt:73:1
 same-length-2 : tie.Need-same-length-2
 same-length-2 c = search needs
 
--- src/lib.rt:73:1
 returns-2 : tie.Need-returns-2
 returns-2 c = search (closed-unknown, needs)
 
--- src/lib.rt:73:1
 same-length-3 : tie.Need-same-length-3
 same-length-3 c = search needs
 
--- src/lib.rt:73:1
 returns-3 : tie.Need-returns-3
 returns-3 c = search (closed-array, needs)
 
--- src/lib.rt:73:1
 same-length-4 : tie.Need-same-length-4
 same-length-4 c = search needs
 
--- src/lib.rt:73:1
 returns-4 : tie.Need-returns-4
 returns-4 c = search (closed-object, needs)
 

@@ -4,22 +4,18 @@ use Rattle.some_in.proofs.plan_validated.Statement.{statement}
 use Rattle.some_in.proofs.plan_validated.Tie as tie
 use Rattle.some_in.proofs.plan_validated.Reads as reads
 use Rattle.some_in.proofs.plan_validated.Lts as lts
-use Rattle.planner.proofs.destructuring.plan_pattern.Reads as plan-pattern-reads
-use Rattle.planner.proofs.parameters.validate_pattern_bindings.Reads as validate-pattern-bindings-reads
+use Rattle.planner.proofs.inner.destructuring.plan_pattern.Reads as plan-pattern-reads
+use Rattle.planner.proofs.inner.parameters.validate_pattern_bindings.Reads as validate-pattern-bindings-reads
 
--- src/lib.rt:44:9
 plan-pattern-requires : tie.Need-plan-pattern-requires
 plan-pattern-requires c κs = search needs
 
--- src/lib.rt:58:9
 validate-pattern-bindings-requires : tie.Need-validate-pattern-bindings-requires
 validate-pattern-bindings-requires c κs = search needs
 
--- src/lib.rt:28:1
 same-length : tie.Need-same-length
 same-length c = search needs
 
--- src/lib.rt:28:1
 returns : tie.Need-returns
 returns c = search (plan-validated, needs)
 

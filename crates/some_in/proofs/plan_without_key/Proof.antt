@@ -6,15 +6,12 @@ use Rattle.some_in.proofs.plan_without_key.Reads as reads
 use Rattle.some_in.proofs.plan_without_key.Lts as lts
 use Rattle.some_in.proofs.plan_value.Reads as plan-value-reads
 
--- src/lib.rt:217:5
 plan-value-requires : tie.Need-plan-value-requires
 plan-value-requires c κs = search needs
 
--- src/lib.rt:202:1
 same-length : tie.Need-same-length
 same-length c = search needs
 
--- src/lib.rt:202:1
 returns : tie.Need-returns
 returns c = search (without-key, needs)
 

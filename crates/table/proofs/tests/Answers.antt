@@ -1,24 +1,28 @@
 -- The check's parts put together, answer by answer.
 use Prim.Native.Nat.{ℕ, _+_, _-_, _/_, _≤_, _<_}
-use mathlib.Core.Path.{_≡_, refl, sym, _∙_}
+use mathlib.Core.Path.{_≡_, refl, sym, ap, _∙_}
 use mathlib.Core.List.{List, []}
-use mathlib.Core.Bool.{Bool, true, false, not, _&&_, and-false, and-assoc}
+use mathlib.Core.Bool.{Bool, true, false, cond, not, _&&_, and-false, and-assoc}
 use mathlib.Core.Bool as Bool
 use native.Mathlib.Omega.{arith}
 use borrow.Author.Tests.{leb-true}
-use lib.Dec.{leb}
+use lib.Dec.{eqb, leb}
 use lib.ListN.{length, getD}
 use Rattle.scope.specs.declared.Scope.{Scope}
-use Rattle.table.specs.declared.TableAnswer.the-variants.{Sound, OverLimit, BreaksRules, TooDeep, EqualNames}
+use Rattle.table.specs.declared.TableAnswer.{TableAnswer}
+use Rattle.table.specs.declared.TableAnswer.the-variants.{Sound, Refused}
+use Rattle.table.specs.declared.TableRefusal.the-variants.{OverLimit, BreaksRules, TooDeep, EqualNames}
 use Rattle.table.specs.Tables.{Tables, tables, firstOf, nodeCount, numberCount, nameCount, width, childAt}
 use Rattle.table.specs.Expr.{depth}
 use Rattle.table.specs.Decode.{expr}
-use Rattle.table.specs.Rules.{allFrom, noRepeat, withinLimits, wholeRecords, nameOk, nameOkAt, numberOk, entryOk, spanOk, childrenBelow, nodeOk, nodeOkAt, usedPlaces, scopeOk, followsRules, shallow, namesDiffer}
-use Rattle.table.specs.Marks.{PlacesAsk}
-use Rattle.table.specs.Depths.{DepthsAsk, DepthsTold}
-use Rattle.table.specs.Passes.{listsOk, nodesOk, headOk, headOkAt, childrenBelowAt, NodesAsk}
-use Rattle.table.specs.Check.{checked}
-use Rattle.table.specs.Sound.{WellFormed}
+use Rattle.base.specs.Lists.{allFrom, noRepeat}
+use Rattle.base.specs.Refusal.{Tested, passed, refused}
+use Rattle.table.specs.Rules.{withinLimits, wholeRecords, nameOk, nameOkAt, numberOk, entryOk, spanOk, childrenBelow, nodeOk, nodeOkAt, usedPlaces, scopeOk, followsRules, shallow, namesDiffer}
+use Rattle.table.specs.code.Marks.{PlacesAsk}
+use Rattle.table.specs.code.Depths.{DepthsAsk, DepthsTold}
+use Rattle.table.specs.code.Passes.{listsOk, nodesOk, headOk, headOkAt, childrenBelowAt, NodesAsk}
+use Rattle.table.specs.Check.{checked, testedOf, TableAnswered, TableLaws}
+use Rattle.table.specs.code.Sound.{WellFormed}
 use Rattle.table.proofs.tests.Bools.{and-true, told-no, told-yes}
 use Rattle.table.proofs.tests.Scan.{all-both}
 use Rattle.table.proofs.trees.Deepest.{depths-of}
@@ -140,14 +144,14 @@ module _ (nodes ch nums names strings text : List ℕ) where
 
 -- the answers
 module _ (nodes ch nums names strings text : List ℕ) (s : Scope) {a : Bool} (limits : a ≡ withinLimits (tables nodes ch nums names strings text)) where
-  pub answer-limit : not a ≡ true → OverLimit ≡ checked (tables nodes ch nums names strings text) s
+  pub answer-limit : not a ≡ true → TableAnswered (tables nodes ch nums names strings text) s (Refused OverLimit)
   unfolding checked
-  answer-limit t = rw (told-no limits t)
+  answer-limit t = record { answer = rw (told-no limits t) }
 
   module _ (t : not a ≡ false) {b : Bool} (rules : b ≡ followsRules (tables nodes ch nums names strings text) s) where
-    pub answer-rules : not b ≡ true → BreaksRules ≡ checked (tables nodes ch nums names strings text) s
+    pub answer-rules : not b ≡ true → TableAnswered (tables nodes ch nums names strings text) s (Refused BreaksRules)
     unfolding checked
-    answer-rules u = rw (told-yes limits t, told-no rules u)
+    answer-rules u = record { answer = rw (told-yes limits t, told-no rules u) }
 
     module _ (u : not b ≡ false) where
       well : WellFormed (tables nodes ch nums names strings text)
@@ -164,19 +168,34 @@ module _ (nodes ch nums names strings text : List ℕ) (s : Scope) {a : Bool} (l
         unfolding shallow
         told-shallow = deep .told (λ (n : ℕ). depth (expr (tables nodes ch nums names strings text) n)) (depths-of (tables nodes ch nums names strings text) well)
 
-        pub answer-deep : not d ≡ true → TooDeep ≡ checked (tables nodes ch nums names strings text) s
+        pub answer-deep : not d ≡ true → TableAnswered (tables nodes ch nums names strings text) s (Refused TooDeep)
         unfolding checked
-        answer-deep v = rw (told-yes limits t, told-yes rules u, told-no told-shallow v)
+        answer-deep v = record { answer = rw (told-yes limits t, told-yes rules u, told-no told-shallow v) }
 
         module _ (v : not d ≡ false) {e : Bool} (differ : e ≡ namesDiffer (tables [] [] [] names [] text)) where
           same-names : namesDiffer (tables [] [] [] names [] text) ≡ namesDiffer (tables nodes ch nums names strings text)
           unfolding namesDiffer
           same-names = refl
 
-          pub answer-names : not e ≡ true → EqualNames ≡ checked (tables nodes ch nums names strings text) s
+          pub answer-names : not e ≡ true → TableAnswered (tables nodes ch nums names strings text) s (Refused EqualNames)
           unfolding checked
-          answer-names w = rw (told-yes limits t, told-yes rules u, told-yes told-shallow v, told-no (differ ∙ same-names) w)
+          answer-names w = record { answer = rw (told-yes limits t, told-yes rules u, told-yes told-shallow v, told-no (differ ∙ same-names) w) }
 
-          pub answer-sound : not e ≡ false → Sound ≡ checked (tables nodes ch nums names strings text) s
+          pub answer-sound : not e ≡ false → TableAnswered (tables nodes ch nums names strings text) s Sound
           unfolding checked
-          answer-sound w = rw (told-yes limits t, told-yes rules u, told-yes told-shallow v, told-yes (differ ∙ same-names) w)
+          answer-sound w = record { answer = rw (told-yes limits t, told-yes rules u, told-yes told-shallow v, told-yes (differ ∙ same-names) w) }
+
+-- an answer from its number
+abbrev answerIn : Tested → TableAnswer
+answerIn passed = Sound
+answerIn (refused r) = cond (eqb (r .number) 1) (Refused OverLimit) (cond (eqb (r .number) 2) (Refused BreaksRules) (cond (eqb (r .number) 3) (Refused TooDeep) (Refused EqualNames)))
+
+back : (r : TableAnswer) → answerIn (testedOf r) ≡ r
+back Sound = refl
+back (Refused OverLimit) = refl
+back (Refused BreaksRules) = refl
+back (Refused TooDeep) = refl
+back (Refused EqualNames) = refl
+
+pub table-laws : TableLaws
+table-laws = record { settled = λ r q e. sym (back r) ∙ (ap answerIn e ∙ back q) }

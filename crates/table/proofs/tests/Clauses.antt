@@ -7,13 +7,13 @@ use native.Mathlib.Omega.{arith}
 use borrow.Author.Tests.{eq-eqb, ne-eqb, le-leb, lt-leb, lt-ltb, le-ltb, leb-true, leb-false, eqb-true, eqb-false}
 use lib.Dec.{eqb, leb, ltb}
 use lib.ListN.{length}
-use Rattle.literal.specs.Reading.{part}
+use Rattle.base.specs.Lists.{part, allFrom}
 use Rattle.scope.specs.declared.Scope.{Scope}
 use Rattle.scope.specs.Scope.{marksOk}
 use Rattle.table.specs.Tables.{Tables, tables, kindOf, startOf, endOf, firstOf, countOf, nodeCount, nameCount, width, isNode, childAt, nameStart, nameLength, nameBytes}
 use Rattle.table.specs.Names.{sameBytes, underscoreBytes}
-use Rattle.table.specs.Rules.{allFrom, withinLimits, wholeRecords, spanOk, nameTextOk, wordsOk, belowAt, childrenBelow, nameOk, scopeOk, newNameAt, namesDiffer}
-use Rattle.table.specs.Passes.{headOk, headOkAt}
+use Rattle.table.specs.Rules.{withinLimits, wholeRecords, spanOk, nameTextOk, wordsOk, belowAt, childrenBelow, nameOk, scopeOk, newNameAt, namesDiffer}
+use Rattle.table.specs.code.Passes.{headOk, headOkAt}
 use Rattle.table.proofs.tests.Bools.{told-no, told-yes}
 use Rattle.table.proofs.tests.Scan.{Scan, scan-on, scan-fails, scan-ends, all-on, all-fails}
 

@@ -12,8 +12,9 @@ use lib.Seq.{getD-set-same, getD-set-other, drop-cons}
 use mir.Val.{Fits}
 use mir.Syntax.{w64}
 use Rattle.table.specs.Tables.{firstOf, width}
-use Rattle.table.specs.Rules.{elem, noRepeat, placesFrom, usedPlaces}
-use Rattle.table.specs.Marks.{freshAll, markAll, PlacesMarked, PlacesAsk}
+use Rattle.base.specs.Lists.{elem, noRepeat}
+use Rattle.table.specs.Rules.{placesFrom, usedPlaces}
+use Rattle.table.specs.code.Marks.{freshAll, markAll, PlacesMarked, PlacesAsk}
 use Rattle.table.proofs.tests.Bools.{crossed}
 
 data Below (k : ℕ) : List ℕ → Type 0 where

@@ -6,14 +6,16 @@ use mathlib.Core.Bool.{true, false, not}
 use mathlib.Core.List.{List, []}
 use native.Mathlib.Nat.{eq-or-lt-of-le}
 use native.Mathlib.Omega.{arith}
-use lib.ListN.{length, getD, set, replicate, length-set}
-use lib.Seq.{getD-set-same, getD-set-other}
+use lib.ListN.{length, getD, replicate}
 use Rattle.literal.specs.Order.{Order, less, same, more, opposite, bytesOrder, told}
 use Rattle.literal.specs.declared.Comparison.{Comparison}
 use Rattle.literal.specs.declared.Comparison.the-variants.{Less, Equal, Greater, NoLiteral}
 use Rattle.literal.proofs.Orders.{three-ways, bytes-order}
+use Rattle.base.specs.code.Insertion.{moved}
+use Rattle.base.proofs.Moving.{moved-front, moved-here, moved-next, moved-length}
+use Rattle.base.proofs.Search.{between-start, between-up, between-down, between-ends}
 use Rattle.table.specs.Tables.{tables, nameBytes}
-use Rattle.table.specs.NameOrder.{orderAt, Ascending, Between, FoundName, Inserted}
+use Rattle.table.specs.code.NameOrder.{orderAt, Ascending, NameBetween, FoundName}
 use Rattle.table.specs.Rules.{differAt, newNameAt, namesDiffer}
 use Rattle.table.proofs.tests.Bools.{never}
 use Rattle.table.proofs.tests.Bytes.{same-bytes-equal, equal-same-bytes, unequal-bytes, same-equal}
@@ -64,15 +66,10 @@ module _ {name : ℕ → List ℕ} {order : List ℕ} {count : ℕ} (a : Ascendi
 pub record Finding (name : ℕ → List ℕ) (bytes order : List ℕ) (count low high : ℕ) : Type 0 where
   pub ascending : Ascending name order count
   pub few : count < 128
-  pub between : Between name bytes order count low high
+  pub between : NameBetween name bytes order count low high
 
 pub finding-start : {name : ℕ → List ℕ} (bytes : List ℕ) {order : List ℕ} {count : ℕ} → Ascending name order count → count < 128 → Finding name bytes order count 0 count
-finding-start bytes a few =
-    record {
-      ascending = a;
-      few = few;
-      between = record { spans = omega arith; inside = omega arith; before = λ q lt. absurd (omega arith); behind = λ q le lt. absurd (omega arith) };
-    }
+finding-start bytes {order} {count} a few = record { ascending = a; few = few; between = between-start _ _ count }
 
 module _ {name : ℕ → List ℕ} {bytes order : List ℕ} {count low high : ℕ} (f : Finding name bytes order count low high) where
   module _ {q x : ℕ} {other : List ℕ} {way : Comparison} (lt : low < high) (is-q : q ≡ low + (high - low) / 2) (is-x : x ≡ getD order q 0) (is-other : other ≡ name x) (is-way : way ≡ told (bytesOrder bytes other)) where
@@ -83,32 +80,18 @@ module _ {name : ℕ → List ℕ} {bytes order : List ℕ} {count low high : �
     inside-at = let n = f .between .inside in omega arith
 
     pub finding-down : way ≡ Less → Finding name bytes order count low q
-    finding-down e =
-        let n = f .between .inside in
-        record {
-          ascending = f .ascending;
-          few = f .few;
-          between = record {
-            spans = omega arith;
-            inside = omega arith;
-            before = f .between .before;
-            behind = less-behind (f .ascending) bytes q inside-at (less-told (orderAt name bytes order q) (way-at ∙ e));
-          };
-        }
+    finding-down e = record {
+      ascending = f .ascending;
+      few = f .few;
+      between = between-down (f .between) q (omega arith) (omega arith) (less-behind (f .ascending) bytes q inside-at (less-told (orderAt name bytes order q) (way-at ∙ e)));
+    }
 
     pub finding-up : way ≡ Greater → Finding name bytes order count (q + 1) high
-    finding-up e =
-        let n = f .between .inside in
-        record {
-          ascending = f .ascending;
-          few = f .few;
-          between = record {
-            spans = omega arith;
-            inside = n;
-            before = λ p le. more-before (f .ascending) bytes q inside-at (more-told (orderAt name bytes order q) (way-at ∙ e)) p (omega arith);
-            behind = f .between .behind;
-          };
-        }
+    finding-up e = record {
+      ascending = f .ascending;
+      few = f .few;
+      between = between-up (f .between) q (omega arith) (omega arith) (more-before (f .ascending) bytes q inside-at (more-told (orderAt name bytes order q) (way-at ∙ e)));
+    }
 
     pub finding-same : way ≡ Equal → FoundName name bytes order count 128
     finding-same e = record { new = λ h. absurd (omega arith); old = λ h. (q, (inside-at, same-bytes-equal bytes other (sym (same-equal bytes other is-way e)) ∙ (is-other ∙ ap name is-x))) }
@@ -121,53 +104,7 @@ module _ {name : ℕ → List ℕ} {bytes order : List ℕ} {count low high : �
       let s = f .between .spans in
       let n = f .between .inside in
       let t = f .few in
-      let e : high ≡ low = omega arith in
-      record { new = λ h. rw e at (f .between); old = λ h. absurd (omega arith) }
-
--- `insert_name`: what stood from q to `count` is moved
-pub record Inserting (before : List ℕ) (count place : ℕ) (here : List ℕ) (q : ℕ) : Type 0 where
-  pub long : length here ≡ 128
-  pub room : count < 128
-  pub from : place ≤ q
-  pub to : q ≤ count
-  pub front : (p : ℕ) → p ≤ q → getD here p 0 ≡ getD before p 0
-  pub moved : (p : ℕ) → q < p → p ≤ count → getD here p 0 ≡ getD before (p - 1) 0
-
-pub inserting-start : {before : List ℕ} {count place : ℕ} → place ≤ count → count < 128 → length before ≡ 128 → Inserting before count place before count
-inserting-start le few long = record { long = long; room = few; from = le; to = omega arith; front = λ p h. refl; moved = λ p h k. absurd (omega arith) }
-
-module _ {before : List ℕ} {count place : ℕ} {here : List ℕ} {q : ℕ} (m : Inserting before count place here q) where
-  pub inserting-on : place < q → Inserting before count place (set here q (getD here (q - 1) 0)) (q - 1)
-  inserting-on lt =
-      let t = m .to in
-      record {
-        long = length-set here q (getD here (q - 1) 0) ∙ m .long;
-        room = m .room;
-        from = omega arith;
-        to = omega arith;
-        front = λ p h. getD-set-other here q p (getD here (q - 1) 0) 0 (λ e. omega arith) ∙ m .front p (omega arith);
-        moved = λ p h k. go p k (eq-or-lt-of-le (omega arith));
-      }
-    where
-      go : (p : ℕ) → p ≤ count → (q ≡ p) ⊎ (q < p) → getD (set here q (getD here (q - 1) 0)) p 0 ≡ getD before (p - 1) 0
-      go p k (inl h) =
-          let r = m .room in
-          let l = m .long in
-          rw (← h) (getD-set-same here q (getD here (q - 1) 0) 0 (omega arith) ∙ m .front (q - 1) (omega arith))
-      go p k (inr h) = getD-set-other here q p (getD here (q - 1) 0) 0 (λ e. omega arith) ∙ m .moved p h k
-
-  pub inserting-ends : q ≤ place → (new : ℕ) → Inserted before count place new (set here place new)
-  inserting-ends le new =
-      let f = m .from in
-      let t = m .to in
-      let r = m .room in
-      let l = m .long in
-      record {
-        front = λ p h. getD-set-other here place p new 0 (λ e. omega arith) ∙ m .front p (omega arith);
-        here = getD-set-same here place new 0 (omega arith);
-        moved = λ p h k. getD-set-other here place p new 0 (λ e. omega arith) ∙ m .moved p (omega arith) k;
-        long = length-set here place new ∙ l;
-      }
+      record { new = λ h. between-ends (f .between) le; old = λ h. absurd (omega arith) }
 
 -- `names_differ`: the numbers of the first i names, and each of them somewhere
 pub record Naming (names text order : List ℕ) (i : ℕ) : Type 0 where
@@ -202,7 +139,7 @@ module _ {names text order : List ℕ} {i : ℕ} (w : Naming names text order i)
       (ap not (all-not (differAt (tables [] [] [] names [] text) i) i (x .0) (x .1 .0) (ap not s)))
 
   module _ (h : place ≤ 127) where
-    space : Between (nameBytes names text) bytes order i place place
+    space : NameBetween (nameBytes names text) bytes order i place place
     space = found .new (omega arith)
 
     pub naming-room : place ≤ i
@@ -229,48 +166,60 @@ module _ {names text order : List ℕ} {i : ℕ} (w : Naming names text order i)
         let d = unequal-bytes (nameBytes names text (x + 1)) (nameBytes names text (i + 1)) (λ e. apart (q .0) (q .1 .0) (ap (nameBytes names text) (q .1 .1) ∙ (e ∙ sym b))) in
         rw (z, ← d))
 
-    module _ {after : List ℕ} (put : Inserted order i place (i + 1) after) where
+    module _ {after : List ℕ} (put : after ≡ moved order place i (i + 1)) where
+      room : i < length order
+      room = let l = w .long in let f = w .few in omega arith
+
+      here : getD after place 0 ≡ i + 1
+      here = ap (λ (l : List ℕ). getD l place 0) put ∙ moved-here order place i (i + 1) naming-room room
+
+      front : (q : ℕ) → q < place → getD after q 0 ≡ getD order q 0
+      front q h = ap (λ (l : List ℕ). getD l q 0) put ∙ moved-front order place i (i + 1) naming-room room q h
+
+      next : (q : ℕ) → place < q → q ≤ i → getD after q 0 ≡ getD order (q - 1) 0
+      next q h k = ap (λ (l : List ℕ). getD l q 0) put ∙ moved-next order place i (i + 1) naming-room room q h k
+
       -- name i + 1 stands at its place
       ascend-on : (p q : ℕ) → p < q → q < i + 1 → orderAt (nameBytes names text) (nameBytes names text (getD after p 0)) after q ≡ less
       ascend-on p q k l = go (three-ways p place) (three-ways q place)
         where
           go : (p < place) ⊎ ((p ≡ place) ⊎ (place < p)) → (q < place) ⊎ ((q ≡ place) ⊎ (place < q)) → orderAt (nameBytes names text) (nameBytes names text (getD after p 0)) after q ≡ less
-          go (inl x) (inl y) = rw (put .front p x, put .front q y) (w .ascending .ascend p q k (omega (arith, naming-room)))
-          go (inl x) (inr (inl y)) = rw (y, put .front p x, put .here, ← b) (flip-more bytes (nameBytes names text (getD order p 0)) (space .before p x))
-          go (inl x) (inr (inr y)) = rw (put .front p x, put .moved q y (omega arith)) (w .ascending .ascend p (q - 1) (omega arith) (omega arith))
+          go (inl x) (inl y) = rw (front p x, front q y) (w .ascending .ascend p q k (omega (arith, naming-room)))
+          go (inl x) (inr (inl y)) = rw (y, front p x, here, ← b) (flip-more bytes (nameBytes names text (getD order p 0)) (space .before p x))
+          go (inl x) (inr (inr y)) = rw (front p x, next q y (omega arith)) (w .ascending .ascend p (q - 1) (omega arith) (omega arith))
           go (inr (inl x)) (inl y) = absurd (omega arith)
           go (inr (inl x)) (inr (inl y)) = absurd (omega arith)
-          go (inr (inl x)) (inr (inr y)) = rw (x, put .here, put .moved q y (omega arith), ← b) (space .behind (q - 1) (omega arith) (omega arith))
+          go (inr (inl x)) (inr (inr y)) = rw (x, here, next q y (omega arith), ← b) (space .behind (q - 1) (omega arith) (omega arith))
           go (inr (inr x)) (inl y) = absurd (omega arith)
           go (inr (inr x)) (inr (inl y)) = absurd (omega arith)
-          go (inr (inr x)) (inr (inr y)) = rw (put .moved p x (omega arith), put .moved q y (omega arith)) (w .ascending .ascend (p - 1) (q - 1) (omega arith) (omega arith))
+          go (inr (inr x)) (inr (inr y)) = rw (next p x (omega arith), next q y (omega arith)) (w .ascending .ascend (p - 1) (q - 1) (omega arith) (omega arith))
 
       number-on : (q : ℕ) → q < i + 1 → (x : ℕ) × ((x < i + 1) × (getD after q 0 ≡ x + 1))
       number-on q k = go (three-ways q place)
         where
           go : (q < place) ⊎ ((q ≡ place) ⊎ (place < q)) → (x : ℕ) × ((x < i + 1) × (getD after q 0 ≡ x + 1))
-          go (inl l) = let x = w .numbers q (omega (arith, naming-room)) in (x .0, (omega (arith, x .1 .0), put .front q l ∙ x .1 .1))
-          go (inr (inl l)) = (i, (omega arith, ap (λ (n : ℕ). getD after n 0) l ∙ put .here))
-          go (inr (inr l)) = let x = w .numbers (q - 1) (omega arith) in (x .0, (omega (arith, x .1 .0), put .moved q l (omega arith) ∙ x .1 .1))
+          go (inl l) = let x = w .numbers q (omega (arith, naming-room)) in (x .0, (omega (arith, x .1 .0), front q l ∙ x .1 .1))
+          go (inr (inl l)) = (i, (omega arith, ap (λ (n : ℕ). getD after n 0) l ∙ here))
+          go (inr (inr l)) = let x = w .numbers (q - 1) (omega arith) in (x .0, (omega (arith, x .1 .0), next q l (omega arith) ∙ x .1 .1))
 
       place-on : (x : ℕ) → x < i + 1 → (q : ℕ) × ((q < i + 1) × (getD after q 0 ≡ x + 1))
       place-on x k = go (eq-or-lt-of-le (omega arith))
         where
           behind : (q : ℕ) → q < i → getD order q 0 ≡ x + 1 → place ≤ q → (q : ℕ) × ((q < i + 1) × (getD after q 0 ≡ x + 1))
-          behind q l e le = let z : q + 1 - 1 ≡ q = omega arith in (q + 1, (omega arith, (rw z at (put .moved (q + 1) (omega arith) (omega arith))) ∙ e))
+          behind q l e le = let z : q + 1 - 1 ≡ q = omega arith in (q + 1, (omega arith, (rw z at (next (q + 1) (omega arith) (omega arith))) ∙ e))
 
           old : (q : ℕ) → q < i → getD order q 0 ≡ x + 1 → (q < place) ⊎ ((q ≡ place) ⊎ (place < q)) → (q : ℕ) × ((q < i + 1) × (getD after q 0 ≡ x + 1))
-          old q l e (inl y) = (q, (omega arith, put .front q y ∙ e))
+          old q l e (inl y) = (q, (omega arith, front q y ∙ e))
           old q l e (inr (inl y)) = behind q l e (omega arith)
           old q l e (inr (inr y)) = behind q l e (omega arith)
 
           go : (x ≡ i) ⊎ (x < i) → (q : ℕ) × ((q < i + 1) × (getD after q 0 ≡ x + 1))
-          go (inl l) = (place, (omega (arith, naming-room), put .here ∙ ap (λ (n : ℕ). n + 1) (sym l)))
+          go (inl l) = (place, (omega (arith, naming-room), here ∙ ap (λ (n : ℕ). n + 1) (sym l)))
           go (inr l) = let q = w .places x l in old (q .0) (q .1 .0) (q .1 .1) (three-ways (q .0) place)
 
       pub naming-on : Naming names text after (i + 1)
       naming-on = record {
-        long = put .long;
+        long = ap length put ∙ (moved-length order place i (i + 1) naming-room room ∙ w .long);
         scan = all-on (w .scan) lt (sym new-name) refl;
         few = w .few;
         ascending = record { ascend = ascend-on };

@@ -4,7 +4,7 @@ use mathlib.Core.Path.{_≡_, refl, sym, ap, _∙_}
 use mathlib.Core.Bool.{Bool, true, false, not, _&&_, false≢true}
 use native.Mathlib.Omega.{arith}
 use borrow.Author.Tests.{not-true, not-false}
-use Rattle.table.specs.Rules.{allFrom}
+use Rattle.base.specs.Lists.{allFrom}
 use Rattle.table.proofs.tests.Bools.{and-true, crossed}
 
 -- the tests that are left say the same as all of them

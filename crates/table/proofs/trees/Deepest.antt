@@ -15,8 +15,8 @@ use Rattle.literal.specs.Literal.{Literal}
 use Rattle.table.specs.Tables.{Tables, kindOf, firstOf, countOf, width, childAt}
 use Rattle.table.specs.Expr.{Expr, depth, depthAll, depthFields}
 use Rattle.table.specs.Decode.{items, fields, leafOf, namedBy, isWildcard, literalAt, expr}
-use Rattle.table.specs.Sound.{Node, WellFormed}
-use Rattle.table.specs.Depths.{deepest, listedDepth, ChildrenAsk, DepthsAsk, Depths, shallowAt, DepthsTold}
+use Rattle.table.specs.code.Sound.{Node, WellFormed}
+use Rattle.table.specs.code.Depths.{deepest, listedDepth, ChildrenAsk, DepthsAsk, Depths, shallowAt, DepthsTold}
 use Rattle.table.proofs.tests.Scan.{Scan, scan-start, scan-on, scan-fails, scan-ends}
 use Rattle.table.proofs.trees.Trees.{width-array, width-set, width-object, width-leaf, expr-name, expr-array, expr-set, expr-object, expr-leaf}
 

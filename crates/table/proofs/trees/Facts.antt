@@ -9,16 +9,18 @@ use borrow.Author.Tests.{ne-eqb, le-leb, leb-true, ltb-true, eqb-true, eqb-false
 use lib.ListN.{length, getD}
 use lib.Dec.{eqb, leb, ltb}
 use Rattle.literal.specs.Literal.{Literal, null, boolean, number, string, isNumber}
-use Rattle.literal.specs.Reading.{part, literalOf}
+use Rattle.base.specs.Lists.{part, allFrom, noRepeat}
+use Rattle.literal.specs.Reading.{literalOf}
 use Rattle.scope.specs.declared.Scope.{Scope}
-use Rattle.table.specs.declared.TableAnswer.the-variants.{Sound, OverLimit, BreaksRules, TooDeep, EqualNames}
+use Rattle.base.specs.Refusal.{overLimit, breaksRules, tooDeep, equalNames}
+use Rattle.base.specs.Refusal as Refusal
 use Rattle.table.specs.Tables.{Tables, kindOf, startOf, endOf, firstOf, countOf, nodeCount, numberCount, nameCount, width, childAt, nameStart, nameLength, nameBytes}
 use Rattle.table.specs.Expr.{depth}
 use Rattle.table.specs.Decode.{expr, literalAt, literalNode, refOf}
 use Rattle.table.specs.Names.{sameBytes}
-use Rattle.table.specs.Rules.{allFrom, noRepeat, withinLimits, wholeRecords, inside, spanOk, nameTextOk, wordsOk, belowAt, childrenBelow, nodeOk, nodeOkAt, entryOk, usedPlaces, numberOk, nameOk, nameOkAt, scopeOk, followsRules, depthOkAt, shallow, differAt, newNameAt, namesDiffer}
+use Rattle.table.specs.Rules.{withinLimits, wholeRecords, inside, spanOk, nameTextOk, wordsOk, belowAt, childrenBelow, nodeOk, nodeOkAt, entryOk, usedPlaces, numberOk, nameOk, nameOkAt, scopeOk, followsRules, depthOkAt, shallow, differAt, newNameAt, namesDiffer}
 use Rattle.table.specs.Check.{checked}
-use Rattle.table.specs.Sound.{Node, Named, Limits, WellFormed, SoundTable}
+use Rattle.table.specs.code.Sound.{Node, Named, Limits, WellFormed, SoundTable}
 use Rattle.table.proofs.tests.Bools.{and-true, never}
 use Rattle.table.proofs.tests.Scan.{all-at}
 use Rattle.table.proofs.tests.Bytes.{same-bytes-equal, equal-same-bytes}
@@ -31,16 +33,16 @@ pub record Passed (T : Tables) (s : Scope) : Type 0 where
   pub depths : shallow T ≡ true
   pub names : namesDiffer T ≡ true
 
-pub passed : (T : Tables) (s : Scope) → checked T s ≡ Sound → Passed T s
+pub passed : (T : Tables) (s : Scope) → checked T s ≡ Refusal.passed → Passed T s
 unfolding checked
 passed T s e = go (withinLimits T) refl (followsRules T s) refl (shallow T) refl (namesDiffer T) refl
   where
     go : (a : Bool) → withinLimits T ≡ a → (b : Bool) → followsRules T s ≡ b → (d : Bool) → shallow T ≡ d → (f : Bool) → namesDiffer T ≡ f → Passed T s
     go true p true q true r true t = record { limits = p; rules = q; depths = r; names = t }
-    go false p b q d r f t = let h : OverLimit ≡ Sound = simp p at e in never (cc)
-    go true p false q d r f t = let h : BreaksRules ≡ Sound = simp (p, q) at e in never (cc)
-    go true p true q false r f t = let h : TooDeep ≡ Sound = simp (p, q, r) at e in never (cc)
-    go true p true q true r false t = let h : EqualNames ≡ Sound = simp (p, q, r, t) at e in never (cc)
+    go false p b q d r f t = let h : Refusal.refused overLimit ≡ Refusal.passed = simp p at e in never (cc)
+    go true p false q d r f t = let h : Refusal.refused breaksRules ≡ Refusal.passed = simp (p, q) at e in never (cc)
+    go true p true q false r f t = let h : Refusal.refused tooDeep ≡ Refusal.passed = simp (p, q, r) at e in never (cc)
+    go true p true q true r false t = let h : Refusal.refused equalNames ≡ Refusal.passed = simp (p, q, r, t) at e in never (cc)
 
 pub limits-of : (T : Tables) → withinLimits T ≡ true → Limits T
 unfolding withinLimits
@@ -271,7 +273,7 @@ module _ (T : Tables) (s : Scope) (limits : withinLimits T ≡ true) (rules : fo
     nameSpan = name-span;
   }
 
-module _ (T : Tables) (s : Scope) (ok : checked T s ≡ Sound) where
+module _ (T : Tables) (s : Scope) (ok : checked T s ≡ Refusal.passed) where
   depth-of : (n : ℕ) → Node T n → depth (expr T n) ≤ 32
   unfolding shallow
   depth-of n v =

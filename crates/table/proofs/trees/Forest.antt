@@ -13,8 +13,8 @@ use Rattle.literal.specs.Literal.{Literal}
 use Rattle.table.specs.Tables.{Tables, kindOf, firstOf, countOf, nodeCount, width, widthOf, childAt}
 use Rattle.table.specs.Expr.{Expr, parts, partsAll, partsFields}
 use Rattle.table.specs.Decode.{literalAt, items, fields, leafOf, namedBy, isWildcard, headed, expr}
-use Rattle.table.specs.Rules.{elem, noRepeat}
-use Rattle.table.specs.Sound.{Node, WellFormed, Forest}
+use Rattle.base.specs.Lists.{elem, noRepeat}
+use Rattle.table.specs.code.Sound.{Node, WellFormed, Forest}
 use Rattle.table.proofs.trees.Trees.{width-array, width-set, width-object, width-leaf, child-node, expr-unfolds, expr-array, expr-set, expr-object}
 use Rattle.table.proofs.trees.Lists.{elem-cons, cons-no-repeat, same-place, blocks, elem-blocks, same-block, blocks-no-repeat, elem-places, placesOf, used-blocks, pigeonhole}
 

@@ -9,7 +9,8 @@ use borrow.Author.Tests.{eqb-true, eqb-false, eq-eqb, not-true}
 use lib.Dec.{eqb}
 use lib.ListN.{length, getD}
 use Rattle.table.specs.Tables.{firstOf, width}
-use Rattle.table.specs.Rules.{elem, noRepeat, placesFrom, usedPlaces}
+use Rattle.base.specs.Lists.{elem, noRepeat}
+use Rattle.table.specs.Rules.{placesFrom, usedPlaces}
 use Rattle.table.proofs.tests.Bools.{and-true, or-true}
 
 or-right : (a b : Bool) → b ≡ true → (a || b) ≡ true

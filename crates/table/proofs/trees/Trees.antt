@@ -11,7 +11,7 @@ use Rattle.literal.specs.Literal.{Literal}
 use Rattle.table.specs.Tables.{Tables, kindOf, firstOf, countOf, width, widthOf, childAt}
 use Rattle.table.specs.Expr.{Expr, literal, array, set, object, other, Exprs, none, item, Fields, done, field, count, countFields}
 use Rattle.table.specs.Decode.{literalAt, items, fields, leafOf, namedBy, isWildcard, headed, exprAt, expr}
-use Rattle.table.specs.Sound.{Node, WellFormed}
+use Rattle.table.specs.code.Sound.{Node, WellFormed}
 
 -- as many as were asked for
 pub count-items : (g : ℕ → Expr) (ch : List ℕ) (at k : ℕ) → count (items g ch at k) ≡ k

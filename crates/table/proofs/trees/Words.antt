@@ -9,7 +9,7 @@ use lib.ListN.{length, getD, take, drop, length-drop, drop-of-length-le, List·g
 use lib.Seq.{take-all, take-nil}
 use mir.Val.{Fits}
 use mir.Syntax.{w64}
-use Rattle.literal.specs.Reading.{part}
+use Rattle.base.specs.Lists.{part}
 use Rattle.literal.specs.declared.LiteralRef.the-variants.{Null, False, True, Number, String, RawString}
 use Rattle.table.specs.declared.Key.the-variants.{Literal, Computed}
 use Rattle.table.specs.Tables.{recordWord, kindOf, startOf, endOf, firstOf, countOf, nameStart, nameLength, nameBytes, widthOf, width, childAt}

@@ -42,7 +42,8 @@ use Rattle.report.proofs.ReportAnswer as P
 use Rattle.report.proofs.ReportAnswer.Laws as P′
 use Rattle.teluddru.specs.declared.Name.{Name}
 use Rattle.teluddru.specs.declared.records.NameWords.{NameWords}
-use Rattle.teluddru.specs.Records.{nameWords, held, Copied}
+use Rattle.teluddru.specs.Records.{nameWords}
+use Rattle.teluddru.specs.code.Copying.{held, Copied}
 use Rattle.teluddru.proofs.records.NameWords as N
 use Rattle.teluddru.proofs.records.NameWords.Laws as N′
 use Rattle.teluddru.proofs.AllNames.{report-all}

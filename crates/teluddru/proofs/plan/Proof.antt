@@ -38,7 +38,8 @@ use Rattle.planner.proofs.PlanAnswer as P
 use Rattle.planner.proofs.PlanAnswer.Laws as P′
 use Rattle.teluddru.specs.declared.Name.{Name}
 use Rattle.teluddru.specs.declared.records.NameWords.{NameWords}
-use Rattle.teluddru.specs.Records.{nameWords, held, Copied}
+use Rattle.teluddru.specs.Records.{nameWords}
+use Rattle.teluddru.specs.code.Copying.{held, Copied}
 use Rattle.teluddru.specs.Outcome.{operationOutcome}
 use Rattle.teluddru.specs.declared.Operation.{Operation}
 use Rattle.teluddru.proofs.Operation as O

@@ -33,7 +33,7 @@ use denote.Triple.Clauses.{Lasts, ensured, lasts}
 use denote.Triple.Table.{entered, cited}
 use Rattle.scope.specs.declared.Scope.{Scope}
 use Rattle.scope.specs.declared.ScopingMode.{ScopingMode}
-use Rattle.scope.specs.Scope.{isUnbound}
+use Rattle.scope.specs.Scope.{known}
 use Rattle.scope.proofs.ScopingMode as Mode
 use Rattle.scope.proofs.ScopingMode.Laws as Mode′
 use Rattle.table.specs.Tables.{Tables}
@@ -44,7 +44,8 @@ use Rattle.run.proofs.RunAnswer as P
 use Rattle.run.proofs.RunAnswer.Laws as P′
 use Rattle.teluddru.specs.declared.Name.{Name}
 use Rattle.teluddru.specs.declared.records.NameWords.{NameWords}
-use Rattle.teluddru.specs.Records.{nameWords, held, Copied}
+use Rattle.teluddru.specs.Records.{nameWords}
+use Rattle.teluddru.specs.code.Copying.{held, Copied}
 use Rattle.teluddru.proofs.records.NameWords as N
 use Rattle.teluddru.proofs.records.NameWords.Laws as N′
 use Rattle.teluddru.proofs.AllNames.{run-all}
@@ -113,7 +114,7 @@ module _ {M : Type 1} (𝓤 : URA M) (H : Heap 𝓤) (A : Atoms 𝓤) (W : Given
   plan = a .1 .1 .1 .1 .1 .1 .1 .1 .1 .1 .1 .0 .now
 
   abbrev answered : List ℕ → Lasts self.ended κs a → RunAnswer → Type 0
-  answered names ws = Ran (plannedName (isUnbound scope scoping) (expr (tables names) pattern)) (runOutcome (tables names) scope scoping pattern value values) values plan (ws .1 .1 .1 .1 .1 .1 .1 .1 .1 .1 .0) (ws .1 .1 .1 .1 .1 .1 .1 .1 .1 .1 .1 .0)
+  answered names ws = Ran (plannedName (known scope scoping) (expr (tables names) pattern)) (runOutcome (tables names) scope scoping pattern value values) values plan (ws .1 .1 .1 .1 .1 .1 .1 .1 .1 .1 .0) (ws .1 .1 .1 .1 .1 .1 .1 .1 .1 .1 .1 .0)
 
   module _ (r : NameWords) (v : Val) (c : Copied ns r) where
     abbrev to-words : RunWords 𝓤 H A mem run .Ghost

@@ -1,29 +1,24 @@
-use Rattle.assignment.proofs.Sides.{bound-right}
+use Rattle.assignment.proofs.laws.Sides.{bound-right}
 use borrow.Author.Needs.{needs}
 use Rattle.assignment.proofs.assignment.bind_right.Statement.{statement}
 use Rattle.assignment.proofs.assignment.bind_right.Tie as tie
 use Rattle.assignment.proofs.assignment.bind_right.Reads as reads
 use Rattle.assignment.proofs.assignment.bind_right.Lts as lts
 use Rattle.assignment.proofs.assignment.bind_side.Reads as bind-side-reads
-use Rattle.pairs.proofs.preview.preview_binding_plan.Reads as preview-binding-plan-reads
+use Rattle.assignment.proofs.preview.preview_binding_plan.Reads as preview-binding-plan-reads
 
--- src/assignment.rt:350:9
 preview-binding-plan-requires : tie.Need-preview-binding-plan-requires
 preview-binding-plan-requires c κs = search needs
 
--- src/assignment.rt:362:5
 bind-side-requires : tie.Need-bind-side-requires
 bind-side-requires c κs = search needs
 
--- src/assignment.rt:333:1
 same-length : tie.Need-same-length
 same-length c = search needs
 
--- src/assignment.rt:333:1
 same-length-2 : tie.Need-same-length-2
 same-length-2 c = search needs
 
--- src/assignment.rt:333:1
 returns : tie.Need-returns
 returns c = search (bound-right, needs)
 

@@ -1,4 +1,4 @@
-use Rattle.assignment.proofs.Binding.{side-opposed, side-match, side-unknown, side-array, side-object}
+use Rattle.assignment.proofs.laws.Binding.{side-opposed, side-match, side-unknown, side-array, side-object}
 use borrow.Author.Needs.{needs}
 use Rattle.assignment.proofs.assignment.bind_side.Statement.{statement}
 use Rattle.assignment.proofs.assignment.bind_side.Tie as tie
@@ -6,90 +6,69 @@ use Rattle.assignment.proofs.assignment.bind_side.Reads as reads
 use Rattle.assignment.proofs.assignment.bind_side.Lts as lts
 use Rattle.assignment.proofs.assignment.incompatible.Reads as incompatible-reads
 use Rattle.assignment.proofs.entries.deliver.Reads as deliver-reads
-use Rattle.checks.proofs.utils.check_literal_structure.Reads as check-literal-structure-reads
+use Rattle.checks.proofs.inner.check_literal_structure.Reads as check-literal-structure-reads
 use Rattle.planner.proofs.buffer.clear.Reads as clear-reads
 
--- src/assignment.rt:81:8
 incompatible-requires : tie.Need-incompatible-requires
 incompatible-requires c κs = search needs
 
--- src/assignment.rt:91:9
 clear-requires : tie.Need-clear-requires
 clear-requires c κs = search needs
 
--- src/assignment.rt:92:9
 same-length : tie.Need-same-length
 same-length c = search needs
 
--- src/assignment.rt:92:9
 returns : tie.Need-returns
 returns c = search (side-opposed, needs)
 
--- src/assignment.rt:94:9
 check-literal-structure-requires : tie.Need-check-literal-structure-requires
 check-literal-structure-requires c κs = search needs
 
--- src/assignment.rt:105:49
 enum-told : tie.Need-enum-told
 enum-told c = search needs
 
--- src/assignment.rt:105:41
 deliver-requires : tie.Need-deliver-requires
 deliver-requires c κs = search needs
 
--- src/assignment.rt:106:51
 enum-told-2 : tie.Need-enum-told-2
 enum-told-2 c = search needs
 
--- src/assignment.rt:106:43
 deliver-requires-2 : tie.Need-deliver-requires-2
 deliver-requires-2 c κs = search needs
 
--- src/assignment.rt:108:13
 enum-known-structure : tie.Need-enum-known-structure
 enum-known-structure c = search needs
 
--- src/assignment.rt:112:13
 clear-requires-2 : tie.Need-clear-requires-2
 clear-requires-2 c κs = search needs
 
--- src/assignment.rt:119:49
 enum-known-structure-2 : tie.Need-enum-known-structure-2
 enum-known-structure-2 c = search needs
 
--- src/assignment.rt:120:13
 clear-requires-3 : tie.Need-clear-requires-3
 clear-requires-3 c κs = search needs
 
--- src/assignment.rt:64:1
 same-length-2 : tie.Need-same-length-2
 same-length-2 c = search needs
 
--- src/assignment.rt:64:1
 returns-2 : tie.Need-returns-2
 returns-2 c = search (side-match, needs)
 
--- src/assignment.rt:64:1
 same-length-3 : tie.Need-same-length-3
 same-length-3 c = search needs
 
--- src/assignment.rt:64:1
 returns-3 : tie.Need-returns-3
 returns-3 c = search (side-unknown, needs)
 
--- src/assignment.rt:64:1
 same-length-4 : tie.Need-same-length-4
 same-length-4 c = search needs
 
--- src/assignment.rt:64:1
 returns-4 : tie.Need-returns-4
 returns-4 c = search (side-array, needs)
 
--- src/assignment.rt:64:1
 same-length-5 : tie.Need-same-length-5
 same-length-5 c = search needs
 
--- src/assignment.rt:64:1
 returns-5 : tie.Need-returns-5
 returns-5 c = search (side-object, needs)
 

@@ -1,4 +1,4 @@
-use Rattle.assignment.proofs.Sides.{colon-unbound, colon-defined, colon-binds}
+use Rattle.assignment.proofs.laws.Sides.{colon-unbound, colon-defined, colon-binds}
 use borrow.Author.Needs.{needs}
 use Rattle.assignment.proofs.assignment.colon_equals_from.Statement.{statement}
 use Rattle.assignment.proofs.assignment.colon_equals_from.Tie as tie
@@ -6,50 +6,39 @@ use Rattle.assignment.proofs.assignment.colon_equals_from.Reads as read
 use Rattle.assignment.proofs.assignment.colon_equals_from.Lts as lts
 use Rattle.assignment.proofs.assignment.bind_side.Reads as bind-side-reads
 use Rattle.assignment.proofs.entries.first_same_scope.Reads as first-same-scope-reads
-use Rattle.pairs.proofs.preview.introduces_binding.Reads as introduces-binding-reads
+use Rattle.assignment.proofs.preview.introduces_binding.Reads as introduces-binding-reads
 use Rattle.planner.proofs.buffer.clear.Reads as clear-reads
 
--- src/assignment.rt:156:9
 introduces-binding-requires : tie.Need-introduces-binding-requires
 introduces-binding-requires c κs = search needs
 
--- src/assignment.rt:157:9
 clear-requires : tie.Need-clear-requires
 clear-requires c κs = search needs
 
--- src/assignment.rt:158:9
 same-length : tie.Need-same-length
 same-length c = search needs
 
--- src/assignment.rt:158:9
 returns : tie.Need-returns
 returns c = search (colon-unbound, needs)
 
--- src/assignment.rt:160:9
 first-same-scope-requires : tie.Need-first-same-scope-requires
 first-same-scope-requires c κs = search needs
 
--- src/assignment.rt:162:9
 clear-requires-2 : tie.Need-clear-requires-2
 clear-requires-2 c κs = search needs
 
--- src/assignment.rt:163:9
 same-length-2 : tie.Need-same-length-2
 same-length-2 c = search needs
 
--- src/assignment.rt:163:9
 returns-2 : tie.Need-returns-2
 returns-2 c = search (colon-defined, needs)
 
--- src/assignment.rt:165:5
 bind-side-requires : tie.Need-bind-side-requires
 bind-side-requires c κs = search needs
 
--- src/assignment.rt:139:1
 same-length-3 : tie.Need-same-length-3
 same-length-3 c = search needs
 
--- src/assignment.rt:139:1
 returns-3 : tie.Need-returns-3
 returns-3 c = search (colon-binds, needs)
 

@@ -1,31 +1,26 @@
-use Rattle.assignment.proofs.Sides.{ask-first, ask-colon, colon-planned}
+use Rattle.assignment.proofs.laws.Sides.{ask-first, ask-colon, colon-planned}
 use borrow.Author.Needs.{needs}
 use Rattle.assignment.proofs.assignment.colon_equals_in.Statement.{statement}
 use Rattle.assignment.proofs.assignment.colon_equals_in.Tie as tie
 use Rattle.assignment.proofs.assignment.colon_equals_in.Reads as reads
 use Rattle.assignment.proofs.assignment.colon_equals_in.Lts as lts
 use Rattle.assignment.proofs.assignment.colon_equals_from.Reads as colon-equals-from-reads
-use Rattle.planner.proofs.destructuring.plan_pattern.Reads as plan-pattern-reads
+use Rattle.planner.proofs.inner.destructuring.plan_pattern.Reads as plan-pattern-reads
 
--- src/assignment.rt:199:9
 plan-pattern-requires : tie.Need-plan-pattern-requires
 plan-pattern-requires c κs = search (ask-first, needs)
 
--- src/assignment.rt:213:5
 colon-equals-from-requires : tie.Need-colon-equals-from-requires
 colon-equals-from-requires c κs = search (ask-colon, c .before .before .before .before .before .before .before .before .before .before .before .before .before .before .before .pre .0, c .before .before .before .before .before .before .before .before .before .before .before .before .before .before .before .pre .1, c .before .before .before .before .plan-pattern .ensures, needs)
 
--- src/assignment.rt:182:1
 same-length : tie.Need-same-length
 same-length c = search needs
 
--- src/assignment.rt:182:1
 same-length-2 : tie.Need-same-length-2
 same-length-2 c = search needs
 
--- src/assignment.rt:182:1
 returns : tie.Need-returns
-returns c = search (colon-planned, needs)
+returns c = (search (colon-planned, needs), search needs)
 
 pub colon-equals-in-spec : {M : Type 1} → statement M
 colon-equals-in-spec =

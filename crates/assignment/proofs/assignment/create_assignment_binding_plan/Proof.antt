@@ -1,4 +1,4 @@
-use Rattle.assignment.proofs.Sides.{left-outside, right-outside, both-inside}
+use Rattle.assignment.proofs.laws.Sides.{left-outside, right-outside, both-inside}
 use Rattle.planner.proofs.laws.Operations.{table-refuses, sound-well, root-node}
 use borrow.Author.Needs.{needs}
 use Rattle.assignment.proofs.assignment.create_assignment_binding_plan.Statement.{
@@ -11,10 +11,11 @@ create-assignment-binding-plan-spec =
     tie.close
     (tie.spec
     (λ c κs. search needs)
-    (λ c κs. search needs)
+    (λ c. search needs)
     (λ c κs. search needs)
     (λ c. search needs)
     (λ c. search (table-refuses, needs))
+    (λ c. search needs)
     (λ c κs. search needs)
     (λ c κs. search needs)
     (λ c. search needs)
@@ -28,9 +29,9 @@ create-assignment-binding-plan-spec =
     let n = m .before .before in
     let s = n .before .before in
     record {
-      table = sound-well _ _ (s .before .check .ensures) (s .is-sound .ensures) (n .before .if1 .left);
-      first = root-node _ _ (n .is-node .ensures) (m .before .if2 .left);
-      second = root-node _ _ (m .is-node2 .ensures) (c .before .if3 .left);
+      table = sound-well _ _ (s .before .check .ensures) (n .before .enum-told .given .1);
+      first = root-node _ _ (n .is-node .ensures) (m .before .if1 .left);
+      second = root-node _ _ (m .is-node2 .ensures) (c .before .if2 .left);
     })
     (λ c. search needs)
     (λ c. search (both-inside, needs)))

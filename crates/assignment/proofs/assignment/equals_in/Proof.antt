@@ -1,5 +1,5 @@
-use Rattle.pairs.proofs.PairSides.{roomy-kept}
-use Rattle.assignment.proofs.Sides.{ask-sides, equals-both, equals-left, equals-right, equals-none}
+use Rattle.assignment.proofs.preview.Previews.{roomy-kept}
+use Rattle.assignment.proofs.laws.Sides.{ask-sides, equals-both, equals-left, equals-right, equals-none}
 use borrow.Author.Needs.{needs}
 use Rattle.assignment.proofs.assignment.equals_in.Statement.{statement}
 use Rattle.assignment.proofs.assignment.equals_in.Tie as tie
@@ -8,81 +8,63 @@ use Rattle.assignment.proofs.assignment.equals_in.Lts as lts
 use Rattle.assignment.proofs.assignment.bind_right.Reads as bind-right-reads
 use Rattle.assignment.proofs.assignment.bind_side.Reads as bind-side-reads
 use Rattle.assignment.proofs.assignment.deliver_none.Reads as deliver-none-reads
-use Rattle.pairs.proofs.flatten.flatten_assignment_pairs.Reads as flatten-assignment-pairs-reads
-use Rattle.pairs.proofs.preview.preview_sides.Reads as preview-sides-reads
+use Rattle.assignment.proofs.flatten.flatten_assignment_pairs.Reads as flatten-assignment-pairs-reads
+use Rattle.assignment.proofs.preview.preview_sides.Reads as preview-sides-reads
 use Rattle.planner.proofs.context.name_states.Reads as name-states-reads
 
--- src/assignment.rt:395:18
 name-states-requires : tie.Need-name-states-requires
 name-states-requires c κs = search needs
 
--- src/assignment.rt:397:9
 preview-sides-requires : tie.Need-preview-sides-requires
 preview-sides-requires c κs = (search (ask-sides, needs), search needs)
 
--- src/assignment.rt:413:13
 flatten-assignment-pairs-requires : tie.Need-flatten-assignment-pairs-requires
 flatten-assignment-pairs-requires c κs = (search needs, search (roomy-kept, needs))
 
--- src/assignment.rt:413:13
 same-length : tie.Need-same-length
 same-length c = search needs
 
--- src/assignment.rt:413:13
 same-length-2 : tie.Need-same-length-2
 same-length-2 c = search needs
 
--- src/assignment.rt:413:13
 returns : tie.Need-returns
-returns c = search (equals-both, c .before .before .before .before .before .before .before .before .before .before .before .before .before .before .before .before .before .before .before .before .before .before .before .before .before .pre .0, c .before .before .before .before .before .before .before .before .before .before .before .before .preview-sides .ensures, needs)
+returns c = (search (equals-both, c .before .before .before .before .before .before .before .before .before .before .before .before .before .before .before .before .before .before .before .before .before .before .before .before .before .pre .0, c .before .before .before .before .before .before .before .before .before .before .before .before .preview-sides .ensures, needs), tt)
 
--- src/assignment.rt:428:9
 bind-side-requires : tie.Need-bind-side-requires
 bind-side-requires c κs = search needs
 
--- src/assignment.rt:428:9
 same-length-3 : tie.Need-same-length-3
 same-length-3 c = search needs
 
--- src/assignment.rt:428:9
 same-length-4 : tie.Need-same-length-4
 same-length-4 c = search needs
 
--- src/assignment.rt:428:9
 returns-2 : tie.Need-returns-2
-returns-2 c = equals-left _ _ _ _ (c .before .before .before .before .before .before .before .before .before .before .before .before .before .before .before .before .before .before .before .before .before .before .pre .0) (search needs) (c .before .before .before .before .before .before .before .before .before .preview-sides .ensures) (search needs) (search needs) (c .before .before .bind-side .ensures)
+returns-2 c = (equals-left _ _ _ _ (c .before .before .before .before .before .before .before .before .before .before .before .before .before .before .before .before .before .before .before .before .before .before .pre .0) (search needs) (c .before .before .before .before .before .before .before .before .before .preview-sides .ensures) (search needs) (search needs) (c .before .before .bind-side .ensures), tt)
 
--- src/assignment.rt:444:9
 bind-right-requires : tie.Need-bind-right-requires
 bind-right-requires c κs = (search (ask-sides, needs), search (roomy-kept, needs))
 
--- src/assignment.rt:444:9
 same-length-5 : tie.Need-same-length-5
 same-length-5 c = search needs
 
--- src/assignment.rt:444:9
 same-length-6 : tie.Need-same-length-6
 same-length-6 c = search needs
 
--- src/assignment.rt:444:9
 returns-3 : tie.Need-returns-3
-returns-3 c = search (equals-right, c .before .before .before .before .before .before .before .before .before .before .before .before .before .before .before .before .before .before .before .before .before .before .before .before .before .before .pre .0, c .before .before .before .before .before .before .before .before .before .before .before .before .before .preview-sides .ensures, c .before .before .before .before .bind-right .ensures, needs)
+returns-3 c = (search (equals-right, c .before .before .before .before .before .before .before .before .before .before .before .before .before .before .before .before .before .before .before .before .before .before .before .before .before .before .pre .0, c .before .before .before .before .before .before .before .before .before .before .before .before .before .preview-sides .ensures, c .before .before .before .before .bind-right .ensures .answered, needs), tt)
 
--- src/assignment.rt:459:5
 deliver-none-requires : tie.Need-deliver-none-requires
 deliver-none-requires c κs = search needs
 
--- src/assignment.rt:379:1
 same-length-7 : tie.Need-same-length-7
 same-length-7 c = search needs
 
--- src/assignment.rt:379:1
 same-length-8 : tie.Need-same-length-8
 same-length-8 c = search needs
 
--- src/assignment.rt:379:1
 returns-4 : tie.Need-returns-4
-returns-4 c = search (equals-none, needs)
+returns-4 c = (search (equals-none, needs), tt)
 
 pub equals-in-spec : {M : Type 1} → statement M
 equals-in-spec =

@@ -1,4 +1,4 @@
-use Rattle.assignment.proofs.Shapes.{array-against, object-against, single-against}
+use Rattle.assignment.proofs.laws.Shapes.{array-against, object-against, single-against}
 use borrow.Author.Needs.{needs}
 use Rattle.assignment.proofs.assignment.incompatible.Statement.{statement}
 use Rattle.assignment.proofs.assignment.incompatible.Tie as tie
@@ -6,23 +6,18 @@ use Rattle.assignment.proofs.assignment.incompatible.Reads as reads
 use Rattle.assignment.proofs.assignment.incompatible.Lts as lts
 use Rattle.table.proofs.reading.kind_of.Reads as kind-of-reads
 
--- src/assignment.rt:47:9
 kind-of-requires : tie.Need-kind-of-requires
 kind-of-requires c κs = search needs
 
--- src/assignment.rt:48:9
 kind-of-requires-2 : tie.Need-kind-of-requires-2
 kind-of-requires-2 c κs = search needs
 
--- src/assignment.rt:50:9
 returns : tie.Need-returns
 returns c = search (array-against, needs)
 
--- src/assignment.rt:53:9
 returns-2 : tie.Need-returns-2
 returns-2 c = search (object-against, needs)
 
--- src/assignment.rt:34:1
 returns-3 : tie.Need-returns-3
 returns-3 c = search (single-against, needs)
 

@@ -1,4 +1,4 @@
-use Rattle.assignment.proofs.Sides.{underscore-yes, underscore-reserved, underscore-ordinary, underscore-none}
+use Rattle.assignment.proofs.laws.Sides.{underscore-yes, underscore-reserved, underscore-ordinary, underscore-none}
 use borrow.Author.Needs.{needs}
 use Rattle.assignment.proofs.assignment.is_underscore.Statement.{statement}
 use Rattle.assignment.proofs.assignment.is_underscore.Tie as tie
@@ -8,43 +8,33 @@ use Rattle.table.proofs.reading.first_of.Reads as first-of-reads
 use Rattle.table.proofs.reading.kind_of.Reads as kind-of-reads
 use Rattle.table.proofs.reading.name_class.Reads as name-class-reads
 
--- src/assignment.rt:172:9
 kind-of-requires : tie.Need-kind-of-requires
 kind-of-requires c κs = search needs
 
--- src/assignment.rt:174:45
 first-of-requires : tie.Need-first-of-requires
 first-of-requires c κs = search needs
 
--- src/assignment.rt:174:13
 name-class-requires : tie.Need-name-class-requires
 name-class-requires c κs = search needs
 
--- src/assignment.rt:176:38
 enum-told : tie.Need-enum-told
 enum-told c = search needs
 
--- src/assignment.rt:177:39
 enum-told-2 : tie.Need-enum-told-2
 enum-told-2 c = search needs
 
--- src/assignment.rt:178:36
 enum-told-3 : tie.Need-enum-told-3
 enum-told-3 c = search needs
 
--- src/assignment.rt:175:9
 returns : tie.Need-returns
 returns c = search (underscore-yes, needs)
 
--- src/assignment.rt:175:9
 returns-2 : tie.Need-returns-2
 returns-2 c = search (underscore-reserved, needs)
 
--- src/assignment.rt:175:9
 returns-3 : tie.Need-returns-3
 returns-3 c = search (underscore-ordinary, needs)
 
--- src/assignment.rt:160:1
 returns-4 : tie.Need-returns-4
 returns-4 c = search (underscore-none, needs)
 

@@ -1,4 +1,4 @@
-use Rattle.assignment.proofs.Sides.{assigns-colon, assigns-equals}
+use Rattle.assignment.proofs.laws.Sides.{assigns-colon, assigns-equals}
 use borrow.Author.Needs.{needs}
 use Rattle.assignment.proofs.assignment.plan_assignment_in.Statement.{statement}
 use Rattle.assignment.proofs.assignment.plan_assignment_in.Tie as tie
@@ -13,7 +13,7 @@ plan-assignment-in-spec =
     (λ c κs. search needs)
     (λ c. search needs)
     (λ c. search needs)
-    (λ c. search (assigns-colon, needs))
+    (λ c. (search (assigns-colon, needs), tt))
     (λ c. search needs)
     (λ c. search needs)
-    (λ c. search (assigns-equals, needs)))
+    (λ c. (search (assigns-equals, needs), tt)))

@@ -1,4 +1,4 @@
-use Rattle.assignment.proofs.Sides.{equals-wild, equals-sides}
+use Rattle.assignment.proofs.laws.Sides.{equals-wild, equals-sides}
 use borrow.Author.Needs.{needs}
 use Rattle.assignment.proofs.assignment.plan_equals.Statement.{statement}
 use Rattle.assignment.proofs.assignment.plan_equals.Tie as tie
@@ -8,37 +8,29 @@ use Rattle.assignment.proofs.assignment.deliver_none.Reads as deliver-n
 use Rattle.assignment.proofs.assignment.equals_in.Reads as equals-in-reads
 use Rattle.assignment.proofs.assignment.wildcard_side.Reads as wildcard-side-reads
 
--- src/assignment.rt:431:9
 wildcard-side-requires : tie.Need-wildcard-side-requires
 wildcard-side-requires c κs = search needs
 
--- src/assignment.rt:433:9
 deliver-none-requires : tie.Need-deliver-none-requires
 deliver-none-requires c κs = search needs
 
--- src/assignment.rt:433:9
 same-length : tie.Need-same-length
 same-length c = search needs
 
--- src/assignment.rt:433:9
 returns : tie.Need-returns
-returns c = search (equals-wild, needs)
+returns c = (search (equals-wild, needs), tt)
 
--- src/assignment.rt:435:5
 equals-in-requires : tie.Need-equals-in-requires
 equals-in-requires c κs = search needs
 
--- src/assignment.rt:415:1
 same-length-2 : tie.Need-same-length-2
 same-length-2 c = search needs
 
--- src/assignment.rt:415:1
 same-length-3 : tie.Need-same-length-3
 same-length-3 c = search needs
 
--- src/assignment.rt:415:1
 returns-2 : tie.Need-returns-2
-returns-2 c = search (equals-sides, needs)
+returns-2 c = (search (equals-sides, needs), tt)
 
 pub plan-equals-spec : {M : Type 1} → statement M
 plan-equals-spec =

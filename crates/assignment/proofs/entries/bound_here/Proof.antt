@@ -1,4 +1,4 @@
-use Rattle.assignment.proofs.Reading.{here-yes, here-no, here-outside, here-other}
+use Rattle.assignment.proofs.entries.Reading.{here-yes, here-no, here-outside, here-other}
 use borrow.Author.Needs.{needs}
 use Rattle.assignment.proofs.entries.bound_here.Statement.{statement}
 use Rattle.assignment.proofs.entries.bound_here.Tie as tie
@@ -7,39 +7,30 @@ use Rattle.assignment.proofs.entries.bound_here.Lts as lts
 use Rattle.scope.proofs.Scope.has_same_scope_binding.Reads as has-same-scope-binding-reads
 use Rattle.table.proofs.reading.first_of.Reads as first-of-reads
 
--- src/entries.rt:35:52
 first-of-requires : tie.Need-first-of-requires
 first-of-requires c κs = search needs
 
--- src/entries.rt:35:13
 has-same-scope-binding-requires : tie.Need-has-same-scope-binding-requires
 has-same-scope-binding-requires c κs = search needs
 
--- src/entries.rt:37:29
 enum-told : tie.Need-enum-told
 enum-told c = search needs
 
--- src/entries.rt:38:28
 enum-told-2 : tie.Need-enum-told-2
 enum-told-2 c = search needs
 
--- src/entries.rt:39:37
 enum-told-3 : tie.Need-enum-told-3
 enum-told-3 c = search needs
 
--- src/entries.rt:36:9
 returns : tie.Need-returns
 returns c = search (here-yes, needs)
 
--- src/entries.rt:36:9
 returns-2 : tie.Need-returns-2
 returns-2 c = search (here-no, needs)
 
--- src/entries.rt:36:9
 returns-3 : tie.Need-returns-3
 returns-3 c = search (here-outside, needs)
 
--- src/entries.rt:31:1
 returns-4 : tie.Need-returns-4
 returns-4 c = search (here-other, needs)
 

@@ -1,41 +1,34 @@
-use Rattle.checks.proofs.TextLoops.{text-room, added-none, ask-text, added-key}
+use Rattle.checks.proofs.TextLoops.{added-none, ask-text, added-key}
 use borrow.Author.Needs.{needs}
 use Rattle.checks.proofs.texts.add_key.Statement.{statement}
 use Rattle.checks.proofs.texts.add_key.Tie as tie
 use Rattle.checks.proofs.texts.add_key.Reads as reads
 use Rattle.checks.proofs.texts.add_key.Lts as lts
 use Rattle.checks.proofs.texts.find_text.Reads as find-text-reads
-use Rattle.planner.proofs.fields.insert_at.Reads as insert-at-reads
+use Rattle.base.proofs.words.insert_at.Reads as insert-at-reads
 use Rattle.table.proofs.reading.extract_literal_key.Reads as extract-literal-key-reads
 
--- src/texts.rt:87:27
 extract-literal-key-requires : tie.Need-extract-literal-key-requires
 extract-literal-key-requires c κs = search needs
 
 enum-told : tie.Need-enum-told
 enum-told c = search needs
 
--- src/texts.rt:88:9
 enum-told-2 : tie.Need-enum-told-2
 enum-told-2 c = search needs
 
--- src/texts.rt:88:9
 returns : tie.Need-returns
 returns c = search (added-none, needs)
 
--- src/texts.rt:90:9
 find-text-requires : tie.Need-find-text-requires
 find-text-requires c κs = search (ask-text, needs)
 
--- src/texts.rt:91:5
 insert-at-requires : tie.Need-insert-at-requires
-insert-at-requires c κs = search (text-room, needs)
+insert-at-requires c κs = search needs
 
--- src/texts.rt:92:5
 add-result : tie.Need-add-result
 add-result c = search needs
 
--- src/texts.rt:75:1
 returns-2 : tie.Need-returns-2
 returns-2 c = search (added-key, needs)
 

@@ -1,65 +1,54 @@
 use Rattle.checks.proofs.PatternObjects.{ask-order, ask-both, keys-compared}
+use Rattle.planner.proofs.fields.FieldLoops.{arranged-first}
 use borrow.Author.Needs.{needs}
 use Rattle.checks.proofs.texts.compare_keys.Statement.{statement}
 use Rattle.checks.proofs.texts.compare_keys.Tie as tie
 use Rattle.checks.proofs.texts.compare_keys.Reads as reads
 use Rattle.checks.proofs.texts.compare_keys.Lts as lts
 use Rattle.checks.proofs.texts.compare_texts.Reads as compare-texts-reads
-use Rattle.planner.proofs.fields.order_fields.Reads as order-fields-reads
+use Rattle.planner.proofs.inner.fields.order_fields.Reads as order-fields-reads
 use Rattle.table.proofs.reading.count_of.Reads as count-of-reads
 use Rattle.table.proofs.reading.first_of.Reads as first-of-reads
 
--- src/texts.rt:219:17
 first-of-requires : tie.Need-first-of-requires
 first-of-requires c κs = search needs
 
--- src/texts.rt:219:17
 cast-first : tie.Need-cast-first
 cast-first c = search needs
 
--- src/texts.rt:220:17
 count-of-requires : tie.Need-count-of-requires
 count-of-requires c κs = search needs
 
--- src/texts.rt:220:17
 cast-count : tie.Need-cast-count
 cast-count c = search needs
 
--- src/texts.rt:221:17
 order-fields-requires : tie.Need-order-fields-requires
 order-fields-requires c κs = search (ask-order, needs)
 
--- src/texts.rt:221:17
 cast-total : tie.Need-cast-total
 cast-total c = search needs
 
--- src/texts.rt:222:16
 first-of-requires-2 : tie.Need-first-of-requires-2
 first-of-requires-2 c κs = search needs
 
--- src/texts.rt:222:16
 cast-from : tie.Need-cast-from
 cast-from c = search needs
 
--- src/texts.rt:223:16
 count-of-requires-2 : tie.Need-count-of-requires-2
 count-of-requires-2 c κs = search needs
 
--- src/texts.rt:223:16
 cast-size : tie.Need-cast-size
 cast-size c = search needs
 
--- src/texts.rt:224:5
 compare-texts-requires : tie.Need-compare-texts-requires
 compare-texts-requires c κs =
     let s = c .before .before .before in
     let words = s .before .before in
     let start = words .before .before .before .before .before .before .before .before in
-    ask-both (start .pre) (words .before .first-of .ensures) (words .count-of .ensures) (s .order-fields .ensures) (c .before .before .first-of2 .ensures) (c .before .count-of2 .ensures)
+    ask-both (start .pre) (words .before .first-of .ensures) (words .count-of .ensures) (arranged-first (s .order-fields .ensures)) (c .before .before .first-of2 .ensures) (c .before .count-of2 .ensures)
 
--- src/texts.rt:205:1
 returns : tie.Need-returns
-returns c = search (keys-compared, needs)
+returns c = search (keys-compared, arranged-first, needs)
 
 pub compare-keys-spec : {M : Type 1} → statement M
 compare-keys-spec =

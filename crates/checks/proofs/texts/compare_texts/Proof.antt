@@ -8,21 +8,17 @@ use Rattle.checks.proofs.texts.same_texts.Reads as same-texts-reads
 use Rattle.checks.proofs.texts.sort_ordered.Reads as sort-ordered-reads
 use Rattle.checks.proofs.texts.sort_written.Reads as sort-written-reads
 
--- src/texts.rt:193:9
 sort-ordered-requires : tie.Need-sort-ordered-requires
 sort-ordered-requires c κs = search needs
 
--- src/texts.rt:195:9
 sort-written-requires : tie.Need-sort-written-requires
 sort-written-requires c κs = search needs
 
--- src/texts.rt:196:9
 same-texts-requires : tie.Need-same-texts-requires
 same-texts-requires c κs = search (few-keys, needs)
 
--- src/texts.rt:176:1
 returns : tie.Need-returns
-returns c = (search (texts-compared, needs), search needs)
+returns c = search (texts-compared, needs)
 
 pub compare-texts-spec : {M : Type 1} → statement M
 compare-texts-spec =

@@ -14,51 +14,39 @@ Inv-loop nodes numbers strings text keys size key low₀ high₀ low high = Seek
 abbrev μ-loop : tie.MeasureT-loop
 μ-loop nodes numbers strings text keys size key low₀ high₀ low high = high - low
 
--- src/texts.rt:63:5
 loop-holds : tie.Need-loop-holds Inv-loop μ-loop
 loop-holds c = search (seeking-start, needs)
 
--- src/texts.rt:64:29
 sub-middle : tie.Need-sub-middle Inv-loop μ-loop
 sub-middle c = search needs
 
--- src/texts.rt:64:22
 add-middle : tie.Need-add-middle Inv-loop μ-loop
 add-middle c = search needs
 
--- src/texts.rt:65:60
 mul-comes-after : tie.Need-mul-comes-after Inv-loop μ-loop
 mul-comes-after c = search needs
 
--- src/texts.rt:65:60
 element-copy-out-comes-after : tie.Need-element-copy-out-comes-after Inv-loop μ-loop
 element-copy-out-comes-after c = search needs
 
--- src/texts.rt:65:12
 comes-after-requires : tie.Need-comes-after-requires Inv-loop μ-loop
 comes-after-requires c κs = search needs
 
--- src/texts.rt:66:19
 add-low : tie.Need-add-low Inv-loop μ-loop
 add-low c = search needs
 
--- src/texts.rt:63:5
 loop-less : tie.Need-loop-less Inv-loop μ-loop
 loop-less c = search needs
 
--- src/texts.rt:63:5
 loop-again : tie.Need-loop-again Inv-loop μ-loop
 loop-again c = search (seeking-up, needs)
 
--- src/texts.rt:63:5
 loop-less-2 : tie.Need-loop-less-2 Inv-loop μ-loop
 loop-less-2 c = search needs
 
--- src/texts.rt:63:5
 loop-again-2 : tie.Need-loop-again-2 Inv-loop μ-loop
 loop-again-2 c = search (seeking-down, needs)
 
--- src/texts.rt:49:1
 returns : tie.Need-returns Inv-loop μ-loop
 returns c = search (seeking-ends, needs)
 

@@ -14,76 +14,58 @@ Inv-loop nodes numbers strings text a m b n q₀ q = Agreeing (literalNode nodes
 abbrev μ-loop : tie.MeasureT-loop
 μ-loop nodes numbers strings text a m b n q₀ q = m - q
 
--- src/texts.rt:161:9
 returns : tie.Need-returns Inv-loop μ-loop
 returns c = search (sizes-differ, needs)
 
--- src/texts.rt:164:5
 loop-holds : tie.Need-loop-holds Inv-loop μ-loop
 loop-holds c = search (agreeing-start, needs)
 
--- src/texts.rt:165:64
 mul-compare-key-texts : tie.Need-mul-compare-key-texts Inv-loop μ-loop
 mul-compare-key-texts c = search needs
 
--- src/texts.rt:165:64
 element-copy-out-compare-key-texts : tie.Need-element-copy-out-compare-key-texts Inv-loop μ-loop
 element-copy-out-compare-key-texts c = search needs
 
--- src/texts.rt:165:70
 mul-compare-key-texts-2 : tie.Need-mul-compare-key-texts-2 Inv-loop μ-loop
 mul-compare-key-texts-2 c = search needs
 
--- src/texts.rt:165:70
 element-copy-out-compare-key-texts-2 :
     tie.Need-element-copy-out-compare-key-texts-2 Inv-loop μ-loop
 element-copy-out-compare-key-texts-2 c = search needs
 
--- src/texts.rt:165:15
 compare-key-texts-requires : tie.Need-compare-key-texts-requires Inv-loop μ-loop
 compare-key-texts-requires c κs = search needs
 
--- src/texts.rt:166:34
 enum-told : tie.Need-enum-told Inv-loop μ-loop
 enum-told c = search needs
 
--- src/texts.rt:166:34
 add-q : tie.Need-add-q Inv-loop μ-loop
 add-q c = search needs
 
--- src/texts.rt:164:5
 loop-less : tie.Need-loop-less Inv-loop μ-loop
 loop-less c = search needs
 
--- src/texts.rt:164:5
 loop-again : tie.Need-loop-again Inv-loop μ-loop
 loop-again c = search (agreeing-on, needs)
 
--- src/texts.rt:167:33
 enum-told-2 : tie.Need-enum-told-2 Inv-loop μ-loop
 enum-told-2 c = search needs
 
--- src/texts.rt:167:33
 returns-2 : tie.Need-returns-2 Inv-loop μ-loop
 returns-2 c = search (agreeing-less, needs)
 
--- src/texts.rt:168:36
 enum-told-3 : tie.Need-enum-told-3 Inv-loop μ-loop
 enum-told-3 c = search needs
 
--- src/texts.rt:168:36
 returns-3 : tie.Need-returns-3 Inv-loop μ-loop
 returns-3 c = search (agreeing-greater, needs)
 
--- src/texts.rt:169:38
 enum-told-4 : tie.Need-enum-told-4 Inv-loop μ-loop
 enum-told-4 c = search needs
 
--- src/texts.rt:169:38
 returns-4 : tie.Need-returns-4 Inv-loop μ-loop
 returns-4 c = search (agreeing-none, needs)
 
--- src/texts.rt:147:1
 returns-5 : tie.Need-returns-5 Inv-loop μ-loop
 returns-5 c = search (agreeing-ends, needs)
 

@@ -1,4 +1,4 @@
-use Rattle.literal.specs.Chunks.{Prefix}
+use Rattle.literal.specs.code.Chunks.{Prefix}
 use Rattle.literal.proofs.Chunks.{prefix-start, chunk-on}
 use Prim.Native.Nat.{_-_}
 use borrow.Author.Needs.{needs}

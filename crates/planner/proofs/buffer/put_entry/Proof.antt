@@ -6,63 +6,48 @@ use Rattle.planner.proofs.buffer.put_entry.Tie as tie
 use Rattle.planner.proofs.buffer.put_entry.Reads as reads
 use Rattle.planner.proofs.buffer.put_entry.Lts as lts
 
--- src/pairs.rt:57:20
 mul-base : tie.Need-mul-base
 mul-base c = search needs
 
--- src/pairs.rt:58:9
 mul-plan : tie.Need-mul-plan
 mul-plan c = search needs
 
--- src/pairs.rt:58:9
 slice-write-plan : tie.Need-slice-write-plan
 slice-write-plan c = search needs
 
--- src/pairs.rt:59:14
 add-plan : tie.Need-add-plan
 add-plan c = search needs
 
--- src/pairs.rt:59:9
 mul-plan-2 : tie.Need-mul-plan-2
 mul-plan-2 c = search needs
 
--- src/pairs.rt:59:9
 slice-write-plan-2 : tie.Need-slice-write-plan-2
 slice-write-plan-2 c = search (lt-length-set, word-2, needs)
 
--- src/pairs.rt:60:14
 add-plan-2 : tie.Need-add-plan-2
 add-plan-2 c = search needs
 
--- src/pairs.rt:60:9
 mul-plan-3 : tie.Need-mul-plan-3
 mul-plan-3 c = search needs
 
--- src/pairs.rt:60:9
 slice-write-plan-3 : tie.Need-slice-write-plan-3
 slice-write-plan-3 c = search (lt-length-set, word-3, needs)
 
--- src/pairs.rt:61:14
 add-plan-3 : tie.Need-add-plan-3
 add-plan-3 c = search needs
 
--- src/pairs.rt:61:9
 mul-plan-4 : tie.Need-mul-plan-4
 mul-plan-4 c = search needs
 
--- src/pairs.rt:61:9
 slice-write-plan-4 : tie.Need-slice-write-plan-4
 slice-write-plan-4 c = search (lt-length-set, word-4, needs)
 
--- src/pairs.rt:53:1
 same-length : tie.Need-same-length
 same-length c = search needs
 
--- src/pairs.rt:53:1
 returns : tie.Need-returns
 returns c = search (wrote-in, needs)
 
--- src/pairs.rt:53:1
 returns-2 : tie.Need-returns-2
 returns-2 c = search (wrote-out, needs)
 

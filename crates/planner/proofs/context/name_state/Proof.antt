@@ -1,58 +1,65 @@
-use Rattle.planner.proofs.laws.States.{state-underscore, state-reserved, state-ordinary}
+use Rattle.planner.proofs.laws.States.{state-none, state-underscore, state-reserved, state-ordinary}
 use borrow.Author.Needs.{needs}
 use Rattle.planner.proofs.context.name_state.Statement.{statement}
 use Rattle.planner.proofs.context.name_state.Tie as tie
 use Rattle.planner.proofs.context.name_state.Reads as reads
 use Rattle.planner.proofs.context.name_state.Lts as lts
-use Rattle.planner.proofs.context.unbound_mark.Reads as unbound-mark-reads
+use Rattle.planner.proofs.context.name_mark.Reads as name-mark-reads
 use Rattle.table.proofs.reading.name_class.Reads as name-class-reads
 
--- src/context.rt:35:9
+returns : tie.Need-returns
+returns c = search (state-none, needs)
+
+sub-binder : tie.Need-sub-binder
+sub-binder c = search needs
+
+mul-binder : tie.Need-mul-binder
+mul-binder c = search needs
+
+element-copy-out-binder : tie.Need-element-copy-out-binder
+element-copy-out-binder c = search needs
+
 name-class-requires : tie.Need-name-class-requires
 name-class-requires c κs = search needs
 
--- src/context.rt:37:34
 enum-told : tie.Need-enum-told
 enum-told c = search needs
 
--- src/context.rt:38:35
 enum-told-2 : tie.Need-enum-told-2
 enum-told-2 c = search needs
 
--- src/context.rt:38:35
-unbound-mark-requires : tie.Need-unbound-mark-requires
-unbound-mark-requires c κs = search needs
+name-mark-requires : tie.Need-name-mark-requires
+name-mark-requires c κs = search needs
 
--- src/context.rt:39:32
 enum-told-3 : tie.Need-enum-told-3
 enum-told-3 c = search needs
 
--- src/context.rt:39:32
-unbound-mark-requires-2 : tie.Need-unbound-mark-requires-2
-unbound-mark-requires-2 c κs = search needs
+name-mark-requires-2 : tie.Need-name-mark-requires-2
+name-mark-requires-2 c κs = search needs
 
--- src/context.rt:31:1
-returns : tie.Need-returns
-returns c = search (state-underscore, needs)
-
--- src/context.rt:31:1
 returns-2 : tie.Need-returns-2
-returns-2 c = search (state-reserved, needs)
+returns-2 c = search (state-underscore, needs)
 
--- src/context.rt:31:1
 returns-3 : tie.Need-returns-3
-returns-3 c = search (state-ordinary, needs)
+returns-3 c = search (state-reserved, needs)
+
+returns-4 : tie.Need-returns-4
+returns-4 c = search (state-ordinary, needs)
 
 pub name-state-spec : {M : Type 1} → statement M
 name-state-spec =
     tie.close
     (tie.spec
+    returns
+    sub-binder
+    mul-binder
+    element-copy-out-binder
     name-class-requires
     enum-told
     enum-told-2
-    unbound-mark-requires
+    name-mark-requires
     enum-told-3
-    unbound-mark-requires-2
-    returns
+    name-mark-requires-2
     returns-2
-    returns-3)
+    returns-3
+    returns-4)

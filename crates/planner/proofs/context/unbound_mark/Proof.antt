@@ -6,31 +6,24 @@ use Rattle.planner.proofs.context.unbound_mark.Reads as reads
 use Rattle.planner.proofs.context.unbound_mark.Lts as lts
 use Rattle.scope.proofs.Scope.is_var_unbound.Reads as is-var-unbound-reads
 
--- src/context.rt:22:9
 is-var-unbound-requires : tie.Need-is-var-unbound-requires
 is-var-unbound-requires c κs = search needs
 
--- src/context.rt:24:25
 enum-told : tie.Need-enum-told
 enum-told c = search needs
 
--- src/context.rt:25:24
 enum-told-2 : tie.Need-enum-told-2
 enum-told-2 c = search needs
 
--- src/context.rt:26:33
 enum-told-3 : tie.Need-enum-told-3
 enum-told-3 c = search needs
 
--- src/context.rt:18:1
 returns : tie.Need-returns
 returns c = search (mark-yes, needs)
 
--- src/context.rt:18:1
 returns-2 : tie.Need-returns-2
 returns-2 c = search (mark-no, needs)
 
--- src/context.rt:18:1
 returns-3 : tie.Need-returns-3
 returns-3 c = search (mark-never, needs)
 

@@ -1,4 +1,4 @@
-use Rattle.run.proofs.Checking.{all-no-value, all-told}
+use Rattle.run.proofs.Checking.{all-asks, all-no-value, all-told}
 use borrow.Author.Needs.{needs}
 use Rattle.run.proofs.checks.all_values.Statement.{statement}
 use Rattle.run.proofs.checks.all_values.Tie as tie
@@ -6,25 +6,20 @@ use Rattle.run.proofs.checks.all_values.Reads as reads
 use Rattle.run.proofs.checks.all_values.Lts as lts
 use Rattle.run.proofs.checks.is_value.Reads as is-value-reads
 use Rattle.run.proofs.checks.values_listed.Reads as values-listed-reads
-use Rattle.value.proofs.marks.mark_nodes.Reads as mark-nodes-reads
+use Rattle.value.proofs.inner.marks.mark_nodes.Reads as mark-nodes-reads
 
--- src/checks.rt:118:17
 mark-nodes-requires : tie.Need-mark-nodes-requires
 mark-nodes-requires c κs = search needs
 
--- src/checks.rt:119:9
 is-value-requires : tie.Need-is-value-requires
-is-value-requires c κs = search needs
+is-value-requires c κs = search (all-asks, needs)
 
--- src/checks.rt:129:9
 returns : tie.Need-returns
 returns c = search (all-no-value, needs)
 
--- src/checks.rt:131:5
 values-listed-requires : tie.Need-values-listed-requires
-values-listed-requires c κs = search needs
+values-listed-requires c κs = search (all-asks, needs)
 
--- src/checks.rt:105:1
 returns-2 : tie.Need-returns-2
 returns-2 c = search (all-told, needs)
 

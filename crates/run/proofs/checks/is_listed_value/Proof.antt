@@ -6,15 +6,12 @@ use Rattle.run.proofs.checks.is_listed_value.Reads as reads
 use Rattle.run.proofs.checks.is_listed_value.Lts as lts
 use Rattle.run.proofs.checks.is_value.Reads as is-value-reads
 
--- src/checks.rt:66:9
 returns : tie.Need-returns
 returns c = search (listed-none, needs)
 
--- src/checks.rt:68:5
 is-value-requires : tie.Need-is-value-requires
 is-value-requires c κs = search needs
 
--- src/checks.rt:52:1
 returns-2 : tie.Need-returns-2
 returns-2 c = search (listed-some, needs)
 

@@ -4,21 +4,17 @@ use Rattle.run.proofs.checks.is_simple.Statement.{statement}
 use Rattle.run.proofs.checks.is_simple.Tie as tie
 use Rattle.run.proofs.checks.is_simple.Reads as reads
 use Rattle.run.proofs.checks.is_simple.Lts as lts
-use Rattle.value.proofs.marks.mark_nodes.Reads as mark-nodes-reads
+use Rattle.value.proofs.inner.marks.mark_nodes.Reads as mark-nodes-reads
 
--- src/checks.rt:27:17
 mark-nodes-requires : tie.Need-mark-nodes-requires
 mark-nodes-requires c κs = search needs
 
--- src/checks.rt:28:11
 sub-result : tie.Need-sub-result
 sub-result c = search needs
 
--- src/checks.rt:28:5
 array-read-result : tie.Need-array-read-result
 array-read-result c = search needs
 
--- src/checks.rt:15:1
 returns : tie.Need-returns
 returns c = search (simple-told, needs)
 

@@ -6,23 +6,18 @@ use Rattle.run.proofs.checks.is_value.Reads as reads
 use Rattle.run.proofs.checks.is_value.Lts as lts
 use Rattle.table.proofs.reading.is_node.Reads as is-node-reads
 
--- src/checks.rt:45:8
 is-node-requires : tie.Need-is-node-requires
 is-node-requires c κs = search needs
 
--- src/checks.rt:46:22
 sub-result : tie.Need-sub-result
 sub-result c = search (marked-low, needs)
 
--- src/checks.rt:46:16
 element-copy-out-result : tie.Need-element-copy-out-result
 element-copy-out-result c = search (marked-place, needs)
 
--- src/checks.rt:46:9
 returns : tie.Need-returns
 returns c = search (value-told, needs)
 
--- src/checks.rt:32:1
 returns-2 : tie.Need-returns-2
 returns-2 c = search (value-outside, needs)
 

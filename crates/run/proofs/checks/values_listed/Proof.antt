@@ -1,6 +1,5 @@
 use Prim.Native.Nat.{_-_}
-use Rattle.table.specs.Tables.{tables}
-use Rattle.run.proofs.Checking.{Listing, listing-start, listing-asks, listing-inside, listing-on, listing-fails, listing-ends}
+use Rattle.run.proofs.Checking.{Listing, listing-start, listing-inside, listing-on, listing-fails, listing-ends}
 use borrow.Author.Needs.{needs}
 use Rattle.run.proofs.checks.values_listed.Statement.{statement}
 use Rattle.run.proofs.checks.values_listed.Tie as tie
@@ -9,44 +8,35 @@ use Rattle.run.proofs.checks.values_listed.Lts as lts
 use Rattle.run.proofs.checks.is_listed_value.Reads as is-listed-value-reads
 
 abbrev Inv-loop : tie.InvT-loop
-Inv-loop nodes children numbers names strings text marks values count i₀ i = Listing (tables nodes children numbers names strings text) marks values count i
+Inv-loop nodes names marks values count i₀ i = Listing nodes names marks values count i
 
 abbrev μ-loop : tie.MeasureT-loop
-μ-loop nodes children numbers names strings text marks values count i₀ i = count - i
+μ-loop nodes names marks values count i₀ i = count - i
 
--- src/checks.rt:86:5
 loop-holds : tie.Need-loop-holds Inv-loop μ-loop
 loop-holds c = search (listing-start, needs)
 
--- src/checks.rt:95:13
 mul-is-listed-value : tie.Need-mul-is-listed-value Inv-loop μ-loop
 mul-is-listed-value c = search needs
 
--- src/checks.rt:95:13
 shared-slice-read-is-listed-value : tie.Need-shared-slice-read-is-listed-value Inv-loop μ-loop
 shared-slice-read-is-listed-value c = search (listing-inside, needs)
 
--- src/checks.rt:87:13
 is-listed-value-requires : tie.Need-is-listed-value-requires Inv-loop μ-loop
-is-listed-value-requires c κs = search (listing-asks, needs)
+is-listed-value-requires c κs = search needs
 
--- src/checks.rt:97:13
 returns : tie.Need-returns Inv-loop μ-loop
 returns c = search (listing-fails, needs)
 
--- src/checks.rt:99:9
 add-i : tie.Need-add-i Inv-loop μ-loop
 add-i c = search needs
 
--- src/checks.rt:86:5
 loop-less : tie.Need-loop-less Inv-loop μ-loop
 loop-less c = search needs
 
--- src/checks.rt:86:5
 loop-again : tie.Need-loop-again Inv-loop μ-loop
 loop-again c = search (listing-on, needs)
 
--- src/checks.rt:71:1
 returns-2 : tie.Need-returns-2 Inv-loop μ-loop
 returns-2 c = search (listing-ends, needs)
 

@@ -14,55 +14,42 @@ Inv-loop names scope scoping met values count i₀ i = Having names values met (
 abbrev μ-loop : tie.MeasureT-loop
 μ-loop names scope scoping met values count i₀ i = count - i
 
--- src/names.rt:109:5
 loop-holds : tie.Need-loop-holds Inv-loop μ-loop
 loop-holds c = search (having-start, needs)
 
--- src/names.rt:110:40
 add-has-value : tie.Need-add-has-value Inv-loop μ-loop
 add-has-value c = search needs
 
--- src/names.rt:110:39
 cast-has-value : tie.Need-cast-has-value Inv-loop μ-loop
 cast-has-value c = search (having-small, needs)
 
--- src/names.rt:110:55
 mul-has-value : tie.Need-mul-has-value Inv-loop μ-loop
 mul-has-value c = search needs
 
--- src/names.rt:110:55
 element-copy-out-has-value : tie.Need-element-copy-out-has-value Inv-loop μ-loop
 element-copy-out-has-value c = search (having-small, needs)
 
--- src/names.rt:110:63
 mul-has-value-2 : tie.Need-mul-has-value-2 Inv-loop μ-loop
 mul-has-value-2 c = search needs
 
--- src/names.rt:110:63
 shared-slice-read-has-value : tie.Need-shared-slice-read-has-value Inv-loop μ-loop
 shared-slice-read-has-value c = search (having-listed, needs)
 
--- src/names.rt:110:13
 has-value-requires : tie.Need-has-value-requires Inv-loop μ-loop
 has-value-requires c κs = search (having-name, needs)
 
--- src/names.rt:111:13
 returns : tie.Need-returns Inv-loop μ-loop
 returns c = search (having-fails, needs)
 
--- src/names.rt:113:9
 add-i : tie.Need-add-i Inv-loop μ-loop
 add-i c = search needs
 
--- src/names.rt:109:5
 loop-less : tie.Need-loop-less Inv-loop μ-loop
 loop-less c = search needs
 
--- src/names.rt:109:5
 loop-again : tie.Need-loop-again Inv-loop μ-loop
 loop-again c = search (having-on, needs)
 
--- src/names.rt:97:1
 returns-2 : tie.Need-returns-2 Inv-loop μ-loop
 returns-2 c = search (having-ends, needs)
 

@@ -6,19 +6,15 @@ use Rattle.run.proofs.names.has_value.Reads as reads
 use Rattle.run.proofs.names.has_value.Lts as lts
 use Rattle.run.proofs.names.is_unbound.Reads as is-unbound-reads
 
--- src/names.rt:89:9
 returns : tie.Need-returns
 returns c = search (value-unmet, needs)
 
--- src/names.rt:92:9
 is-unbound-requires : tie.Need-is-unbound-requires
 is-unbound-requires c κs = search needs
 
--- src/names.rt:92:9
 returns-2 : tie.Need-returns-2
 returns-2 c = search (value-unbound, needs)
 
--- src/names.rt:84:1
 returns-3 : tie.Need-returns-3
 returns-3 c = search (value-listed, needs)
 

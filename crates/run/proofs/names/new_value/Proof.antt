@@ -5,11 +5,9 @@ use Rattle.run.proofs.names.new_value.Tie as tie
 use Rattle.run.proofs.names.new_value.Reads as reads
 use Rattle.run.proofs.names.new_value.Lts as lts
 
--- src/names.rt:64:9
 returns : tie.Need-returns
 returns c = search (old-value, needs)
 
--- src/names.rt:60:1
 returns-2 : tie.Need-returns-2
 returns-2 c = search (set-value, needs)
 

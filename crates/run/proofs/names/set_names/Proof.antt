@@ -13,63 +13,48 @@ Inv-loop names binders list values₀ count i₀ values i = Setting names binder
 abbrev μ-loop : tie.MeasureT-loop
 μ-loop names binders list values₀ count i₀ values i = count - i
 
--- src/names.rt:76:5
 loop-holds : tie.Need-loop-holds Inv-loop μ-loop
 loop-holds c = search (setting-start, needs)
 
--- src/names.rt:77:19
 mul-old : tie.Need-mul-old Inv-loop μ-loop
 mul-old c = search needs
 
--- src/names.rt:77:19
 slice-read-old : tie.Need-slice-read-old Inv-loop μ-loop
 slice-read-old c = search (setting-inside, needs)
 
--- src/names.rt:78:31
 mul-new-value : tie.Need-mul-new-value Inv-loop μ-loop
 mul-new-value c = search needs
 
--- src/names.rt:78:31
 element-copy-out-new-value : tie.Need-element-copy-out-new-value Inv-loop μ-loop
 element-copy-out-new-value c = search (setting-small, needs)
 
--- src/names.rt:78:48
 mul-new-value-2 : tie.Need-mul-new-value-2 Inv-loop μ-loop
 mul-new-value-2 c = search needs
 
--- src/names.rt:78:48
 element-copy-out-new-value-2 : tie.Need-element-copy-out-new-value-2 Inv-loop μ-loop
 element-copy-out-new-value-2 c = search (setting-small, needs)
 
--- src/names.rt:78:21
 new-value-requires : tie.Need-new-value-requires Inv-loop μ-loop
 new-value-requires c κs = search needs
 
--- src/names.rt:78:9
 mul-values : tie.Need-mul-values Inv-loop μ-loop
 mul-values c = search needs
 
--- src/names.rt:78:9
 slice-write-values : tie.Need-slice-write-values Inv-loop μ-loop
 slice-write-values c = search (setting-inside, needs)
 
--- src/names.rt:79:9
 add-i : tie.Need-add-i Inv-loop μ-loop
 add-i c = search needs
 
--- src/names.rt:76:5
 loop-less : tie.Need-loop-less Inv-loop μ-loop
 loop-less c = search needs
 
--- src/names.rt:76:5
 loop-again : tie.Need-loop-again Inv-loop μ-loop
 loop-again c = search (setting-on, needs)
 
--- src/names.rt:70:1
 same-length : tie.Need-same-length Inv-loop μ-loop
 same-length c = search (setting-long, needs)
 
--- src/names.rt:70:1
 returns : tie.Need-returns Inv-loop μ-loop
 returns c = search (setting-ends, needs)
 

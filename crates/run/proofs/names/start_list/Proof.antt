@@ -13,51 +13,39 @@ Inv-loop names scope scoping values list₀ count i₀ list i = Starting names s
 abbrev μ-loop : tie.MeasureT-loop
 μ-loop names scope scoping values list₀ count i₀ list i = count - i
 
--- src/names.rt:53:5
 loop-holds : tie.Need-loop-holds Inv-loop μ-loop
 loop-holds c = search (starting, needs)
 
--- src/names.rt:54:48
 add-start-value : tie.Need-add-start-value Inv-loop μ-loop
 add-start-value c = search needs
 
--- src/names.rt:54:47
 cast-start-value : tie.Need-cast-start-value Inv-loop μ-loop
 cast-start-value c = search (starting-small, needs)
 
--- src/names.rt:54:63
 mul-start-value : tie.Need-mul-start-value Inv-loop μ-loop
 mul-start-value c = search needs
 
--- src/names.rt:54:63
 shared-slice-read-start-value : tie.Need-shared-slice-read-start-value Inv-loop μ-loop
 shared-slice-read-start-value c = search (starting-listed, needs)
 
--- src/names.rt:54:19
 start-value-requires : tie.Need-start-value-requires Inv-loop μ-loop
 start-value-requires c κs = search (starting-name, needs)
 
--- src/names.rt:54:9
 mul-list : tie.Need-mul-list Inv-loop μ-loop
 mul-list c = search needs
 
--- src/names.rt:54:9
 array-write-list : tie.Need-array-write-list Inv-loop μ-loop
 array-write-list c = search (starting-small, needs)
 
--- src/names.rt:55:9
 add-i : tie.Need-add-i Inv-loop μ-loop
 add-i c = search needs
 
--- src/names.rt:53:5
 loop-less : tie.Need-loop-less Inv-loop μ-loop
 loop-less c = search needs
 
--- src/names.rt:53:5
 loop-again : tie.Need-loop-again Inv-loop μ-loop
 loop-again c = search (starting-on, needs)
 
--- src/names.rt:41:1
 returns : tie.Need-returns Inv-loop μ-loop
 returns c = search (starting-ends, needs)
 

@@ -6,15 +6,12 @@ use Rattle.run.proofs.names.start_value.Reads as reads
 use Rattle.run.proofs.names.start_value.Lts as lts
 use Rattle.run.proofs.names.is_unbound.Reads as is-unbound-reads
 
--- src/names.rt:35:8
 is-unbound-requires : tie.Need-is-unbound-requires
 is-unbound-requires c κs = search needs
 
--- src/names.rt:36:9
 returns : tie.Need-returns
 returns c = search (starts-none, needs)
 
--- src/names.rt:31:1
 returns-2 : tie.Need-returns-2
 returns-2 c = search (starts-listed, needs)
 

@@ -1,5 +1,5 @@
 use Prim.Native.Nat.{_-_}
-use Rattle.sheet.specs.Post.{wordIn, Overlaid}
+use Rattle.sheet.specs.code.Post.{wordIn, Overlaid}
 use Rattle.sheet.proofs.lines.NameWords.{overlaid-none, overlaid-on, overlaid-first, overlaid-room}
 use borrow.Author.Needs.{needs}
 use Rattle.sheet.proofs.lines.copy_numbers.Statement.{statement}

@@ -1,7 +1,7 @@
 use Prim.Native.Nat.{_-_}
 use lib.ListN.{length}
 use Rattle.planner.proofs.buffer.Filling.{Filling, filling-begin, filling-next}
-use Rattle.sheet.specs.Post.{wordIn}
+use Rattle.sheet.specs.code.Post.{wordIn}
 use Rattle.sheet.proofs.laws.ListingLines.{bytes-copied, byte-there}
 use borrow.Author.Needs.{needs}
 use Rattle.sheet.proofs.listing.copy_bytes.Statement.{statement}

@@ -1,5 +1,5 @@
 use Prim.Native.Nat.{_-_, _*_}
-use Rattle.sheet.specs.Post.{nameWord, Overlaid}
+use Rattle.sheet.specs.code.Post.{nameWord, Overlaid}
 use Rattle.sheet.proofs.lines.NameWords.{overlaid-none, overlaid-first, words-fit, row-fits, row-word-fits, row-word-there, name-room, name-on}
 use borrow.Author.Needs.{needs}
 use Rattle.sheet.proofs.names.close_up.Statement.{statement}

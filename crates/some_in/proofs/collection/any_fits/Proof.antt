@@ -5,7 +5,7 @@ use Rattle.some_in.proofs.collection.any_fits.Statement.{statement}
 use Rattle.some_in.proofs.collection.any_fits.Tie as tie
 use Rattle.some_in.proofs.collection.any_fits.Reads as reads
 use Rattle.some_in.proofs.collection.any_fits.Lts as lts
-use Rattle.checks.proofs.utils.check_literal_structure.Reads as check-literal-structure-reads
+use Rattle.checks.proofs.inner.check_literal_structure.Reads as check-literal-structure-reads
 use Rattle.some_in.proofs.collection.is_mismatch.Reads as is-mismatch-reads
 use Rattle.table.proofs.reading.child_at.Reads as child-at-reads
 
@@ -15,43 +15,33 @@ Inv-loop nodes children numbers names strings text pattern at left place₀ more
 abbrev μ-loop : tie.MeasureT-loop
 μ-loop nodes children numbers names strings text pattern at left place₀ more₀ place more = more
 
--- src/collection.rt:46:5
 loop-holds : tie.Need-loop-holds Inv-loop μ-loop
 loop-holds c = search (looking-start, needs)
 
--- src/collection.rt:47:13
 child-at-requires : tie.Need-child-at-requires Inv-loop μ-loop
 child-at-requires c κs = search needs
 
--- src/collection.rt:48:13
 check-literal-structure-requires : tie.Need-check-literal-structure-requires Inv-loop μ-loop
 check-literal-structure-requires c κs = search (looking-pair, needs)
 
--- src/collection.rt:58:13
 is-mismatch-requires : tie.Need-is-mismatch-requires Inv-loop μ-loop
 is-mismatch-requires c κs = search needs
 
--- src/collection.rt:59:13
 returns : tie.Need-returns Inv-loop μ-loop
 returns c = search (looking-found, needs)
 
--- src/collection.rt:61:9
 add-place : tie.Need-add-place Inv-loop μ-loop
 add-place c = search (looking-fits, needs)
 
--- src/collection.rt:62:9
 sub-more : tie.Need-sub-more Inv-loop μ-loop
 sub-more c = search needs
 
--- src/collection.rt:46:5
 loop-less : tie.Need-loop-less Inv-loop μ-loop
 loop-less c = search needs
 
--- src/collection.rt:46:5
 loop-again : tie.Need-loop-again Inv-loop μ-loop
 loop-again c = search (looking-on, needs)
 
--- src/collection.rt:30:1
 returns-2 : tie.Need-returns-2 Inv-loop μ-loop
 returns-2 c = search (looking-ends, needs)
 

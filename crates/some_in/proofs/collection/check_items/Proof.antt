@@ -4,31 +4,25 @@ use Rattle.some_in.proofs.collection.check_items.Statement.{statement}
 use Rattle.some_in.proofs.collection.check_items.Tie as tie
 use Rattle.some_in.proofs.collection.check_items.Reads as reads
 use Rattle.some_in.proofs.collection.check_items.Lts as lts
-use Rattle.checks.proofs.utils.check_literal_structure.Reads as check-literal-structure-reads
+use Rattle.checks.proofs.inner.check_literal_structure.Reads as check-literal-structure-reads
 use Rattle.some_in.proofs.collection.any_fits.Reads as any-fits-reads
 use Rattle.table.proofs.reading.child_at.Reads as child-at-reads
 
--- src/collection.rt:83:9
 returns : tie.Need-returns
 returns c = search (items-empty, needs)
 
--- src/collection.rt:85:8
 any-fits-requires : tie.Need-any-fits-requires
 any-fits-requires c κs = search needs
 
--- src/collection.rt:96:9
 returns-2 : tie.Need-returns-2
 returns-2 c = search (items-fit, needs)
 
--- src/collection.rt:98:9
 child-at-requires : tie.Need-child-at-requires
 child-at-requires c κs = search needs
 
--- src/collection.rt:99:5
 check-literal-structure-requires : tie.Need-check-literal-structure-requires
 check-literal-structure-requires c κs = search (first-pair, needs)
 
--- src/collection.rt:68:1
 returns-3 : tie.Need-returns-3
 returns-3 c = search (items-first, needs)
 

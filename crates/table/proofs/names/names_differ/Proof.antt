@@ -1,4 +1,4 @@
-use Rattle.table.proofs.tests.NameOrder.{Naming, naming-start, naming-fails, naming-room, naming-on}
+use Rattle.table.proofs.tests.NameOrder.{Naming, naming-start, naming-fails, naming-on}
 use Rattle.table.proofs.tests.Clauses.{names-end}
 use Prim.Native.Nat.{_-_}
 use borrow.Author.Needs.{needs}
@@ -25,7 +25,8 @@ names-differ-spec =
     (λ c. search (naming-fails, needs))
     (λ c. search needs)
     (λ c. search needs)
-    (λ c κs. (search (naming-room, needs), search needs, search needs))
+    (λ c. search needs)
+    (λ c κs. search needs)
     (λ c. search needs)
     (λ c. search needs)
     (λ c. search (naming-on, needs))

@@ -2,7 +2,7 @@ use Prim.Native.Nat.{_-_, _/_}
 use mathlib.Core.List.{[]}
 use lib.ListN.{length}
 use Rattle.table.specs.Tables.{tables}
-use Rattle.table.specs.Passes.{childrenBelowAt}
+use Rattle.table.specs.code.Passes.{childrenBelowAt}
 use Rattle.table.proofs.tests.Scan.{Scan, scan-start, scan-ends, all-on, all-fails}
 use borrow.Author.Needs.{needs}
 use Rattle.table.proofs.nodes.all_below.Statement.{statement}

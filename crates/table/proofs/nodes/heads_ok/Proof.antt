@@ -1,7 +1,7 @@
 use Prim.Native.Nat.{_-_, _/_}
 use lib.ListN.{length}
 use Rattle.table.specs.Tables.{tables}
-use Rattle.table.specs.Passes.{headOkAt}
+use Rattle.table.specs.code.Passes.{headOkAt}
 use Rattle.table.proofs.tests.Scan.{Scan, scan-start, scan-ends}
 use Rattle.table.proofs.tests.Clauses.{head-span, head-words, head-on}
 use borrow.Author.Needs.{needs}

@@ -11,104 +11,80 @@ use Rattle.planner.proofs.parameters.create_loop_index_binding_plan.Reads as cr
 use Rattle.planner.proofs.parameters.create_parameter_binding_plan.Reads as create-parameter-binding-plan-reads
 use Rattle.some_in.proofs.create_some_in_binding_plan.Reads as create-some-in-binding-plan-reads
 
--- src/operations.rt:31:30
 enum-known-operation : tie.Need-enum-known-operation
 enum-known-operation c = search needs
 
--- src/operations.rt:31:49
 create-destructuring-plan-requires : tie.Need-create-destructuring-plan-requires
 create-destructuring-plan-requires c κs = search needs
 
--- src/operations.rt:43:34
 enum-known-operation-2 : tie.Need-enum-known-operation-2
 enum-known-operation-2 c = search needs
 
--- src/operations.rt:43:51
 create-assignment-binding-plan-requires : tie.Need-create-assignment-binding-plan-requires
 create-assignment-binding-plan-requires c κs = search needs
 
--- src/operations.rt:56:29
 enum-known-operation-3 : tie.Need-enum-known-operation-3
 enum-known-operation-3 c = search needs
 
--- src/operations.rt:56:46
 create-assignment-binding-plan-requires-2 : tie.Need-create-assignment-binding-plan-requires-2
 create-assignment-binding-plan-requires-2 c κs = search needs
 
--- src/operations.rt:70:13
 enum-known-operation-4 : tie.Need-enum-known-operation-4
 enum-known-operation-4 c = search needs
 
--- src/operations.rt:73:14
 create-some-in-binding-plan-requires : tie.Need-create-some-in-binding-plan-requires
 create-some-in-binding-plan-requires c κs = search needs
 
--- src/operations.rt:86:28
 enum-known-operation-5 : tie.Need-enum-known-operation-5
 enum-known-operation-5 c = search needs
 
--- src/operations.rt:86:38
 create-loop-index-binding-plan-requires : tie.Need-create-loop-index-binding-plan-requires
 create-loop-index-binding-plan-requires c κs = search needs
 
--- src/operations.rt:97:32
 enum-known-operation-6 : tie.Need-enum-known-operation-6
 enum-known-operation-6 c = search needs
 
--- src/operations.rt:97:51
 create-parameter-binding-plan-requires : tie.Need-create-parameter-binding-plan-requires
 create-parameter-binding-plan-requires c κs = search needs
 
--- src/operations.rt:17:1
 same-length : tie.Need-same-length
 same-length c = search needs
 
--- src/operations.rt:17:1
 returns : tie.Need-returns
 unfolding operationOutcome
 returns c = search (by-case, needs)
 
--- src/operations.rt:17:1
 same-length-2 : tie.Need-same-length-2
 same-length-2 c = search needs
 
--- src/operations.rt:17:1
 returns-2 : tie.Need-returns-2
 unfolding operationOutcome
 returns-2 c = search (by-case, needs)
 
--- src/operations.rt:17:1
 same-length-3 : tie.Need-same-length-3
 same-length-3 c = search needs
 
--- src/operations.rt:17:1
 returns-3 : tie.Need-returns-3
 unfolding operationOutcome
 returns-3 c = search (by-case, needs)
 
--- src/operations.rt:17:1
 same-length-4 : tie.Need-same-length-4
 same-length-4 c = search needs
 
--- src/operations.rt:17:1
 returns-4 : tie.Need-returns-4
 unfolding operationOutcome
 returns-4 c = search (by-case, needs)
 
--- src/operations.rt:17:1
 same-length-5 : tie.Need-same-length-5
 same-length-5 c = search needs
 
--- src/operations.rt:17:1
 returns-5 : tie.Need-returns-5
 unfolding operationOutcome
 returns-5 c = search (by-case, needs)
 
--- src/operations.rt:17:1
 same-length-6 : tie.Need-same-length-6
 same-length-6 c = search needs
 
--- src/operations.rt:17:1
 returns-6 : tie.Need-returns-6
 unfolding operationOutcome
 returns-6 c = search (by-case, needs)

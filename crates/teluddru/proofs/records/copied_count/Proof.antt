@@ -4,11 +4,9 @@ use Rattle.teluddru.proofs.records.copied_count.Tie as tie
 use Rattle.teluddru.proofs.records.copied_count.Reads as reads
 use Rattle.teluddru.proofs.records.copied_count.Lts as lts
 
--- src/records.rt:15:1
 returns : tie.Need-returns
 returns c = omega arith
 
--- src/records.rt:15:1
 returns-2 : tie.Need-returns-2
 returns-2 c = omega arith
 

@@ -50,7 +50,7 @@ use denote.Triple.Walked.{says, Stays, stay-none-slice, walkOf, goes-none-slice,
 use denote.Exit.{yes}
 use Rattle.teluddru.specs.declared.Name.{Name}
 use Rattle.teluddru.specs.declared.records.NameWords.{NameWords}
-use Rattle.teluddru.specs.Records.{nameAt}
+use Rattle.teluddru.specs.code.Copying.{nameAt}
 use Rattle.teluddru.proofs.Name as T
 use Rattle.teluddru.proofs.Name.Laws as T′
 use Rattle.teluddru.proofs.records.NameWords as N

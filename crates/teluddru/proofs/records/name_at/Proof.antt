@@ -37,7 +37,7 @@ use denote.Triple.Table.{entered}
 use denote.Triple.Walked.{says, needs, Stays, stay-none, stay-none-slice, walkOf, goes-none, goes-none-slice, Walks, ends-at, walked, walk-meets}
 use denote.Exit.{yes}
 use Rattle.teluddru.specs.declared.Name.{Name}
-use Rattle.teluddru.specs.Records.{none}
+use Rattle.teluddru.specs.code.Copying.{none}
 use Rattle.teluddru.proofs.Name as T
 use Rattle.teluddru.proofs.Name.Laws as T′
 use Rattle.teluddru.proofs.records.name_at.Key.{name as #name-at}

@@ -5,31 +5,24 @@ use Rattle.teluddru.proofs.records.put_pair.Tie as tie
 use Rattle.teluddru.proofs.records.put_pair.Reads as reads
 use Rattle.teluddru.proofs.records.put_pair.Lts as lts
 
--- src/records.rt:26:14
 mul-at : tie.Need-mul-at
 mul-at c = search needs
 
--- src/records.rt:27:5
 mul-words : tie.Need-mul-words
 mul-words c = search needs
 
--- src/records.rt:27:5
 element-write-words : tie.Need-element-write-words
 element-write-words c = search needs
 
--- src/records.rt:28:11
 add-words : tie.Need-add-words
 add-words c = search needs
 
--- src/records.rt:28:5
 mul-words-2 : tie.Need-mul-words-2
 mul-words-2 c = search needs
 
--- src/records.rt:28:5
 element-write-words-2 : tie.Need-element-write-words-2
 element-write-words-2 c = search needs
 
--- src/records.rt:22:1
 returns : tie.Need-returns
 returns c = refl
 

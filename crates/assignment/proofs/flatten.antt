@@ -1,0 +1,3 @@
+pub mod PairSides
+pub mod FlatNodes
+pub mod FlatLoops

@@ -1,0 +1,2 @@
+pub mod PairShapes
+pub mod Judgements

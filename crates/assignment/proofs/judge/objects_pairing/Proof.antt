@@ -1,0 +1,26 @@
+use Rattle.assignment.proofs.judge.PairShapes.{objects-left, objects-right, objects-both}
+use borrow.Author.Needs.{needs}
+use Rattle.assignment.proofs.judge.objects_pairing.Statement.{statement}
+use Rattle.assignment.proofs.judge.objects_pairing.Tie as tie
+use Rattle.assignment.proofs.judge.objects_pairing.Reads as reads
+use Rattle.assignment.proofs.judge.objects_pairing.Lts as lts
+use Rattle.assignment.proofs.keys.literal_keys.Reads as literal-keys-reads
+
+literal-keys-requires : tie.Need-literal-keys-requires
+literal-keys-requires c κs = search needs
+
+returns : tie.Need-returns
+returns c = search (objects-left, needs)
+
+literal-keys-requires-2 : tie.Need-literal-keys-requires-2
+literal-keys-requires-2 c κs = search needs
+
+returns-2 : tie.Need-returns-2
+returns-2 c = search (objects-right, needs)
+
+returns-3 : tie.Need-returns-3
+returns-3 c = search (objects-both, needs)
+
+pub objects-pairing-spec : {M : Type 1} → statement M
+objects-pairing-spec =
+    tie.close (tie.spec literal-keys-requires returns literal-keys-requires-2 returns-2 returns-3)

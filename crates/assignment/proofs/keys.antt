@@ -1,0 +1,4 @@
+pub mod Partners
+pub mod KeySearch
+pub mod KeyLoops
+pub mod KeyAnswers

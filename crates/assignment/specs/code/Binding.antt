@@ -1,0 +1,47 @@
+-- What the functions of `assignment` ask and say.
+use Prim.Native.Nat.{ℕ}
+use mathlib.Core.Path.{_≡_}
+use mathlib.Core.Bool.{Bool, false, cond, _&&_}
+use mathlib.Core.List.{List, []}
+use lib.Dec.{eqb}
+use Rattle.scope.specs.declared.Scope.{Scope}
+use Rattle.scope.specs.declared.ScopingMode.the-variants.{AllowShadowing}
+use Rattle.base.specs.Lent.{Slices, old, new}
+use Rattle.table.specs.Tables.{Tables, tables, kindOf, firstOf}
+use Rattle.table.specs.Decode.{isWildcard}
+use Rattle.planner.specs.declared.PlanAnswer.{PlanAnswer}
+use Rattle.planner.specs.Layout.{entries}
+use Rattle.planner.specs.Entries.{putEntries}
+use Rattle.planner.specs.Operations.{Answered, AnsweredIn, planOf}
+use Rattle.planner.specs.code.Post.{GoodPair}
+use Rattle.assignment.specs.Assignment.{bindSide, colonEqualsPlanned, wildcardSide}
+use Rattle.assignment.specs.code.Previewing.{ReadAsks, sideEntries, SideWritten}
+
+-- a binding side with its plan in a scratch, and a value side
+pub record BindAsks (T : Tables) (binding value : ℕ) (scratch : List ℕ) (count : ℕ) : Type 0 where
+  pub pair : GoodPair T binding value
+  pub read : ReadAsks scratch count
+
+-- an array against an object, by the kinds of their nodes
+unfoldable pub opposedKinds : ℕ → ℕ → Bool
+opposedKinds left right = cond (eqb left 7) (eqb right 9) (cond (eqb left 9) (eqb right 7) false)
+
+-- is a node `_`? By its kind and its name
+unfoldable pub underscoreAt : List ℕ → List ℕ → List ℕ → ℕ → Bool
+underscoreAt nodes names text n = eqb (kindOf nodes n) 6 && isWildcard (tables nodes [] [] names [] text) (firstOf nodes n)
+
+abbrev pub underscoreSide : List ℕ → List ℕ → List ℕ → ℕ → ℕ → ℕ
+underscoreSide nodes names text left right = wildcardSide (underscoreAt nodes names text left) (underscoreAt nodes names text right)
+
+-- the right side's entries, planned by the states
+pub record RightBound (T : Tables) (states : List ℕ) (left right : ℕ) (start binders scratch before after : List ℕ) (r : PlanAnswer) : Type 0 where
+  pub answered : Answered (bindSide T 3 right left (sideEntries T states right)) before after r
+  pub written : SideWritten T states right start binders scratch
+
+abbrev pub RightBoundIn : Slices → Slices → Slices → Tables → List ℕ → ℕ → ℕ → PlanAnswer → Type 0
+RightBoundIn plan scratch binders T states left right r = RightBound T states left right (old scratch) (new binders) (new scratch) (old plan) (new plan) r
+
+-- `:=`: the left side's entries stay in the scratch
+abbrev pub ColonEqualsIn : Slices → Slices → Tables → Scope → ℕ → ℕ → PlanAnswer → Type 0
+ColonEqualsIn plan scratch T s left right r =
+    AnsweredIn plan (colonEqualsPlanned T s left right) r × (new scratch ≡ putEntries (old scratch) 0 (entries (planOf T s AllowShadowing left) 0))

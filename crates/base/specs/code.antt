@@ -1,0 +1,3 @@
+-- What only the code's proofs need.
+pub mod Insertion
+pub mod Search

@@ -1,0 +1,430 @@
+use Prim.Native.Nat.{_-_, _*_, ℕ, _<_}
+use Rattle.table.specs.Tables.{tables}
+use Rattle.checks.proofs.Checks.{kinds-differ, kinds-plain, ask-objects, arrays-mismatch, ask-items, arrays-done, CheckingItems, items-start, items-pattern-fits, items-value-fits, items-next, items-pair, items-below, items-on, items-stop, items-done, objects-empty, objects-unknown, ask-fields, objects-fields, objects-differ, CheckingFields, fields-start, fields-field, fields-on, fields-stop, fields-unknown, fields-match, field-double, field-place, field-next, ask-partner, field-alone, field-pair, field-below, field-done, object-falls, items-fall, fields-fall, field-falls, item-falls, child-falls}
+use borrow.Author.Needs.{needs}
+use borrow.Fn.Kinds.{In}
+use borrow.Fn.PlainCycle.{Measures, is, falls, and}
+use Rattle.checks.proofs.inner.check_field.Reads as check-field
+use Rattle.checks.proofs.inner.check_field.Kinds as check-field-kinds
+use Rattle.checks.proofs.inner.+check_field+check_fields+check_items+check_literal_structure+check_object.Lts-check_field as check-field-lts
+use Rattle.checks.proofs.inner.check_fields.Reads as check-fields
+use Rattle.checks.proofs.inner.check_fields.Kinds as check-fields-kinds
+use Rattle.checks.proofs.inner.+check_field+check_fields+check_items+check_literal_structure+check_object.Lts-check_fields as check-fields-lts
+use Rattle.checks.proofs.inner.check_items.Reads as check-items
+use Rattle.checks.proofs.inner.check_items.Kinds as check-items-kinds
+use Rattle.checks.proofs.inner.+check_field+check_fields+check_items+check_literal_structure+check_object.Lts-check_items as check-items-lts
+use Rattle.checks.proofs.inner.check_literal_structure.Reads as check-literal-structure
+use Rattle.checks.proofs.inner.check_literal_structure.Kinds as check-literal-structure-kinds
+use Rattle.checks.proofs.inner.+check_field+check_fields+check_items+check_literal_structure+check_object.Lts-check_literal_structure as check-literal-structure-lts
+use Rattle.checks.proofs.inner.check_object.Reads as check-object
+use Rattle.checks.proofs.inner.check_object.Kinds as check-object-kinds
+use Rattle.checks.proofs.inner.+check_field+check_fields+check_items+check_literal_structure+check_object.Lts-check_object as check-object-lts
+use Rattle.checks.proofs.texts.compare_keys.Reads as compare-keys-reads
+use Rattle.checks.proofs.inner.partner_of.Reads as partner-of-reads
+use Rattle.table.proofs.reading.child_at.Reads as child-at-reads
+use Rattle.table.proofs.reading.count_of.Reads as count-of-reads
+use Rattle.table.proofs.reading.first_of.Reads as first-of-reads
+use Rattle.table.proofs.reading.kind_of.Reads as kind-of-reads
+use Rattle.checks.proofs.inner.+check_field+check_fields+check_items+check_literal_structure+check_object.{
+  statement,
+}
+use Rattle.checks.proofs.inner.+check_field+check_fields+check_items+check_literal_structure+check_object.Tie.{
+  close,
+}
+
+abbrev μ-check-field : Measures 7 check-field-kinds.ps ℕ
+μ-check-field κs a = 4 * a .1 .1 .1 .1 .1 .1 .1 .0 - 3
+
+abbrev μ-check-fields : Measures 7 check-fields-kinds.ps ℕ
+μ-check-fields κs a = 4 * a .1 .1 .1 .1 .1 .1 .1 .0 - 2
+
+abbrev μ-check-items : Measures 6 check-items-kinds.ps ℕ
+μ-check-items κs a = 4 * a .1 .1 .1 .1 .1 .1 .0 - 2
+
+abbrev μ-check-literal-structure : Measures 6 check-literal-structure-kinds.ps ℕ
+μ-check-literal-structure κs a = 4 * a .1 .1 .1 .1 .1 .1 .1 .0
+
+abbrev μ-check-object : Measures 6 check-object-kinds.ps ℕ
+μ-check-object κs a = 4 * a .1 .1 .1 .1 .1 .1 .1 .0 - 1
+
+abbrev check-field-at : ℕ → In 7 check-field-kinds.ps
+check-field-at t =
+    and 7 check-field-kinds.ps (is 7 check-field-kinds.ps μ-check-field t) check-field.Pre
+
+abbrev check-field-below : ℕ → In 7 check-field-kinds.ps
+check-field-below t =
+    and 7 check-field-kinds.ps (falls 7 check-field-kinds.ps _<_ μ-check-field t) check-field.Pre
+
+abbrev check-fields-at : ℕ → In 7 check-fields-kinds.ps
+check-fields-at t =
+    and 7 check-fields-kinds.ps (is 7 check-fields-kinds.ps μ-check-fields t) check-fields.Pre
+
+abbrev check-fields-below : ℕ → In 7 check-fields-kinds.ps
+check-fields-below t =
+    and
+    7
+    check-fields-kinds.ps
+    (falls 7 check-fields-kinds.ps _<_ μ-check-fields t)
+    check-fields.Pre
+
+abbrev check-items-at : ℕ → In 6 check-items-kinds.ps
+check-items-at t =
+    and 6 check-items-kinds.ps (is 6 check-items-kinds.ps μ-check-items t) check-items.Pre
+
+abbrev check-items-below : ℕ → In 6 check-items-kinds.ps
+check-items-below t =
+    and 6 check-items-kinds.ps (falls 6 check-items-kinds.ps _<_ μ-check-items t) check-items.Pre
+
+abbrev check-literal-structure-at : ℕ → In 6 check-literal-structure-kinds.ps
+check-literal-structure-at t =
+    and
+    6
+    check-literal-structure-kinds.ps
+    (is 6 check-literal-structure-kinds.ps μ-check-literal-structure t)
+    check-literal-structure.Pre
+
+abbrev check-literal-structure-below : ℕ → In 6 check-literal-structure-kinds.ps
+check-literal-structure-below t =
+    and
+    6
+    check-literal-structure-kinds.ps
+    (falls 6 check-literal-structure-kinds.ps _<_ μ-check-literal-structure t)
+    check-literal-structure.Pre
+
+abbrev check-object-at : ℕ → In 6 check-object-kinds.ps
+check-object-at t =
+    and 6 check-object-kinds.ps (is 6 check-object-kinds.ps μ-check-object t) check-object.Pre
+
+abbrev check-object-below : ℕ → In 6 check-object-kinds.ps
+check-object-below t =
+    and
+    6
+    check-object-kinds.ps
+    (falls 6 check-object-kinds.ps _<_ μ-check-object t)
+    check-object.Pre
+
+abbrev check-field-calls : ℕ → check-field-lts.Claims
+check-field-calls t = (first-of-reads.Asked, first-of-reads.Learnt, child-at-reads.Asked, child-at-reads.Learnt, partner-of-reads.Asked, partner-of-reads.Learnt, check-literal-structure-below t, check-literal-structure.Post)
+
+abbrev check-fields-calls : ℕ → check-fields-lts.Claims
+check-fields-calls t = (count-of-reads.Asked, count-of-reads.Learnt, check-field-below t, check-field.Post)
+
+abbrev check-items-calls : ℕ → check-items-lts.Claims
+check-items-calls t = (child-at-reads.Asked, child-at-reads.Learnt, check-literal-structure-below t, check-literal-structure.Post)
+
+abbrev check-literal-structure-calls : ℕ → check-literal-structure-lts.Claims
+check-literal-structure-calls t = (kind-of-reads.Asked, kind-of-reads.Learnt, count-of-reads.Asked, count-of-reads.Learnt, first-of-reads.Asked, first-of-reads.Learnt, check-items-below t, check-items.Post, check-object-below t, check-object.Post)
+
+abbrev check-object-calls : ℕ → check-object-lts.Claims
+check-object-calls t = (compare-keys-reads.Asked, compare-keys-reads.Learnt, check-fields-below t, check-fields.Post)
+
+check-field-first-of-requires : (t : ℕ) → check-field-lts.Need-first-of-requires (check-field-calls t) (check-field-at t) check-field.Post
+check-field-first-of-requires t c κs = search needs
+
+check-field-cast-place : (t : ℕ) → check-field-lts.Need-cast-place (check-field-calls t) (check-field-at t) check-field.Post
+check-field-cast-place t c = search needs
+
+check-field-mul-place : (t : ℕ) → check-field-lts.Need-mul-place (check-field-calls t) (check-field-at t) check-field.Post
+check-field-mul-place t c = search (field-double, needs)
+
+check-field-add-place : (t : ℕ) → check-field-lts.Need-add-place (check-field-calls t) (check-field-at t) check-field.Post
+check-field-add-place t c = search (field-place, needs)
+
+check-field-child-at-requires : (t : ℕ) → check-field-lts.Need-child-at-requires (check-field-calls t) (check-field-at t) check-field.Post
+check-field-child-at-requires t c κs = search needs
+
+check-field-partner-of-requires : (t : ℕ) → check-field-lts.Need-partner-of-requires (check-field-calls t) (check-field-at t) check-field.Post
+check-field-partner-of-requires t c κs = search (ask-partner, needs)
+
+check-field-returns : (t : ℕ) → check-field-lts.Need-returns (check-field-calls t) (check-field-at t) check-field.Post
+check-field-returns t c = search (field-alone, needs)
+
+check-field-add-child-at : (t : ℕ) → check-field-lts.Need-add-child-at (check-field-calls t) (check-field-at t) check-field.Post
+check-field-add-child-at t c = search (field-next, needs)
+
+check-field-child-at-requires-2 : (t : ℕ) → check-field-lts.Need-child-at-requires-2 (check-field-calls t) (check-field-at t) check-field.Post
+check-field-child-at-requires-2 t c κs = search needs
+
+check-field-check-literal-structure-requires : (t : ℕ) → check-field-lts.Need-check-literal-structure-requires (check-field-calls t) (check-field-at t) check-field.Post
+check-field-check-literal-structure-requires t c κs =
+    let words = c .before .before .before .before in
+    let start = words .before .before .before .before .before .before .before in (
+      search (child-falls, field-below, needs),
+      field-pair (start .pre .1) (words .first-of .ensures) (c .before .before .before .child-at .ensures) (c .before .before .partner-of .ensures) (c .before .if1 .left) (c .child-at2 .ensures),
+    )
+
+check-field-returns-2 : (t : ℕ) → check-field-lts.Need-returns-2 (check-field-calls t) (check-field-at t) check-field.Post
+check-field-returns-2 t c = search (field-done, needs)
+
+abbrev check-fields-Inv-loop : check-fields-lts.InvT-loop
+check-fields-Inv-loop nodes children numbers names strings text pattern value order literals total count i₀ i = CheckingFields (tables nodes children numbers names strings text) pattern value order literals total count i
+
+abbrev check-fields-μ-loop : check-fields-lts.MeasureT-loop
+check-fields-μ-loop nodes children numbers names strings text pattern value order literals total count i₀ i = count - i
+
+check-fields-count-of-requires : (t : ℕ) → check-fields-lts.Need-count-of-requires (check-fields-calls t) (check-fields-at t) check-fields.Post check-fields-Inv-loop check-fields-μ-loop
+check-fields-count-of-requires t c κs = search needs
+
+check-fields-cast-count : (t : ℕ) → check-fields-lts.Need-cast-count (check-fields-calls t) (check-fields-at t) check-fields.Post check-fields-Inv-loop check-fields-μ-loop
+check-fields-cast-count t c = search needs
+
+check-fields-loop-holds : (t : ℕ) → check-fields-lts.Need-loop-holds (check-fields-calls t) (check-fields-at t) check-fields.Post check-fields-Inv-loop check-fields-μ-loop
+check-fields-loop-holds t c = search (fields-start, needs)
+
+check-fields-check-field-requires : (t : ℕ) → check-fields-lts.Need-check-field-requires (check-fields-calls t) (check-fields-at t) check-fields.Post check-fields-Inv-loop check-fields-μ-loop
+check-fields-check-field-requires t c κs = (search (field-falls, needs), fields-field (c .before .loop .inv) (c .loop-test .taken))
+
+check-fields-enum-told : (t : ℕ) → check-fields-lts.Need-enum-told (check-fields-calls t) (check-fields-at t) check-fields.Post check-fields-Inv-loop check-fields-μ-loop
+check-fields-enum-told t c = search needs
+
+check-fields-returns : (t : ℕ) → check-fields-lts.Need-returns (check-fields-calls t) (check-fields-at t) check-fields.Post check-fields-Inv-loop check-fields-μ-loop
+check-fields-returns t c = search (fields-stop, needs)
+
+check-fields-add-i : (t : ℕ) → check-fields-lts.Need-add-i (check-fields-calls t) (check-fields-at t) check-fields.Post check-fields-Inv-loop check-fields-μ-loop
+check-fields-add-i t c = search needs
+
+check-fields-loop-less : (t : ℕ) → check-fields-lts.Need-loop-less (check-fields-calls t) (check-fields-at t) check-fields.Post check-fields-Inv-loop check-fields-μ-loop
+check-fields-loop-less t c = search needs
+
+check-fields-loop-again : (t : ℕ) → check-fields-lts.Need-loop-again (check-fields-calls t) (check-fields-at t) check-fields.Post check-fields-Inv-loop check-fields-μ-loop
+check-fields-loop-again t c = search (fields-on, needs)
+
+check-fields-returns-2 : (t : ℕ) → check-fields-lts.Need-returns-2 (check-fields-calls t) (check-fields-at t) check-fields.Post check-fields-Inv-loop check-fields-μ-loop
+check-fields-returns-2 t c = search (fields-unknown, needs)
+
+check-fields-returns-3 : (t : ℕ) → check-fields-lts.Need-returns-3 (check-fields-calls t) (check-fields-at t) check-fields.Post check-fields-Inv-loop check-fields-μ-loop
+check-fields-returns-3 t c = search (fields-match, needs)
+
+abbrev check-items-Inv-loop : check-items-lts.InvT-loop
+check-items-Inv-loop nodes children numbers names strings text value at place left i₀ i = CheckingItems (tables nodes children numbers names strings text) value at place left i
+
+abbrev check-items-μ-loop : check-items-lts.MeasureT-loop
+check-items-μ-loop nodes children numbers names strings text value at place left i₀ i = left - i
+
+check-items-loop-holds : (t : ℕ) → check-items-lts.Need-loop-holds (check-items-calls t) (check-items-at t) check-items.Post check-items-Inv-loop check-items-μ-loop
+check-items-loop-holds t c = search (items-start, needs)
+
+check-items-add-child-at : (t : ℕ) → check-items-lts.Need-add-child-at (check-items-calls t) (check-items-at t) check-items.Post check-items-Inv-loop check-items-μ-loop
+check-items-add-child-at t c = search (items-pattern-fits, needs)
+
+check-items-child-at-requires : (t : ℕ) → check-items-lts.Need-child-at-requires (check-items-calls t) (check-items-at t) check-items.Post check-items-Inv-loop check-items-μ-loop
+check-items-child-at-requires t c κs = search needs
+
+check-items-add-child-at-2 : (t : ℕ) → check-items-lts.Need-add-child-at-2 (check-items-calls t) (check-items-at t) check-items.Post check-items-Inv-loop check-items-μ-loop
+check-items-add-child-at-2 t c = search (items-value-fits, needs)
+
+check-items-child-at-requires-2 : (t : ℕ) → check-items-lts.Need-child-at-requires-2 (check-items-calls t) (check-items-at t) check-items.Post check-items-Inv-loop check-items-μ-loop
+check-items-child-at-requires-2 t c κs = search needs
+
+check-items-check-literal-structure-requires : (t : ℕ) → check-items-lts.Need-check-literal-structure-requires (check-items-calls t) (check-items-at t) check-items.Post check-items-Inv-loop check-items-μ-loop
+check-items-check-literal-structure-requires t c κs = (search (item-falls, items-below, needs), search (items-pair, needs))
+
+check-items-enum-told : (t : ℕ) → check-items-lts.Need-enum-told (check-items-calls t) (check-items-at t) check-items.Post check-items-Inv-loop check-items-μ-loop
+check-items-enum-told t c = search needs
+
+check-items-returns : (t : ℕ) → check-items-lts.Need-returns (check-items-calls t) (check-items-at t) check-items.Post check-items-Inv-loop check-items-μ-loop
+check-items-returns t c = search (items-stop, needs)
+
+check-items-add-i : (t : ℕ) → check-items-lts.Need-add-i (check-items-calls t) (check-items-at t) check-items.Post check-items-Inv-loop check-items-μ-loop
+check-items-add-i t c = search (items-next, needs)
+
+check-items-loop-less : (t : ℕ) → check-items-lts.Need-loop-less (check-items-calls t) (check-items-at t) check-items.Post check-items-Inv-loop check-items-μ-loop
+check-items-loop-less t c = search needs
+
+check-items-loop-again : (t : ℕ) → check-items-lts.Need-loop-again (check-items-calls t) (check-items-at t) check-items.Post check-items-Inv-loop check-items-μ-loop
+check-items-loop-again t c = search (items-on, needs)
+
+check-items-returns-2 : (t : ℕ) → check-items-lts.Need-returns-2 (check-items-calls t) (check-items-at t) check-items.Post check-items-Inv-loop check-items-μ-loop
+check-items-returns-2 t c = search (items-done, needs)
+
+check-literal-structure-kind-of-requires : (t : ℕ) → check-literal-structure-lts.Need-kind-of-requires (check-literal-structure-calls t) (check-literal-structure-at t) check-literal-structure.Post
+check-literal-structure-kind-of-requires t c κs = search needs
+
+check-literal-structure-kind-of-requires-2 : (t : ℕ) → check-literal-structure-lts.Need-kind-of-requires-2 (check-literal-structure-calls t) (check-literal-structure-at t) check-literal-structure.Post
+check-literal-structure-kind-of-requires-2 t c κs = search needs
+
+check-literal-structure-returns : (t : ℕ) → check-literal-structure-lts.Need-returns (check-literal-structure-calls t) (check-literal-structure-at t) check-literal-structure.Post
+check-literal-structure-returns t c = search (kinds-differ, needs)
+
+check-literal-structure-count-of-requires : (t : ℕ) → check-literal-structure-lts.Need-count-of-requires (check-literal-structure-calls t) (check-literal-structure-at t) check-literal-structure.Post
+check-literal-structure-count-of-requires t c κs = search needs
+
+check-literal-structure-count-of-requires-2 : (t : ℕ) → check-literal-structure-lts.Need-count-of-requires-2 (check-literal-structure-calls t) (check-literal-structure-at t) check-literal-structure.Post
+check-literal-structure-count-of-requires-2 t c κs = search needs
+
+check-literal-structure-returns-2 : (t : ℕ) → check-literal-structure-lts.Need-returns-2 (check-literal-structure-calls t) (check-literal-structure-at t) check-literal-structure.Post
+check-literal-structure-returns-2 t c = search (arrays-mismatch, needs)
+
+check-literal-structure-first-of-requires : (t : ℕ) → check-literal-structure-lts.Need-first-of-requires (check-literal-structure-calls t) (check-literal-structure-at t) check-literal-structure.Post
+check-literal-structure-first-of-requires t c κs = search needs
+
+check-literal-structure-cast-at : (t : ℕ) → check-literal-structure-lts.Need-cast-at (check-literal-structure-calls t) (check-literal-structure-at t) check-literal-structure.Post
+check-literal-structure-cast-at t c = search needs
+
+check-literal-structure-first-of-requires-2 : (t : ℕ) → check-literal-structure-lts.Need-first-of-requires-2 (check-literal-structure-calls t) (check-literal-structure-at t) check-literal-structure.Post
+check-literal-structure-first-of-requires-2 t c κs = search needs
+
+check-literal-structure-cast-place : (t : ℕ) → check-literal-structure-lts.Need-cast-place (check-literal-structure-calls t) (check-literal-structure-at t) check-literal-structure.Post
+check-literal-structure-cast-place t c = search needs
+
+check-literal-structure-cast-check-items : (t : ℕ) → check-literal-structure-lts.Need-cast-check-items (check-literal-structure-calls t) (check-literal-structure-at t) check-literal-structure.Post
+check-literal-structure-cast-check-items t c = search needs
+
+check-literal-structure-check-items-requires : (t : ℕ) → check-literal-structure-lts.Need-check-items-requires (check-literal-structure-calls t) (check-literal-structure-at t) check-literal-structure.Post
+check-literal-structure-check-items-requires t c κs =
+    let sizes = c .before .before .before in
+    let kinds = sizes .before .before .before .before in
+    let start = kinds .before .before .before .before .before .before .before .before in (
+      search (items-fall, needs),
+      ask-items (start .pre .1) (kinds .before .kind-of .ensures) (kinds .kind-of2 .ensures) (sizes .before .before .before .if1 .left) (sizes .before .before .if2 .taken)
+          (sizes .before .count-of .ensures) (sizes .count-of2 .ensures) (c .before .before .if3 .left) (c .before .first-of .ensures) (c .first-of2 .ensures),
+    )
+
+check-literal-structure-returns-3 : (t : ℕ) → check-literal-structure-lts.Need-returns-3 (check-literal-structure-calls t) (check-literal-structure-at t) check-literal-structure.Post
+check-literal-structure-returns-3 t c = search (arrays-done, needs)
+
+check-literal-structure-check-object-requires : (t : ℕ) → check-literal-structure-lts.Need-check-object-requires (check-literal-structure-calls t) (check-literal-structure-at t) check-literal-structure.Post
+check-literal-structure-check-object-requires t c κs =
+    let kinds = c .before .before .before in
+    let start = kinds .before .before .before .before .before .before .before .before in
+    (search (object-falls, needs), ask-objects (start .pre .1) (kinds .before .kind-of .ensures) (kinds .kind-of2 .ensures) (c .before .before .if1 .left) (c .if4 .taken))
+
+check-literal-structure-returns-4 : (t : ℕ) → check-literal-structure-lts.Need-returns-4 (check-literal-structure-calls t) (check-literal-structure-at t) check-literal-structure.Post
+check-literal-structure-returns-4 t c = search needs
+
+check-literal-structure-returns-5 : (t : ℕ) → check-literal-structure-lts.Need-returns-5 (check-literal-structure-calls t) (check-literal-structure-at t) check-literal-structure.Post
+check-literal-structure-returns-5 t c = search (kinds-plain, needs)
+
+check-object-compare-keys-requires : (t : ℕ) → check-object-lts.Need-compare-keys-requires (check-object-calls t) (check-object-at t) check-object.Post
+check-object-compare-keys-requires t c κs = search needs
+
+check-object-returns : (t : ℕ) → check-object-lts.Need-returns (check-object-calls t) (check-object-at t) check-object.Post
+check-object-returns t c = search (objects-empty, needs)
+
+check-object-returns-2 : (t : ℕ) → check-object-lts.Need-returns-2 (check-object-calls t) (check-object-at t) check-object.Post
+check-object-returns-2 t c = search (objects-unknown, needs)
+
+check-object-check-fields-requires : (t : ℕ) → check-object-lts.Need-check-fields-requires (check-object-calls t) (check-object-at t) check-object.Post
+check-object-check-fields-requires t c κs = (search (fields-fall, needs), search (ask-fields, needs))
+
+check-object-returns-3 : (t : ℕ) → check-object-lts.Need-returns-3 (check-object-calls t) (check-object-at t) check-object.Post
+check-object-returns-3 t c = search (objects-fields, needs)
+
+check-object-returns-4 : (t : ℕ) → check-object-lts.Need-returns-4 (check-object-calls t) (check-object-at t) check-object.Post
+check-object-returns-4 t c = search (objects-differ, needs)
+
+pub +check-field+check-fields+check-items+check-literal-structure+check-object-spec :
+    {M : Type 1} → statement M
++check-field+check-fields+check-items+check-literal-structure+check-object-spec =
+    close
+    μ-check-field
+    μ-check-fields
+    μ-check-items
+    μ-check-literal-structure
+    μ-check-object
+    (λ t. check-field-lts.spec (
+      first-of-reads.Asked,
+      first-of-reads.Learnt,
+      child-at-reads.Asked,
+      child-at-reads.Learnt,
+      partner-of-reads.Asked,
+      partner-of-reads.Learnt,
+      check-literal-structure-below t,
+      check-literal-structure.Post,
+    )
+    (check-field-at t)
+    check-field.Post
+    (check-field-first-of-requires t)
+    (check-field-cast-place t)
+    (check-field-mul-place t)
+    (check-field-add-place t)
+    (check-field-child-at-requires t)
+    (check-field-partner-of-requires t)
+    (check-field-returns t)
+    (check-field-add-child-at t)
+    (check-field-child-at-requires-2 t)
+    (check-field-check-literal-structure-requires t)
+    (check-field-returns-2 t))
+    (λ t. check-fields-lts.spec (
+      count-of-reads.Asked,
+      count-of-reads.Learnt,
+      check-field-below t,
+      check-field.Post,
+    )
+    (check-fields-at t)
+    check-fields.Post
+    check-fields-Inv-loop
+    check-fields-μ-loop
+    (check-fields-count-of-requires t)
+    (check-fields-cast-count t)
+    (check-fields-loop-holds t)
+    (check-fields-check-field-requires t)
+    (check-fields-enum-told t)
+    (check-fields-returns t)
+    (check-fields-add-i t)
+    (check-fields-loop-less t)
+    (check-fields-loop-again t)
+    (check-fields-returns-2 t)
+    (check-fields-returns-3 t))
+    (λ t. check-items-lts.spec (
+      child-at-reads.Asked,
+      child-at-reads.Learnt,
+      check-literal-structure-below t,
+      check-literal-structure.Post,
+    )
+    (check-items-at t)
+    check-items.Post
+    check-items-Inv-loop
+    check-items-μ-loop
+    (check-items-loop-holds t)
+    (check-items-add-child-at t)
+    (check-items-child-at-requires t)
+    (check-items-add-child-at-2 t)
+    (check-items-child-at-requires-2 t)
+    (check-items-check-literal-structure-requires t)
+    (check-items-enum-told t)
+    (check-items-returns t)
+    (check-items-add-i t)
+    (check-items-loop-less t)
+    (check-items-loop-again t)
+    (check-items-returns-2 t))
+    (λ t. check-literal-structure-lts.spec (
+      kind-of-reads.Asked,
+      kind-of-reads.Learnt,
+      count-of-reads.Asked,
+      count-of-reads.Learnt,
+      first-of-reads.Asked,
+      first-of-reads.Learnt,
+      check-items-below t,
+      check-items.Post,
+      check-object-below t,
+      check-object.Post,
+    )
+    (check-literal-structure-at t)
+    check-literal-structure.Post
+    (check-literal-structure-kind-of-requires t)
+    (check-literal-structure-kind-of-requires-2 t)
+    (check-literal-structure-returns t)
+    (check-literal-structure-count-of-requires t)
+    (check-literal-structure-count-of-requires-2 t)
+    (check-literal-structure-returns-2 t)
+    (check-literal-structure-first-of-requires t)
+    (check-literal-structure-cast-at t)
+    (check-literal-structure-first-of-requires-2 t)
+    (check-literal-structure-cast-place t)
+    (check-literal-structure-cast-check-items t)
+    (check-literal-structure-check-items-requires t)
+    (check-literal-structure-returns-3 t)
+    (check-literal-structure-check-object-requires t)
+    (check-literal-structure-returns-4 t)
+    (check-literal-structure-returns-5 t))
+    λ t. check-object-lts.spec
+    (compare-keys-reads.Asked, compare-keys-reads.Learnt, check-fields-below t, check-fields.Post)
+    (check-object-at t)
+    check-object.Post
+    (check-object-compare-keys-requires t)
+    (check-object-returns t)
+    (check-object-returns-2 t)
+    (check-object-check-fields-requires t)
+    (check-object-returns-3 t)
+    (check-object-returns-4 t)

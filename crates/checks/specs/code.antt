@@ -1,0 +1,3 @@
+-- What the functions of the code make, and what they ask of their callers.
+pub mod Texts
+pub mod Post

@@ -1,0 +1,283 @@
+// A pattern held against a literal expression (utils.rs).
+ghost use Rattle.table.specs.Lent.{given, lent};
+ghost use mathlib.Core.Path.{_≡_};
+ghost use Rattle.table.specs.Decode.{expr, literalAt};
+ghost use Rattle.checks.specs.Structure.{held, structure, structureAll};
+ghost use Rattle.planner.specs.code.Post.{GoodPair};
+ghost use Rattle.checks.specs.code.Post.{itemsAt, ItemsAsk, ObjectsAsk, patternsOf, FieldsAsk, fieldsStructure, FieldAsks, fieldStructure, PartnerAsks, PartnerIs};
+use crate::LiteralStructureCheck;
+use crate::texts::compare_keys;
+use planner::fields::field_at;
+use planner::inner::fields::find_field;
+use table::Key;
+use table::reading::child_at;
+use table::reading::count_of;
+use table::reading::extract_literal_key;
+use table::reading::first_of;
+use table::reading::kind_of;
+
+// The pattern's node under a literal key equal to a value's, or 0.
+fn partner_of(
+    nodes: &[u32],
+    children: &[u32],
+    numbers: &[u64],
+    names: &[u32],
+    strings: &[u8],
+    text: &[u8],
+    pattern: u32,
+    order: &[u32; 256],
+    literals: usize,
+    key: u32,
+) -> u32
+    requires { ⌜ PartnerAsks (given nodes children numbers names strings text) pattern (now order) literals key ⌝ }
+    ensures { λ r. let T = lent nodes children numbers names strings text in ⌜ PartnerIs T (held (literalAt T key) (patternsOf T pattern .literals)) r ⌝ }
+{
+    let Key::Literal(_) = extract_literal_key(nodes, key) else {
+        return 0;
+    };
+    let first = first_of(nodes, pattern) as usize;
+    let found = find_field(
+        nodes,
+        children,
+        numbers,
+        names,
+        strings,
+        text,
+        first,
+        order,
+        literals,
+        key,
+    );
+    if found.equal {
+        return child_at(children, first + field_at(order, found.place) * 2 + 1);
+    }
+    0
+}
+
+// A pattern against a value: the first part that doesn't match decides.
+pub fn check_literal_structure(
+    nodes: &[u32],
+    children: &[u32],
+    numbers: &[u64],
+    names: &[u32],
+    strings: &[u8],
+    text: &[u8],
+    pattern: u32,
+    value: u32,
+) -> LiteralStructureCheck
+    requires { ⌜ GoodPair (given nodes children numbers names strings text) pattern value ⌝ }
+    ensures { λ r. let T = lent nodes children numbers names strings text in ⌜ r ≡ structure (expr T value) (expr T pattern) ⌝ }
+{
+    let kind = kind_of(nodes, value);
+    if kind_of(nodes, pattern) != kind {
+        return LiteralStructureCheck::Unknown;
+    }
+    if kind == 7 {
+        let expected = count_of(nodes, pattern);
+        let actual = count_of(nodes, value);
+        if actual != expected {
+            return LiteralStructureCheck::ArrayMismatch {
+                value,
+                expected,
+                actual,
+            };
+        }
+        let at = first_of(nodes, pattern) as usize;
+        let place = first_of(nodes, value) as usize;
+        return check_items(
+            nodes,
+            children,
+            numbers,
+            names,
+            strings,
+            text,
+            value,
+            at,
+            place,
+            actual as usize,
+        );
+    }
+    if kind == 9 {
+        return check_object(
+            nodes,
+            children,
+            numbers,
+            names,
+            strings,
+            text,
+            pattern,
+            value,
+        );
+    }
+    LiteralStructureCheck::Unknown
+}
+
+// Items of a pattern from child entry `at` on, and of a value from `place` on.
+fn check_items(
+    nodes: &[u32],
+    children: &[u32],
+    numbers: &[u64],
+    names: &[u32],
+    strings: &[u8],
+    text: &[u8],
+    value: u32,
+    at: usize,
+    place: usize,
+    left: usize,
+) -> LiteralStructureCheck
+    requires { ⌜ ItemsAsk (given nodes children numbers names strings text) value at place left ⌝ }
+    ensures { λ r. let T = lent nodes children numbers names strings text in ⌜ r ≡ structureAll (itemsAt T place left) (itemsAt T at left) ⌝ }
+{
+    let mut i: usize = 0;
+    while i < left {
+        let pattern = child_at(children, at + i);
+        let item = child_at(children, place + i);
+        let check = check_literal_structure(
+            nodes,
+            children,
+            numbers,
+            names,
+            strings,
+            text,
+            pattern,
+            item,
+        );
+        let LiteralStructureCheck::Match = check else {
+            return check;
+        };
+        i += 1;
+    }
+    LiteralStructureCheck::Match
+}
+
+// Two objects: their literal keys' texts first.
+fn check_object(
+    nodes: &[u32],
+    children: &[u32],
+    numbers: &[u64],
+    names: &[u32],
+    strings: &[u8],
+    text: &[u8],
+    pattern: u32,
+    value: u32,
+) -> LiteralStructureCheck
+    requires { ⌜ ObjectsAsk (given nodes children numbers names strings text) pattern value ⌝ }
+    ensures { λ r. let T = lent nodes children numbers names strings text in ⌜ r ≡ structure (expr T value) (expr T pattern) ⌝ }
+{
+    let mut order = [0u32; 256];
+    let keys = compare_keys(
+        nodes,
+        children,
+        numbers,
+        names,
+        strings,
+        text,
+        pattern,
+        value,
+        &mut order,
+    );
+    if keys.total == 0 {
+        return LiteralStructureCheck::Match;
+    }
+    if keys.literals == 0 {
+        return LiteralStructureCheck::Unknown;
+    }
+    if keys.same {
+        return check_fields(
+            nodes,
+            children,
+            numbers,
+            names,
+            strings,
+            text,
+            pattern,
+            value,
+            &order,
+            keys.literals,
+            keys.total,
+        );
+    }
+    LiteralStructureCheck::ObjectMismatch { value, pattern }
+}
+
+// A value's literal fields as written, each with the pattern's field of an equal key.
+fn check_fields(
+    nodes: &[u32],
+    children: &[u32],
+    numbers: &[u64],
+    names: &[u32],
+    strings: &[u8],
+    text: &[u8],
+    pattern: u32,
+    value: u32,
+    order: &[u32; 256],
+    literals: usize,
+    total: usize,
+) -> LiteralStructureCheck
+    requires { ⌜ FieldsAsk (given nodes children numbers names strings text) pattern value (now order) literals total ⌝ }
+    ensures { λ r. ⌜ r ≡ fieldsStructure (lent nodes children numbers names strings text) pattern value ⌝ }
+{
+    let count = count_of(nodes, value) as usize;
+    let mut i: usize = 0;
+    while i < count {
+        let check = check_field(
+            nodes,
+            children,
+            numbers,
+            names,
+            strings,
+            text,
+            pattern,
+            value,
+            order,
+            literals,
+            i,
+        );
+        let LiteralStructureCheck::Match = check else {
+            return check;
+        };
+        i += 1;
+    }
+    if literals < total {
+        return LiteralStructureCheck::Unknown;
+    }
+    LiteralStructureCheck::Match
+}
+
+// A field without a partner is passed over.
+fn check_field(
+    nodes: &[u32],
+    children: &[u32],
+    numbers: &[u64],
+    names: &[u32],
+    strings: &[u8],
+    text: &[u8],
+    pattern: u32,
+    value: u32,
+    order: &[u32; 256],
+    literals: usize,
+    i: usize,
+) -> LiteralStructureCheck
+    requires { ⌜ FieldAsks (given nodes children numbers names strings text) pattern value (now order) literals i ⌝ }
+    ensures { λ r. ⌜ r ≡ fieldStructure (lent nodes children numbers names strings text) pattern value i ⌝ }
+{
+    let place = first_of(nodes, value) as usize + i * 2;
+    let key = child_at(children, place);
+    let other = partner_of(
+        nodes,
+        children,
+        numbers,
+        names,
+        strings,
+        text,
+        pattern,
+        order,
+        literals,
+        key,
+    );
+    if other == 0 {
+        return LiteralStructureCheck::Match;
+    }
+    let child = child_at(children, place + 1);
+    check_literal_structure(nodes, children, numbers, names, strings, text, other, child)
+}

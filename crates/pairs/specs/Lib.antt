@@ -1,3 +1,0 @@
-pub mod Pairs
-pub mod Post
-pub mod PairsPromise

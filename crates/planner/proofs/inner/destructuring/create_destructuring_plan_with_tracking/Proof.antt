@@ -1,0 +1,27 @@
+use Rattle.planner.proofs.destructuring.Tracked.{tracked-room, tracked}
+use borrow.Author.Needs.{needs}
+use Rattle.planner.proofs.inner.destructuring.create_destructuring_plan_with_tracking.Statement.{
+  statement,
+}
+use Rattle.planner.proofs.inner.destructuring.create_destructuring_plan_with_tracking.Tie as tie
+use Rattle.planner.proofs.inner.destructuring.create_destructuring_plan_with_tracking.Reads as reads
+use Rattle.planner.proofs.inner.destructuring.create_destructuring_plan_with_tracking.Lts as lts
+use Rattle.planner.proofs.inner.destructuring.decide.Reads as decide-reads
+use Rattle.planner.proofs.inner.plans.lay_out.Reads as lay-out-reads
+
+decide-requires : tie.Need-decide-requires
+decide-requires c κs = search needs
+
+lay-out-requires : tie.Need-lay-out-requires
+lay-out-requires c κs = search (tracked-room, needs)
+
+-- src
+same-length : tie.Need-same-length
+same-length c = search needs
+
+returns : tie.Need-returns
+returns c = search (tracked, needs)
+
+pub create-destructuring-plan-with-tracking-spec : {M : Type 1} → statement M
+create-destructuring-plan-with-tracking-spec =
+    tie.close (tie.spec decide-requires lay-out-requires same-length returns)

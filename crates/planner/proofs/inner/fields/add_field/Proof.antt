@@ -1,0 +1,83 @@
+use Rattle.planner.proofs.fields.FieldLoops.{total-fits, literals-fit, ask-find, found-place, place-fits, added-computed, added-equal, added-new}
+use borrow.Author.Needs.{needs}
+use Rattle.planner.proofs.inner.fields.add_field.Statement.{statement}
+use Rattle.planner.proofs.inner.fields.add_field.Tie as tie
+use Rattle.planner.proofs.inner.fields.add_field.Reads as reads
+use Rattle.planner.proofs.inner.fields.add_field.Lts as lts
+use Rattle.planner.proofs.inner.fields.find_field.Reads as find-field-reads
+use Rattle.base.proofs.words.insert_at.Reads as insert-at-reads
+use Rattle.table.proofs.reading.child_at.Reads as child-at-reads
+use Rattle.table.proofs.reading.extract_literal_key.Reads as extract-literal-key-reads
+
+mul-child-at : tie.Need-mul-child-at
+mul-child-at c = search needs
+
+add-child-at : tie.Need-add-child-at
+add-child-at c = search needs
+
+child-at-requires : tie.Need-child-at-requires
+child-at-requires c κs = search needs
+
+extract-literal-key-requires : tie.Need-extract-literal-key-requires
+extract-literal-key-requires c κs = search needs
+
+enum-told : tie.Need-enum-told
+enum-told c = search needs
+
+enum-told-2 : tie.Need-enum-told-2
+enum-told-2 c = search needs
+
+insert-at-requires : tie.Need-insert-at-requires
+insert-at-requires c κs = search needs
+
+add-t23 : tie.Need-add-t23
+add-t23 c = search (total-fits, needs)
+
+returns : tie.Need-returns
+returns c = search (added-computed, needs)
+
+find-field-requires : tie.Need-find-field-requires
+find-field-requires c κs = search (ask-find, needs)
+
+mul-order : tie.Need-mul-order
+mul-order c = search (place-fits, needs)
+
+element-write-order : tie.Need-element-write-order
+element-write-order c = search (found-place, needs)
+
+returns-2 : tie.Need-returns-2
+returns-2 c = search (added-equal, needs)
+
+insert-at-requires-2 : tie.Need-insert-at-requires-2
+insert-at-requires-2 c κs = search needs
+
+add-t17 : tie.Need-add-t17
+add-t17 c = search (literals-fit, needs)
+
+add-t18 : tie.Need-add-t18
+add-t18 c = search (total-fits, needs)
+
+returns-3 : tie.Need-returns-3
+returns-3 c = search (added-new, needs)
+
+pub add-field-spec : {M : Type 1} → statement M
+add-field-spec =
+    tie.close
+    (tie.spec
+    mul-child-at
+    add-child-at
+    child-at-requires
+    extract-literal-key-requires
+    enum-told
+    enum-told-2
+    insert-at-requires
+    add-t23
+    returns
+    find-field-requires
+    mul-order
+    element-write-order
+    returns-2
+    insert-at-requires-2
+    add-t17
+    add-t18
+    returns-3)

@@ -1,0 +1,243 @@
+// The second pass: a plan's entries in plan order (plans.rs, destructuring.rs).
+ghost use Rattle.base.specs.Lent.{old};
+ghost use Rattle.table.specs.Lent.{given, lent};
+ghost use mathlib.Core.Path.{_≡_};
+ghost use Rattle.table.specs.Decode.{expr};
+ghost use Rattle.planner.specs.Entries.{WroteIn};
+ghost use Rattle.planner.specs.code.Passes.{nameEntryKind, leafEntryKind, layOut, layOutItems, layOutOrdered};
+ghost use Rattle.planner.specs.code.Post.{NameNumber, LayAsks, LayObjectAsks, LayItemsAsks, LayOrderedAsks};
+use crate::buffer::put_entry;
+use crate::fields::field_at;
+use crate::inner::fields::order_fields;
+use table::reading::child_at;
+use table::reading::count_of;
+use table::reading::first_of;
+use table::reading::kind_of;
+
+// `_` is ignored, a binder binds, any other name is compared.
+fn name_kind(states: &[u8; 128], binders: &[u32; 128], node: u32, name: u32) -> u32
+    requires { ⌜ NameNumber name ⌝ }
+    ensures { λ r. ⌜ r ≡ nameEntryKind (old states) (old binders) node name ⌝ }
+{
+    let at = name as usize - 1;
+    if states[at] == 2 {
+        return 2;
+    }
+    if binders[at] == node {
+        return 1;
+    }
+    3
+}
+
+// The kind of entry of a node that has no entries below it, names aside.
+fn leaf_kind(kind: u32) -> u32
+    ensures { λ r. ⌜ r ≡ leafEntryKind kind ⌝ }
+{
+    if kind <= 5 {
+        return 4;
+    }
+    3
+}
+
+// The entries of a node's plan from entry `at` on; the next entry's place.
+pub(crate) fn lay_out(
+    nodes: &[u32],
+    children: &[u32],
+    numbers: &[u64],
+    names: &[u32],
+    strings: &[u8],
+    text: &[u8],
+    states: &[u8; 128],
+    binders: &[u32; 128],
+    node: u32,
+    key: u32,
+    plan: &mut [u32],
+    at: usize,
+) -> usize
+    requires { ⌜ LayAsks (given nodes children numbers names strings text) (now states) (now binders) node key at ⌝ }
+    ensures { λ r. ⌜ WroteIn plan at (layOut (old binders) (expr (lent nodes children numbers names strings text) node) key) r ⌝ }
+{
+    let kind = kind_of(nodes, node);
+    let first = first_of(nodes, node);
+    if kind == 6 {
+        let bound = name_kind(states, binders, node, first);
+        put_entry(plan, at, bound, node, 0, key);
+        return at + 1;
+    }
+    if kind == 7 {
+        let count = count_of(nodes, node);
+        put_entry(plan, at, 5, node, count, key);
+        return lay_items(
+            nodes,
+            children,
+            numbers,
+            names,
+            strings,
+            text,
+            states,
+            binders,
+            node,
+            first as usize,
+            count as usize,
+            plan,
+            at + 1,
+        );
+    }
+    if kind == 9 {
+        return lay_object(
+            nodes,
+            children,
+            numbers,
+            names,
+            strings,
+            text,
+            states,
+            binders,
+            node,
+            key,
+            plan,
+            at,
+        );
+    }
+    put_entry(plan, at, leaf_kind(kind), node, 0, key);
+    at + 1
+}
+
+// An array's items, `left` of them from child entry `from` on.
+fn lay_items(
+    nodes: &[u32],
+    children: &[u32],
+    numbers: &[u64],
+    names: &[u32],
+    strings: &[u8],
+    text: &[u8],
+    states: &[u8; 128],
+    binders: &[u32; 128],
+    parent: u32,
+    from: usize,
+    left: usize,
+    plan: &mut [u32],
+    at: usize,
+) -> usize
+    requires { ⌜ LayItemsAsks (given nodes children numbers names strings text) (now states) (now binders) parent from left at ⌝ }
+    ensures { λ r. ⌜ WroteIn plan at (layOutItems (old binders) (lent nodes children numbers names strings text) from left) r ⌝ }
+{
+    let mut place = from;
+    let mut more = left;
+    let mut here = at;
+    while 0 < more {
+        let child = child_at(children, place);
+        here = lay_out(
+            nodes,
+            children,
+            numbers,
+            names,
+            strings,
+            text,
+            states,
+            binders,
+            child,
+            0,
+            plan,
+            here,
+        );
+        place += 1;
+        more -= 1;
+    }
+    here
+}
+
+fn lay_object(
+    nodes: &[u32],
+    children: &[u32],
+    numbers: &[u64],
+    names: &[u32],
+    strings: &[u8],
+    text: &[u8],
+    states: &[u8; 128],
+    binders: &[u32; 128],
+    node: u32,
+    key: u32,
+    plan: &mut [u32],
+    at: usize,
+) -> usize
+    requires { ⌜ LayObjectAsks (given nodes children numbers names strings text) (now states) (now binders) node key at ⌝ }
+    ensures { λ r. ⌜ WroteIn plan at (layOut (old binders) (expr (lent nodes children numbers names strings text) node) key) r ⌝ }
+{
+    let first = first_of(nodes, node) as usize;
+    let count = count_of(nodes, node) as usize;
+    let mut order = [0u32; 256];
+    let total = order_fields(
+        nodes,
+        children,
+        numbers,
+        names,
+        strings,
+        text,
+        first,
+        count,
+        &mut order,
+    );
+    put_entry(plan, at, 6, node, total, key);
+    lay_fields(
+        nodes,
+        children,
+        numbers,
+        names,
+        strings,
+        text,
+        states,
+        binders,
+        node,
+        first,
+        &order,
+        total as usize,
+        plan,
+        at + 1,
+    )
+}
+
+// An object's fields by `order`, the first `total` of its field numbers.
+fn lay_fields(
+    nodes: &[u32],
+    children: &[u32],
+    numbers: &[u64],
+    names: &[u32],
+    strings: &[u8],
+    text: &[u8],
+    states: &[u8; 128],
+    binders: &[u32; 128],
+    parent: u32,
+    first: usize,
+    order: &[u32; 256],
+    total: usize,
+    plan: &mut [u32],
+    at: usize,
+) -> usize
+    requires { ⌜ LayOrderedAsks (given nodes children numbers names strings text) (now states) (now binders) parent first (now order) total at ⌝ }
+    ensures { λ r. ⌜ WroteIn plan at (layOutOrdered (old binders) (lent nodes children numbers names strings text) first (old order) 0 total) r ⌝ }
+{
+    let mut q: usize = 0;
+    let mut here = at;
+    while q < total {
+        let place = first + field_at(order, q) * 2;
+        let key = child_at(children, place);
+        let value = child_at(children, place + 1);
+        here = lay_out(
+            nodes,
+            children,
+            numbers,
+            names,
+            strings,
+            text,
+            states,
+            binders,
+            value,
+            key,
+            plan,
+            here,
+        );
+        q += 1;
+    }
+    here
+}

@@ -1,0 +1,70 @@
+-- What the functions of a run ask of their caller and say.
+use Prim.Native.Nat.{ℕ, _≤_}
+use mathlib.Core.Path.{_≡_}
+use mathlib.Core.Bool.{Bool, true, _&&_}
+use mathlib.Core.List.{List, []}
+use lib.ListN.{length, replicate}
+use Rattle.base.specs.Refusal.{passed}
+use Rattle.scope.specs.declared.Scope.{Scope}
+use Rattle.scope.specs.declared.ScopingMode.{ScopingMode}
+use Rattle.scope.specs.Scope.{isUnbound, known}
+use Rattle.base.specs.Lent.{Slices, old, new}
+use Rattle.table.specs.Tables.{Tables, nameCount}
+use Rattle.table.specs.Expr.{Expr}
+use Rattle.table.specs.Decode.{expr}
+use Rattle.table.specs.Check.{checked}
+use Rattle.table.specs.code.Sound.{Node}
+use Rattle.planner.specs.Plan.{plan}
+use Rattle.planner.specs.Layout.{entries}
+use Rattle.planner.specs.Operations.{planOf}
+use Rattle.planner.specs.code.Post.{Laid, PatternPlanned}
+use Rattle.planner.specs.Simple.{simple, mentions}
+use Rattle.value.specs.Value.{isValue}
+use Rattle.run.specs.declared.RunAnswer.{RunAnswer}
+use Rattle.run.specs.Answer.{resultOf}
+use Rattle.run.specs.Operations.{valuesListed, knownListed, carriedOut, ran, runChecked, carriedResult, setNames, plannedName, Ran}
+
+-- a run that no check refused
+pub record RunAsks (T : Tables) (s : Scope) (mode : ScopingMode) (pattern value : ℕ) (values : List ℕ) : Type 0 where
+  pub sound : checked T s ≡ passed
+  pub pattern-node : Node T pattern
+  pub value-node : Node T value
+  pub long : nameCount T ≤ length values
+  pub isSimple : simple (expr T pattern) ≡ true
+  pub aValue : isValue (expr T value) ≡ true
+  pub listedValues : valuesListed T values ≡ true
+  pub knownValues : knownListed T (known s mode) (expr T pattern) values ≡ true
+
+-- its plan stands first in the scratch
+pub record MatchValuesAsks (T : Tables) (s : Scope) (mode : ScopingMode) (scratch : List ℕ) (count value : ℕ) (values : List ℕ) : Type 0 where
+  pub root : ℕ
+  pub asks : RunAsks T s mode root value values
+  pub laid : Laid (replicate 2048 0) 0 (entries (plan (isUnbound s mode) (expr T root) []) 0) scratch count
+
+-- a run binds the names of the pattern that are unbound
+abbrev pub toBind : (ℕ → Bool) → Expr → ℕ → Bool
+toBind unbound e x = mentions x e && unbound x
+
+-- what a run from the values in the list came to, whatever pattern the entries are the plan of
+pub record ValuesCame (T : Tables) (s : Scope) (mode : ScopingMode) (scratch : List ℕ) (count : ℕ) (binders : List ℕ) (value : ℕ) (before after : List ℕ) (r : RunAnswer) : Type 0 where
+  pub each : (root : ℕ) → RunAsks T s mode root value before → PatternPlanned T s mode root 0 (replicate 2048 0) binders scratch count
+      → (resultOf r ≡ carriedResult (ran T s mode root value before)) × (after ≡ setNames (toBind (isUnbound s mode) (expr T root)) (ran T s mode root value before) before)
+
+-- a run of a table that passed the check, with roots in it and a list that is long enough
+pub record CheckedAsks (T : Tables) (s : Scope) (pattern value : ℕ) (values : List ℕ) : Type 0 where
+  pub sound : checked T s ≡ passed
+  pub pattern-node : Node T pattern
+  pub value-node : Node T value
+  pub long : nameCount T ≤ length values
+
+-- The same of `&mut` parameters, at entry and at exit: what the values came to, a plan carried out, a run of such a table.
+abbrev pub ValuesCameIn : Slices → Tables → Scope → ScopingMode → List ℕ → ℕ → List ℕ → ℕ → RunAnswer → Type 0
+ValuesCameIn values T s mode scratch count binders value r = ValuesCame T s mode scratch count binders value (old values) (new values) r
+
+abbrev pub CarriedIn : Slices → Slices → Tables → Scope → ScopingMode → ℕ → ℕ → RunAnswer → Type 0
+CarriedIn values plan T s mode pattern value r =
+    Ran (plannedName (known s mode) (expr T pattern)) (carriedOut (entries (planOf T s mode pattern) 0) (ran T s mode pattern value (old values))) (old values) (old plan) (new values) (new plan) r
+
+abbrev pub CheckedIn : Slices → Slices → Tables → Scope → ScopingMode → ℕ → ℕ → RunAnswer → Type 0
+CheckedIn values plan T s mode pattern value r =
+    Ran (plannedName (known s mode) (expr T pattern)) (runChecked T s mode pattern value (old values)) (old values) (old plan) (new values) (new plan) r

@@ -1,0 +1,6 @@
+-- What only the code's proofs need.
+pub mod Marks
+pub mod Depths
+pub mod Passes
+pub mod NameOrder
+pub mod Sound

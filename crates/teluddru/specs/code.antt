@@ -1,0 +1,2 @@
+-- What the functions of the code make, and what they ask of their callers.
+pub mod Copying
