@@ -9,6 +9,9 @@
 extern "C" {
 #endif
 
+/* CHANGELOG.md says what a version changed. */
+#define TELUDDRU_VERSION "0.1.0"
+
 /* Sizes that always suffice: no well-formed sheet is longer than the first, no listing longer than the second (a line and 1,536 entries of 25 bytes). */
 #define TELUDDRU_SHEET_BYTES 51914
 #define TELUDDRU_LISTING_BYTES 38425

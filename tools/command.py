@@ -4,15 +4,17 @@ import argparse
 import os
 import subprocess
 import sys
+from contextlib import suppress
 from dataclasses import replace
 from pathlib import Path
 
+from hints import hint_of
 from listing import ListingError, Refusal, read_listing
 from refusals import refusal_in_words
 from rule_text import Operation, Rule, read_rule
 from sheet import ALLOW_SHADOWING, RESPECT_PARENT, Scope, Sheet, sheet_of
 from source import marked, shown
-from tokens import RuleTextError, TokenKind, read_tokens
+from tokens import COMMENT, RuleTextError
 from words import plan_in_words
 
 PLANNED = 0
@@ -47,13 +49,17 @@ expressions:
   minus before other than a number, comprehensions, all in parentheses, (x) too.
   Inside the brackets of these, text need only be balanced, and names there are
   not the planner's. Calls and references are written without blanks.
+  # starts a comment, up to the line's end; lines of comment alone may stand
+  before and after the rule. A rule that begins with - stands behind --, all
+  options before it: plan_rule --bound x -- '-1=x'
 
 scope:
   NAMES are parted by commas; each option may stand more than once, and the
   marks of a name add up. A name without marks is unbound.
 
 exit status:
-  0 planned, 1 refused by the planner, 2 no answer (rule text, usage, plansheet)
+  0 planned, 1 refused by the planner, 2 no answer (rule text, usage, plansheet,
+  output that can't be written)
 """
 
 
@@ -62,23 +68,49 @@ class NoAnswer(Exception):
 
 
 def main(arguments: list[str]) -> int:
-    options = argument_parser().parse_args(arguments)
-    text = rule_bytes(options.rule)
+    """The exit status; output that can't be written is no answer."""
     try:
-        sheet = sheet_of(rule_of(text, options.operation), scope_of(text, options))
+        if sys.stdout is None:
+            raise OSError("standard output is closed")
+        status = said(arguments)
+        sys.stdout.flush()
+        return status
+    except OSError as error:
+        complain(f"the output can't be written: {error.strerror or error}")
+        return NO_ANSWER
+
+
+def said(arguments: list[str]) -> int:
+    """Says the answer, or why there is none, and returns the exit status."""
+    text = b""
+    try:
+        options = argument_parser().parse_args(arguments)
+        text = rule_bytes(options.rule)
+        sheet = sheet_of(rule_of(text, options.operation), scope_of(options))
+        check_names(sheet, options)
+        if options.operation is None:
+            complain(hint_of(sheet))
         if options.sheet:
             sys.stdout.buffer.write(sheet.to_bytes())
             return PLANNED
         status, words = answer(sheet, Path(options.plansheet))
     except RuleTextError as error:
-        print(f"bad rule text: {error}", file=sys.stderr)
-        print(marked(text, error.start, error.end), file=sys.stderr)
+        complain(f"bad rule text: {error}\n{marked(text, error.start, error.end)}")
         return NO_ANSWER
     except NoAnswer as error:
-        print(error, file=sys.stderr)
+        complain(str(error))
         return NO_ANSWER
+    except SystemExit as end:
+        return PLANNED if end.code == 0 else NO_ANSWER
     print(words, end="")
     return status
+
+
+def complain(message: str) -> None:
+    """Says what is no answer; where it can't be said, the exit status alone tells."""
+    with suppress(OSError):
+        if message:
+            print(message, file=sys.stderr, flush=True)
 
 
 def argument_parser() -> argparse.ArgumentParser:
@@ -132,9 +164,17 @@ def add_scope_options(parser: argparse.ArgumentParser) -> None:
 
 
 def rule_bytes(argument: str) -> bytes:
-    if argument != "-":
-        return os.fsencode(argument)
-    return sys.stdin.buffer.read().removesuffix(b"\n").removesuffix(b"\r")
+    """The rule's line, without lines of comment alone around it."""
+    text = standard_input() if argument == "-" else os.fsencode(argument)
+    lines = [line for line in text.splitlines() if line.strip() and line.lstrip()[:1] != COMMENT]
+    return text if len(lines) > 1 else b"".join(lines)
+
+
+def standard_input() -> bytes:
+    try:
+        return sys.stdin.buffer.read() if sys.stdin else b""
+    except OSError as error:
+        raise NoAnswer(f"standard input can't be read: {error.strerror}") from None
 
 
 def rule_of(text: bytes, chosen: str | None) -> Rule:
@@ -146,20 +186,28 @@ def rule_of(text: bytes, chosen: str | None) -> Rule:
     return replace(rule, operation=OPERATIONS[chosen])
 
 
-def scope_of(text: bytes, options: argparse.Namespace) -> Scope:
-    """The scope that the options say; every name of theirs must stand in the rule."""
-    names = {token.text for token in read_tokens(text) if token.kind is TokenKind.NAME}
+def scope_of(options: argparse.Namespace) -> Scope:
+    """The scope that the options say."""
     marks: dict[bytes, int] = {}
     for option, mark in MARKS.items():
-        for name in listed_names(vars(options)[option]):
-            if os.fsencode(name) not in names:
-                raise NoAnswer(f"{option_text(option)}: the rule has no name `{shown(name)}`")
+        for name in listed_names(options, option):
             marks[os.fsencode(name)] = marks.get(os.fsencode(name), 0) | mark
     return Scope(marks, options.scheduler, SCOPINGS[options.scoping])
 
 
-def listed_names(lists: list[str]) -> list[str]:
-    return [name.strip() for names in lists for name in names.split(",")]
+def check_names(sheet: Sheet, options: argparse.Namespace) -> None:
+    """Every name of the options is one of the rule."""
+    for option in MARKS:
+        for name in listed_names(options, option):
+            if os.fsencode(name) not in sheet.names:
+                raise NoAnswer(
+                    f"{option_text(option)}: the rule has no name `{shown(name)}` (names inside"
+                    " an expression that is taken whole are not the planner's)"
+                )
+
+
+def listed_names(options: argparse.Namespace, option: str) -> list[str]:
+    return [name.strip() for names in vars(options)[option] for name in names.split(",")]
 
 
 def option_text(option: str) -> str:
@@ -178,12 +226,12 @@ def answer(sheet: Sheet, plansheet: Path) -> tuple[int, str]:
 
 
 def listing_of(sheet: Sheet, plansheet: Path) -> bytes:
-    if not plansheet.exists():
-        raise NoAnswer(
-            f"there is no {plansheet}: build it with `rt check plansheet`, or name another with"
-            " --plansheet or the variable PLANSHEET (--sheet does without)"
-        )
     try:
+        if not plansheet.exists():
+            raise NoAnswer(
+                f"there is no {plansheet}: build it with `rt check plansheet`, or name another"
+                " with --plansheet or the variable PLANSHEET (--sheet does without)"
+            )
         run = subprocess.run(
             [str(plansheet.resolve())],
             input=sheet.to_bytes(),

@@ -18,7 +18,10 @@ LIMITS = {
 
 @dataclass(frozen=True)
 class Meaning:
-    """The Rust's name of a refusal, its meaning, and what its place and its counts are."""
+    """The Rust's name of a refusal, its meaning, and what its place and its counts are.
+
+    In `place`, {side} stands for the rule's side that the place is or stands in.
+    """
 
     title: str
     meaning: str
@@ -35,7 +38,7 @@ MEANINGS = {
         "tables broken",
         "the tables of the sheet break their rules (from rule text: a name longer than 255 bytes)",
     ),
-    3: Meaning("too deep", "arrays, sets and objects stand inside each other more than 32 deep"),
+    3: Meaning("too deep", "more than 32 levels, the innermost item counted"),
     4: Meaning("name twice", "the sheet lists a name twice, which no rule text leads to"),
     5: Meaning("no root", "the sheet names a node that it hasn't, which no rule text leads to"),
     6: Meaning(
@@ -87,7 +90,7 @@ MEANINGS = {
         "IncompatibleDestructuringPatterns",
         "the sides can't be matched: an array meets an object, or both sides bind here and are not"
         " two arrays, or two objects with literal keys",
-        "the binding side; where both bind, the left",
+        "{side}",
     ),
 }
 
@@ -96,7 +99,8 @@ def refusal_in_words(sheet: Sheet, refusal: Refusal) -> str:
     meaning = MEANINGS.get(refusal.number, UNKNOWN)
     lines = [f"refused, {refusal.number} {meaning.title}: {meaning.meaning}"]
     if refusal.place:
-        lines.append(marked_node(sheet, refusal.place, meaning.place))
+        label = meaning.place.format(side=side_in_words(sheet, refusal.place))
+        lines.append(marked_node(sheet, refusal.place, label))
     first, _ = refusal.counts
     if meaning.node_in_first_count and 1 <= first <= len(sheet.nodes):
         lines.append(marked_node(sheet, first, meaning.node_in_first_count))
@@ -110,6 +114,13 @@ def refusal_in_words(sheet: Sheet, refusal: Refusal) -> str:
 def marked_node(sheet: Sheet, number: int, label: str) -> str:
     node = sheet.node(number)
     return marked(sheet.text, node.start, node.end, label)
+
+
+def side_in_words(sheet: Sheet, number: int) -> str:
+    """Which side of `=` or `:=` a node is, or is a part of: the left side's nodes come first."""
+    left, right, _ = sheet.roots
+    side = "the left side" if number <= left else "the right side"
+    return side if number in (left, right) else f"in {side}"
 
 
 def over_limits(sheet: Sheet) -> list[str]:

@@ -7,6 +7,7 @@ inside the brackets of a call, a reference, a comprehension or in parentheses ne
 
 from dataclasses import dataclass
 from enum import IntEnum
+from typing import NamedTuple
 
 from tokens import RuleTextError, Token, TokenKind, read_tokens
 
@@ -37,8 +38,7 @@ class Operation(IntEnum):
     PARAMETER = 6
 
 
-@dataclass(frozen=True)
-class Expression:
+class Expression(NamedTuple):
     """An expression and its bytes; the items of an object are key, value, key, value .."""
 
     kind: Kind
@@ -251,7 +251,8 @@ class Reader:
 
     def peek(self, ahead: int = 0) -> Token:
         """The next token, or one after it; behind the last there are only ends."""
-        return self.tokens[min(self.place + ahead, len(self.tokens) - 1)]
+        place = self.place + ahead
+        return self.tokens[place] if place < len(self.tokens) else self.tokens[-1]
 
     def next(self, count: int = 1) -> Token:
         """Goes over tokens and returns the last of them."""

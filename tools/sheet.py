@@ -51,7 +51,7 @@ class Sheet:
     children: list[int] = field(default_factory=list)
     numbers: list[int] = field(default_factory=list)
     names: dict[bytes, Name] = field(default_factory=dict)
-    strings: bytes = b""
+    strings: bytearray = field(default_factory=bytearray)
 
     def counts(self) -> dict[str, int]:
         """Line 1."""
@@ -80,7 +80,7 @@ class Sheet:
 
 
 def columns(*numbers: int) -> str:
-    return "".join(f"{number:{COLUMN}}" for number in numbers) + "\n"
+    return f"%{COLUMN}d" * len(numbers) % numbers + "\n"
 
 
 def sheet_of(rule: Rule, scope: Scope) -> Sheet:
@@ -157,7 +157,8 @@ def number_value(text: bytes, start: int) -> int:
     end = start + len(text)
     digits = text.removeprefix(b"-")
     if not digits.isdigit():
-        raise RuleTextError("this number is not written as a whole one", start, end)
+        message = f"this number is not written as a whole one: {whole_number_hint(text.decode())}"
+        raise RuleTextError(message, start, end)
     if digits != b"0" and digits.startswith(b"0"):
         raise RuleTextError("a number has no leading zeros", start, end)
     if text == b"-0":
@@ -165,6 +166,22 @@ def number_value(text: bytes, start: int) -> int:
     if len(digits) > NUMBER_COLUMN or not -(2**63) <= int(text) < 2**63:
         raise RuleTextError("this number has more than 64 signed bits", start, end)
     return int(text)
+
+
+def whole_number_hint(text: str) -> str:
+    """What to write instead of a number with a point or an exponent."""
+    if len(text) > NUMBER_COLUMN or "e" in text.lower():
+        return "write it without point and exponent"
+    whole, _, fraction = text.partition(".")
+    fraction = fraction.rstrip("0")
+    counted = int(whole + fraction)
+    if not fraction:
+        return f"write {counted}"
+    smaller = 10 ** len(fraction)
+    return (
+        f"write {counted} and count in a unit {smaller} times smaller,"
+        f" or write ({text}), which is compared whole"
+    )
 
 
 def string_value(text: bytes, start: int) -> bytes:

@@ -1,8 +1,8 @@
 """The tokens of a line of rule text, with their places in bytes."""
 
 import re
-from dataclasses import dataclass
 from enum import Enum
+from typing import NamedTuple
 
 from source import part
 
@@ -25,8 +25,7 @@ class TokenKind(Enum):
     END = "end"
 
 
-@dataclass(frozen=True)
-class Token:
+class Token(NamedTuple):
     kind: TokenKind
     start: int
     end: int
@@ -39,7 +38,9 @@ class Token:
         return f"`{part(self.text, 0, len(self.text))}`"
 
 
+KINDS = {kind.value: kind for kind in TokenKind}
 BLANKS = re.compile(rb"[ \t]*")
+COMMENT = b"#"
 TOKEN = re.compile(
     rb"""
     (?P<name>[A-Za-z_][A-Za-z0-9_]*)
@@ -53,18 +54,17 @@ TOKEN = re.compile(
 
 
 def read_tokens(text: bytes) -> list[Token]:
-    """All tokens, the end of the rule as the last."""
+    """All tokens, the end of the rule as the last; it ends at a comment, or with the text."""
     check_line(text)
     tokens = []
     place = after_blanks(text, 0)
-    while place < len(text):
+    while place < len(text) and not text.startswith(COMMENT, place):
         found = TOKEN.match(text, place)
         if found is None:
             raise no_token(text, place)
-        kind = TokenKind(found.lastgroup)
-        tokens.append(Token(kind, found.start(), found.end(), found.group()))
+        tokens.append(Token(KINDS[found.lastgroup], *found.span(), found.group()))
         place = after_blanks(text, found.end())
-    tokens.append(Token(TokenKind.END, len(text), len(text), b""))
+    tokens.append(Token(TokenKind.END, place, place, b""))
     return tokens
 
 

@@ -1,4 +1,4 @@
-"""Runs the command; what needs a planner is skipped where none is built."""
+"""Runs the command; what needs a planner is skipped where none is built and PLANSHEET names none."""
 
 import io
 import os
@@ -6,6 +6,7 @@ import subprocess
 import sys
 import unittest
 from pathlib import Path
+from typing import BinaryIO
 from unittest import mock
 
 from command import BUILT, main
@@ -13,11 +14,12 @@ from tests.test_sheet import EXAMPLE
 
 COMMAND = Path(__file__).parent.parent / "plan_rule"
 PLANSHEET = Path(os.environ.get("PLANSHEET") or BUILT)
+SKIPPED = not os.environ.get("PLANSHEET") and not BUILT.exists()
 NO_PLANNER = f"there is no {PLANSHEET} (`rt check plansheet` builds it)"
 
 
 def setUpModule() -> None:
-    if not PLANSHEET.exists():
+    if SKIPPED:
         print(f"\n{NO_PLANNER}: the tests with the planner are skipped", file=sys.stderr)
 
 
@@ -34,6 +36,18 @@ def run(*arguments: str, text: bytes = b"") -> tuple[int | str | None, str, str]
         except SystemExit as end:
             status = end.code
     return status, written(output), written(errors)
+
+
+def script_run(
+    *arguments: str,
+    stdout: BinaryIO,
+    stderr: BinaryIO | int = subprocess.PIPE,
+    environment: dict[str, str],
+) -> subprocess.CompletedProcess[bytes]:
+    """Runs the script itself, in an environment of these variables and the PATH."""
+    path = {"PATH": os.environ["PATH"]}
+    command = [sys.executable, COMMAND, *arguments]
+    return subprocess.run(command, stdout=stdout, stderr=stderr, env=path | environment)
 
 
 def written(text: io.TextIOWrapper) -> str:
@@ -71,15 +85,57 @@ class WithoutPlanner(unittest.TestCase):
         self.assertEqual(status, 2)
         self.assertIn("listing of /bin/cat", error)
 
+    def test_unwritable_output(self) -> None:
+        unwritable = "the output can't be written: No space left on device\n"
+        for buffered in ({}, {"PYTHONUNBUFFERED": "1"}):
+            with self.subTest(buffered=buffered), open("/dev/full", "wb") as full:
+                script = script_run("--sheet", "x", stdout=full, environment=buffered)
+                self.assertEqual((script.returncode, script.stderr.decode()), (2, unwritable))
+                script = script_run("[x y]", stdout=full, stderr=full, environment=buffered)
+                self.assertEqual(script.returncode, 2)
+
+    def test_closed_output(self) -> None:
+        closed = ["sh", "-c", '"$@" >&-', "sh", sys.executable, COMMAND, "--sheet", "x"]
+        script = subprocess.run(closed, capture_output=True)
+        self.assertEqual(script.returncode, 2)
+        self.assertEqual(script.stderr, b"the output can't be written: standard output is closed\n")
+
+    def test_names_that_the_rule_has_not(self) -> None:
+        for option in ("--bound", "--bound-here", "--unbound", "--local", "--global"):
+            for text, name in (("x", "y"), ("[x, f(y)]", "y"), ("[x, true]", "true"), ("x", "")):
+                with self.subTest(option=option, text=text, name=name):
+                    status, printed, error = run("--sheet", option, f"x,{name}", text)
+                    self.assertEqual((status, printed), (2, ""))
+                    self.assertTrue(error.startswith(f"{option}: the rule has no name `{name}` "))
+
+    def test_rule_that_begins_with_a_minus(self) -> None:
+        status, printed, _ = run("--sheet", "--bound", "x", "--", "-1=x")
+        self.assertEqual((status, printed[-4:]), (0, "-1=x"))
+        self.assertIn("begins with - stands behind --", run("--help")[1])
+
+    def test_lines_of_comment(self) -> None:
+        lines = b"# flush sides\n\n[w, w] = [18, 16] # both\r\n  # no more\n"
+        status, printed, _ = run("--sheet", "-", text=lines)
+        self.assertEqual((status, printed[-24:]), (0, "[w, w] = [18, 16] # both"))
+        status, _, error = run("--sheet", "-", text=b"# two\nx = 1\ny = 1\n")
+        self.assertEqual((status, error.splitlines()[0][-12:]), (2, "it ends here"))
+        self.assertEqual(run("--sheet", "# none")[0], 2)
+
+    def test_hint_at_a_comparison(self) -> None:
+        hint = "hint: `==` compares and binds nothing; to match both sides, write: {}\n"
+        self.assertEqual(run("--sheet", "x == [y]")[2], hint.format("x = [y]"))
+        for text in ("f(x == y)", "[x == y]", "x", "x = y == z", "x != y"):
+            self.assertEqual(run("--sheet", text)[2], "")
+        self.assertEqual(run("--sheet", "--as", "index", "x == y")[2], "")
+
     def test_usage(self) -> None:
-        self.assertEqual(run("--bound", "y", "x")[0], 2)
         self.assertEqual(run("--as", "index", "x = 1")[0], 2)
         self.assertEqual(run("--scoping", "none", "x")[0], 2)
         self.assertEqual(run("--help")[0], 0)
         self.assertEqual(run()[0], 2)
 
 
-@unittest.skipUnless(PLANSHEET.exists(), NO_PLANNER)
+@unittest.skipIf(SKIPPED, NO_PLANNER)
 class WithPlanner(unittest.TestCase):
     def plan(self, *arguments: str) -> tuple[int | str | None, list[str]]:
         status, words, error = run("--plansheet", str(PLANSHEET), *arguments)
@@ -105,7 +161,23 @@ class WithPlanner(unittest.TestCase):
         self.assertEqual(self.plan(*bound, "--as", "index")[1][1], "planned as an index")
 
     def test_refusal_of_tables(self) -> None:
-        self.assertEqual(self.plan("[" * 33 + "]" * 33)[1][0][:19], "refused, 3 too deep")
+        expected = "refused, 3 too deep: more than 32 levels, the innermost item counted"
+        self.assertEqual(self.plan("[" * 33 + "]" * 33), (1, [expected]))
+        self.assertEqual(self.plan("[" * 32 + "x" + "]" * 32), (1, [expected]))
+        self.assertEqual(self.plan("[" * 31 + "x" + "]" * 31)[0], 0)
+
+    def test_side_of_18(self) -> None:
+        sides = {
+            "[x] := {}": "the left side",
+            "{} = [x]": "the right side",
+            "x = y": "the left side",
+            "[1, x] = [1, y]": "in the left side",
+        }
+        for text, side in sides.items():
+            with self.subTest(text=text):
+                status, lines = self.plan(text)
+                self.assertEqual((status, lines[0][:11]), (1, "refused, 18"))
+                self.assertEqual(lines[2].lstrip(" ^"), side)
 
 
 if __name__ == "__main__":

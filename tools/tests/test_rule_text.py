@@ -108,6 +108,10 @@ class Rules(unittest.TestCase):
         self.check("some v in [1, 2]", Operation.SOME_IN, "v", "[1, 2]", None)
         self.check("some k, [v] in xs", Operation.SOME_IN, "[v]", "xs", "k")
 
+    def test_comments(self) -> None:
+        self.check('x = "#" # = 1 [', Operation.EQUALS, "x", '"#"', None)
+        self.check("[x, `#`]#", Operation.PATTERN, "[x, `#`]", None, None)
+
     def test_depth(self) -> None:
         self.assertEqual(read_rule(b"[" * 63 + b"x" + b"]" * 63).first.kind, Kind.ARRAY)
         with self.assertRaisesRegex(RuleTextError, "64 levels"):
@@ -156,6 +160,10 @@ class BadRuleText(unittest.TestCase):
         with self.assertRaisesRegex(RuleTextError, "UTF-8") as caught:
             read_rule(b'"\xff"')
         self.assertEqual((caught.exception.start, caught.exception.end), (1, 2))
+
+    def test_comments(self) -> None:
+        self.check("x = # 1", "    ^", "expected an expression, found the end of the rule")
+        self.check("f(# x)", " ^", "this has no closing `)` before the end of the rule")
 
     def test_tabs_and_wide_characters(self) -> None:
         self.check("\t[x\ty]", "    ^", "expected `,` or `]`, found `y`")

@@ -1,8 +1,9 @@
+import time
 import unittest
 from dataclasses import replace
 
-from rule_text import Operation, read_rule
-from sheet import ALLOW_SHADOWING, Scope, Sheet, sheet_of
+from rule_text import Kind, Operation, read_rule
+from sheet import ALLOW_SHADOWING, Scope, Sheet, Writer, sheet_of
 from tokens import RuleTextError
 
 # Document 01, "Sheet".
@@ -16,7 +17,6 @@ EXAMPLE = b"""\
      2
      1     1     0
 [x, x]"""
-
 
 
 def sheet(text: str, scope: Scope = Scope()) -> Sheet:
@@ -114,7 +114,30 @@ class Numbers(unittest.TestCase):
             self.assertEqual((caught.exception.start, caught.exception.end), (1, 1 + len(text)))
 
 
+    def test_hint_at_a_number_that_is_not_whole(self) -> None:
+        hints = {
+            "18.5": "write 185 and count in a unit 10 times smaller, or write (18.5), which is",
+            "-0.50": "write -5 and count in a unit 10 times smaller, or write (-0.50), which is",
+            "18.00": "write 18",
+            "1e3": "write it without point and exponent",
+            "1." + "5" * 5000: "write it without point and exponent",
+        }
+        for text, hint in hints.items():
+            with self.subTest(text=text), self.assertRaises(RuleTextError) as caught:
+                sheet(f"[{text}]")
+            self.assertIn(f"not written as a whole one: {hint}", str(caught.exception))
+        self.assertEqual(sheet("(18.5)").nodes[0].kind, Kind.OTHER)
+
+
 class Strings(unittest.TestCase):
+    def test_many_strings_take_linear_time(self) -> None:
+        """Some 10 ms; where each string copies all before it, several seconds."""
+        writer = Writer(Sheet(b"", Operation.PATTERN, Scope()))
+        start = time.process_time()
+        for _ in range(40_000):
+            writer.string(b"x" * 100)
+        self.assertLess(time.process_time() - start, 1)
+
     def test_escapes(self) -> None:
         found = sheet(r'"\"\\\/\b\f\n\r\t\u0041\ud83d\ude00"').strings
         self.assertEqual(found, '"\\/\b\f\n\r\tA\U0001f600'.encode())

@@ -14,7 +14,7 @@ use Rattle.planner.specs.Operations.{Outcome, refused, planned, patternOutcome,
 use Rattle.assignment.specs.declared.AssignOp.the-variants.{ColEq, Eq}
 use Rattle.assignment.specs.Assignment.{assignmentOutcome}
 use Rattle.some_in.specs.SomeIn.{someInOutcome}
-use Rattle.sheet.specs.declared.operation.Operation.{Operation}
+use Rattle.sheet.specs.declared.header.Operation.{Operation}
 use Rattle.sheet.specs.Sheet.{Sheet, Parsed, unparsed, parsed, parse, scopeOf, scopingOf}
 
 -- 1 pattern, 2 `:=`, 3 `=`, 4 some-in, 5 index, 6 parameter

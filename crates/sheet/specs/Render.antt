@@ -12,7 +12,7 @@ use Rattle.table.specs.Check.{checked}
 use Rattle.table.specs.Rules.{withinLimits, wholeRecords, numberOk}
 use Rattle.table.specs.Tables.{Tables, nodeCount, numberCount, nameCount}
 use Rattle.columns.specs.Columns.{writeColumn, writeSigned}
-use Rattle.sheet.specs.declared.operation.Operation.{Operation}
+use Rattle.sheet.specs.declared.header.Operation.{Operation}
 use Rattle.sheet.specs.Sheet.{operationOk, Sheet, parsed, parse}
 
 -- columns of six, then LF

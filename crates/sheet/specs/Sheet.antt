@@ -11,38 +11,47 @@ use Rattle.scope.specs.declared.Scope.{Scope}
 use Rattle.scope.specs.declared.ScopingMode.{ScopingMode}
 use Rattle.scope.specs.declared.ScopingMode.the-variants.{RespectParent, AllowShadowing}
 use Rattle.table.specs.Tables.{Tables, tables}
-use Rattle.sheet.specs.declared.layout.Counts.{Counts}
-use Rattle.sheet.specs.declared.layout.Places.{Places}
-use Rattle.sheet.specs.declared.operation.Operation.{Operation}
-use Rattle.sheet.specs.Lines.{numberAt, isLine, linesOk, numberLinesOk, wordAt, numberWord}
+use Rattle.sheet.specs.declared.header.Counts.{Counts}
+use Rattle.sheet.specs.declared.header.Operation.{Operation}
+use Rattle.sheet.specs.Lines.{numberIn, columnPlace, lineLength, numberLineLength, isLine, linesOk, numberLinesOk, wordAt, numberWord}
+
+-- Lines 1 and 2 have six columns each; then come the nodes.
+abbrev pub line1 : ℕ
+line1 = 0
+
+abbrev pub line2 : ℕ
+line2 = line1 + lineLength 6
+
+abbrev pub nodesPlace : ℕ
+nodesPlace = line2 + lineLength 6
 
 abbrev pub countsOf : List ℕ → Counts
 countsOf sheet =
     record {
-      nodes = numberAt sheet 0;
-      children = numberAt sheet 6;
-      numbers = numberAt sheet 12;
-      names = numberAt sheet 18;
-      strings = numberAt sheet 24;
-      text = numberAt sheet 30;
+      nodes = numberIn sheet line1 0;
+      children = numberIn sheet line1 1;
+      numbers = numberIn sheet line1 2;
+      names = numberIn sheet line1 3;
+      strings = numberIn sheet line1 4;
+      text = numberIn sheet line1 5;
     }
 
 -- Limits: 512 nodes, 512 child entries, 256 numbers, 128 names, 8,192 string bytes, 16,384 text bytes.
 unfoldable pub withinLimits : Counts → Bool
 withinLimits c = countsWithinLimits (c .nodes) (c .children) (c .numbers) (c .names) (c .strings) (c .text)
 
--- Where the parts begin, and where the sheet ends: two lines of six columns, then lines of five, of one, of one of twenty, and of three.
+-- Where the other parts begin, and where the sheet ends: nodes are lines of five columns, children of one, numbers of one of twenty, names of three.
 abbrev pub childrenPlace : Counts → ℕ
-childrenPlace c = 74 + c .nodes * 31
+childrenPlace c = nodesPlace + c .nodes * lineLength 5
 
 abbrev pub numbersPlace : Counts → ℕ
-numbersPlace c = childrenPlace c + c .children * 7
+numbersPlace c = childrenPlace c + c .children * lineLength 1
 
 abbrev pub namesPlace : Counts → ℕ
-namesPlace c = numbersPlace c + c .numbers * 21
+namesPlace c = numbersPlace c + c .numbers * numberLineLength
 
 abbrev pub stringsPlace : Counts → ℕ
-stringsPlace c = namesPlace c + c .names * 19
+stringsPlace c = namesPlace c + c .names * lineLength 3
 
 abbrev pub textPlace : Counts → ℕ
 textPlace c = stringsPlace c + c .strings
@@ -50,35 +59,27 @@ textPlace c = stringsPlace c + c .strings
 abbrev pub endPlace : Counts → ℕ
 endPlace c = textPlace c + c .text
 
-abbrev pub placesOf : Counts → Places
-placesOf c =
-    record {
-      children = childrenPlace c;
-      numbers = numbersPlace c;
-      names = namesPlace c;
-      strings = stringsPlace c;
-      text = textPlace c;
-      end = endPlace c;
-    }
-
 abbrev pub operationOf : List ℕ → Operation
 operationOf sheet =
     record {
-      number = numberAt sheet 37;
-      scheduler = numberAt sheet 43;
-      scoping = numberAt sheet 49;
-      first = numberAt sheet 55;
-      second = numberAt sheet 61;
-      key = numberAt sheet 67;
+      number = numberIn sheet line2 0;
+      scheduler = numberIn sheet line2 1;
+      scoping = numberIn sheet line2 2;
+      first = numberIn sheet line2 3;
+      second = numberIn sheet line2 4;
+      key = numberIn sheet line2 5;
     }
 
 -- operations 1 to 6, scheduler 0 or 1, scoping 1 or 2, whether or not the operation reads it
 unfoldable pub operationOk : Operation → Bool
 operationOk o = (leb 1 (o .number) && leb (o .number) 6) && (leb (o .scheduler) 1 && (leb 1 (o .scoping) && leb (o .scoping) 2))
 
--- marks are 0 to 31
+-- the marks of name x, which are 0 to 31, are column 2 of its line
+abbrev pub markWord : List ℕ → ℕ → ℕ → ℕ
+markWord sheet at x = wordAt sheet (columnPlace at 2) (lineLength 3) 1 x
+
 abbrev pub markOk : List ℕ → ℕ → ℕ → Bool
-markOk sheet at x = leb (wordAt sheet (at + 12) 19 1 x) 31
+markOk sheet at x = leb (markWord sheet at x) 31
 
 abbrev pub marksOk : List ℕ → ℕ → ℕ → Bool
 marksOk sheet at count = allFrom (markOk sheet at) 0 count
@@ -87,29 +88,29 @@ marksOk sheet at count = allFrom (markOk sheet at) 0 count
 unfoldable pub layoutOk : List ℕ → Counts → Bool
 layoutOk sheet c =
     eqb (length sheet) (endPlace c)
-    && (isLine sheet 37 6
+    && (isLine sheet line2 6
     && (operationOk (operationOf sheet)
-    && (linesOk sheet 74 5 (c .nodes)
+    && (linesOk sheet nodesPlace 5 (c .nodes)
     && (linesOk sheet (childrenPlace c) 1 (c .children)
     && (numberLinesOk sheet (numbersPlace c) (c .numbers)
     && (linesOk sheet (namesPlace c) 3 (c .names)
     && marksOk sheet (namesPlace c) (c .names)))))))
 
--- The tables. A name's line has its start and length, then its marks.
+-- The tables. A name's words are columns 0 and 1 of its line: start and length.
 abbrev pub nodesOf : List ℕ → Counts → List ℕ
-nodesOf sheet c = tabulate (wordAt sheet 74 31 5) 0 (c .nodes * 5)
+nodesOf sheet c = tabulate (wordAt sheet nodesPlace (lineLength 5) 5) 0 (c .nodes * 5)
 
 abbrev pub childrenOf : List ℕ → Counts → List ℕ
-childrenOf sheet c = tabulate (wordAt sheet (childrenPlace c) 7 1) 0 (c .children)
+childrenOf sheet c = tabulate (wordAt sheet (childrenPlace c) (lineLength 1) 1) 0 (c .children)
 
 abbrev pub numbersOf : List ℕ → Counts → List ℕ
 numbersOf sheet c = tabulate (numberWord sheet (numbersPlace c)) 0 (c .numbers * 2)
 
 abbrev pub namesOf : List ℕ → Counts → List ℕ
-namesOf sheet c = tabulate (wordAt sheet (namesPlace c) 19 2) 0 (c .names * 2)
+namesOf sheet c = tabulate (wordAt sheet (namesPlace c) (lineLength 3) 2) 0 (c .names * 2)
 
 abbrev pub marksOf : List ℕ → Counts → List ℕ
-marksOf sheet c = tabulate (wordAt sheet (namesPlace c + 12) 19 1) 0 (c .names)
+marksOf sheet c = tabulate (markWord sheet (namesPlace c)) 0 (c .names)
 
 abbrev pub stringsOf : List ℕ → Counts → List ℕ
 stringsOf sheet c = part sheet (stringsPlace c) (c .strings)
@@ -142,7 +143,7 @@ abbrev pub parsedBy : List ℕ → Counts → Parsed
 parsedBy sheet c = require (withinLimits c) overLimit (require (layoutOk sheet c) layoutBroken (parsed (sheetOf sheet c)))
 
 unfoldable pub parse : List ℕ → Parsed
-parse sheet = require (isLine sheet 0 6) layoutBroken (parsedBy sheet (countsOf sheet))
+parse sheet = require (isLine sheet line1 6) layoutBroken (parsedBy sheet (countsOf sheet))
 
 -- The scope. Planning tells `_` by its bytes, so the scope's number of `_` makes no difference, and is 0.
 abbrev pub scopeOf : Operation → List ℕ → Scope

@@ -7,11 +7,20 @@ ghost use Rattle.base.specs.Refusal.{line};
 ghost use Rattle.planner.specs.Answer.{lineOf};
 ghost use Rattle.planner.specs.Entries.{entryAt};
 ghost use Rattle.columns.specs.Columns.{stored};
-ghost use Rattle.sheet.specs.Listing.{entryLine, lineBytes, linesBytes, Printed};
-ghost use Rattle.sheet.specs.code.Post.{rowLine, writePair, entriesIn, entryLines, answerLines, EntriesAsked, refusalLine};
+ghost use Rattle.sheet.specs.Lines.{columnPlace, lineLength};
+ghost use Rattle.sheet.specs.Listing.{entryLine, lineBytes, linesBytes};
+ghost use Rattle.sheet.specs.code.Post.{rowLine, writePair, entriesIn, entryLines, answerLines, EntriesAsked, PrintedIn, refusalBytes};
+use crate::lines::COLUMN;
 use columns::write::write_column;
 use planner::PlanAnswer;
 use table::refusal_number;
+
+// Two columns; where the LF stands in a line; a line.
+const PAIR: usize = 2 * COLUMN;
+
+const FEED: usize = 4 * COLUMN;
+
+const LINE: usize = FEED + 1;
 
 // The numbers of a line.
 pub(crate) struct Row {
@@ -77,20 +86,20 @@ fn entries_in(row: Row) -> usize
 
 // Two columns side by side.
 fn write_pair(out: &mut [u8], at: usize, left: u64, right: u64)
-    requires { ⌜ at + 12 ≤ length (now out) ⌝ }
+    requires { ⌜ columnPlace at 2 ≤ length (now out) ⌝ }
     ensures { λ _. ⌜ new out ≡ stored (old out) at (writePair left right) ⌝ }
 {
     write_column(out, at, left);
-    write_column(out, at + 6, right);
+    write_column(out, at + COLUMN, right);
 }
 
 fn write_row(out: &mut [u8], at: usize, row: Row)
-    requires { ⌜ at + 25 ≤ length (now out) ⌝ }
+    requires { ⌜ at + lineLength 4 ≤ length (now out) ⌝ }
     ensures { λ _. ⌜ new out ≡ stored (old out) at (lineBytes (rowLine row)) ⌝ }
 {
     write_pair(out, at, row.number, row.second);
-    write_pair(out, at + 12, row.third, row.fourth);
-    out[at + 24] = 10;
+    write_pair(out, at + PAIR, row.third, row.fourth);
+    out[at + FEED] = 10;
 }
 
 fn word_of(plan: &[u32], i: usize) -> u64
@@ -118,11 +127,11 @@ fn entry_row(plan: &[u32], i: usize) -> Row
 // The entries of the plan, after the answer's line.
 fn write_entries(out: &mut [u8], plan: &[u32], count: usize)
     requires { ⌜ EntriesAsked (now out) (now plan) count ⌝ }
-    ensures { λ _. ⌜ new out ≡ stored (old out) 25 (linesBytes (entryLines (old plan) 0 count)) ⌝ }
+    ensures { λ _. ⌜ new out ≡ stored (old out) (lineLength 4) (linesBytes (entryLines (old plan) 0 count)) ⌝ }
 {
     let mut i: usize = 0;
     while i < count {
-        write_row(out, 25 + i * 25, entry_row(plan, i));
+        write_row(out, LINE + i * LINE, entry_row(plan, i));
         i += 1;
     }
 }
@@ -140,38 +149,22 @@ fn clear(out: &mut [u8])
 // The answer and its plan in the output, if they fit. How many bytes were written.
 pub(crate) fn write_lines(out: &mut [u8], first: Row, plan: &[u32]) -> usize
     requires { ⌜ entriesIn (rowLine first) * 4 ≤ length (now plan) ⌝ }
-    ensures { λ r. ⌜ Printed (linesBytes (answerLines (rowLine first) (old plan))) (old out) (new out) r ⌝ }
+    ensures { λ r. ⌜ PrintedIn out (linesBytes (answerLines (rowLine first) (old plan))) r ⌝ }
 {
     clear(out);
     let count = entries_in(first);
-    if out.len() / 25 <= count {
+    if out.len() / LINE <= count {
         return 0;
     }
     write_row(out, 0, first);
     write_entries(out, plan, count);
-    count * 25 + 25
+    count * LINE + LINE
 }
 
-fn copy_bytes(from: &[u8], out: &mut [u8])
-    requires { ⌜ length (now out) ≡ length (now from) ⌝ }
-    ensures { λ _. ⌜ new out ≡ old from ⌝ }
-{
-    let mut i: usize = 0;
-    while i < out.len() {
-        out[i] = from[i];
-        i += 1;
-    }
-}
-
-// A refusal that has no place and no counts: a line of its number and three zeros.
+// A refusal that has no place and no counts.
 pub(crate) fn refuse(number: u64, out: &mut [u8]) -> usize
-    ensures { λ r. ⌜ Printed (refusalLine number) (old out) (new out) r ⌝ }
+    ensures { λ r. ⌜ PrintedIn out (refusalBytes number) r ⌝ }
 {
-    clear(out);
-    if out.len() < 25 {
-        return 0;
-    }
-    write_column(out, 0, number);
-    copy_bytes(b"     0     0     0\n", &mut out[6..25]);
-    25
+    let no_plan = [0u32; 1];
+    write_lines(out, row_from(number, 0, 0, 0), &no_plan)
 }

@@ -1,10 +1,10 @@
-// Line 2, and the operation that it names.
-ghost use Rattle.table.specs.Lent.{lent};
+// The operation that line 2 names.
 ghost use mathlib.Core.Path.{_≡_};
 ghost use Rattle.planner.specs.Operations.{AnsweredIn};
-ghost use Rattle.sheet.specs.Sheet.{operationOk, scopingOf};
-ghost use Rattle.sheet.specs.code.Post.{operationIn};
+ghost use Rattle.table.specs.Lent.{lent};
+ghost use Rattle.sheet.specs.Sheet.{scopingOf};
 ghost use Rattle.sheet.specs.Listing.{operated};
+use crate::header::Operation;
 use assignment::AssignOp;
 use assignment::assignment::create_assignment_binding_plan;
 use planner::PlanAnswer;
@@ -14,47 +14,6 @@ use planner::parameters::create_parameter_binding_plan;
 use scope::Scope;
 use scope::ScopingMode;
 use some_in::create_some_in_binding_plan;
-
-// The roots: first (left, pattern or value pattern), second (right or collection), some-in key.
-pub(crate) struct Operation {
-    pub number: u32,
-    pub scheduler: u32,
-    pub scoping: u32,
-    pub first: u32,
-    pub second: u32,
-    pub key: u32,
-}
-
-pub(crate) fn operation_of(line: [u32; 6]) -> Operation
-    ensures { λ r. ⌜ r ≡ operationIn line ⌝ }
-{
-    Operation {
-        number: line[0],
-        scheduler: line[1],
-        scoping: line[2],
-        first: line[3],
-        second: line[4],
-        key: line[5],
-    }
-}
-
-pub(crate) fn operation_ok(operation: Operation) -> bool
-    ensures { λ r. ⌜ r ≡ operationOk operation ⌝ }
-{
-    if operation.number < 1 {
-        return false;
-    }
-    if 6 < operation.number {
-        return false;
-    }
-    if 1 < operation.scheduler {
-        return false;
-    }
-    if operation.scoping < 1 {
-        return false;
-    }
-    operation.scoping <= 2
-}
 
 fn scoping_of(operation: Operation) -> ScopingMode
     ensures { λ r. ⌜ r ≡ scopingOf operation ⌝ }

@@ -10,13 +10,12 @@ use lib.Seq.{length-take-le, take-append-le, drop-append-le}
 use Rattle.base.specs.Refusal.{overLimit, layoutBroken}
 use Rattle.base.specs.Lists.{part, allFrom}
 use Rattle.columns.specs.Columns.{readColumn, columnBytes, columnAt}
-use Rattle.sheet.specs.declared.layout.Counts.{Counts}
+use Rattle.sheet.specs.declared.header.Counts.{Counts}
 use Rattle.sheet.specs.Lines.{numberOf, numberAt, isLine}
 use Rattle.sheet.specs.Sheet.{countsOf, withinLimits, layoutOk, sheetOf, Parsed, unparsed, parsed, parsedBy, parse}
 use Rattle.sheet.specs.Listing.{linesBytes, linesOfSheet, listingOf}
 use Rattle.sheet.specs.Laws.{CutShort}
-use Rattle.sheet.proofs.lines.LayoutTests.{limited, counts-read}
-use Rattle.sheet.proofs.tables.Parsing.{length-differs}
+use Rattle.sheet.proofs.header.HeaderTests.{limited, length-differs, counts-read}
 
 -- line 1, of bytes that have it and of more bytes
 module _ (xs ys : List ℕ) (long : 37 ≤ length xs) where
@@ -58,7 +57,7 @@ module _ (sheet : List ℕ) (long : 51915 ≤ length sheet) where
   layout-fails : (c : Counts) → withinLimits c ≡ true → layoutOk sheet c ≡ false
   layout-fails c few =
       let most = limited c (sym few) refl in
-      sym (length-differs sheet c refl (λ e. omega (arith, most)))
+      sym (length-differs sheet c (λ e. omega (arith, most)))
 
   refused-by : (c : Counts) → parsedBy sheet c ≡ cond (withinLimits c) (unparsed layoutBroken) (unparsed overLimit)
   refused-by c = go (withinLimits c) refl

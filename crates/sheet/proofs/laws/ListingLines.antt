@@ -1,34 +1,33 @@
 -- The listing, as the code writes it.
 use Prim.Native.Nat.{ℕ, zero, suc, _+_, _-_, _*_, _/_, _<_, _≤_}
-use mathlib.Core.List.{List, [], _∷_, _++_, append-assoc, append-nil}
+use mathlib.Core.Bool.{Bool, true, false, cond}
+use mathlib.Core.List.{List, [], _∷_, _++_, append-assoc}
 use mathlib.Core.Path.{_≡_, refl, sym, ap, _∙_}
 use native.Mathlib.Omega.{arith}
 use borrow.Author.Tests.{eq-eqb, ne-eqb, le-leb, lt-leb}
-use lib.ListN.{length, getD, take, drop, set, replicate, length-append, length-set, length-replicate, length-map, List·getD-eq-default}
-use lib.Seq.{ext-getD, drop-drop}
-use Rattle.literal.specs.Text.{digits}
+use lib.Dec.{eqb}
+use lib.ListN.{length, getD, drop, set, replicate, length-append, length-set, length-replicate, length-map, List·getD-eq-default}
 use Rattle.table.specs.declared.TableRefusal.{TableRefusal}
 use Rattle.table.specs.declared.TableRefusal.the-variants.{OverLimit, BreaksRules, TooDeep, EqualNames}
 use Rattle.table.specs.Check.{tableRefused}
-use Rattle.columns.specs.Columns.{justified, writeColumn, stored, columnStored}
+use Rattle.columns.specs.Columns.{writeColumn, stored, columnStored}
 use Rattle.columns.proofs.ReadBack.{read-back}
 use Rattle.columns.proofs.write.Storing.{stored-is, stored-long, stored-none, stored-on, stored-one}
 use Rattle.planner.specs.declared.PlanAnswer.{PlanAnswer}
 use Rattle.planner.specs.declared.PlanAnswer.the-variants.{TableRefused}
-use Rattle.base.specs.Refusal.{Line, line, refusalLine as refusalLineOf}
+use Rattle.base.specs.Refusal.{Line, line, refusalLine}
 use Rattle.planner.specs.Answer.{lineOf}
 use Rattle.planner.specs.Entries.{entryAt, readEntries}
-use Rattle.planner.proofs.buffer.Filling.{Filling}
 use Rattle.planner.proofs.buffer.ReadBack.{length-read}
 use Rattle.sheet.specs.declared.listing.Row.{Row}
 use Rattle.sheet.specs.Listing.{entryLine, lineBytes, linesBytes, printed, printedCount, Printed}
-use Rattle.sheet.specs.code.Post.{wordIn, rowLine, writePair, entriesIn, entryLines, answerLines, EntriesAsked, refusalLine}
+use Rattle.sheet.specs.code.Post.{rowLine, writePair, entriesIn, entryLines, answerLines, EntriesAsked, refusalBytes}
 
 -- the numbers of a line
 pub row-is : (answer : PlanAnswer) {a : PlanAnswer} {l : Line} → answer ≡ a → l ≡ lineOf a → l ≡ lineOf answer
 row-is answer e is = rw e is
 
-table-line : (t : TableRefusal) → refusalLineOf (tableRefused t) ≡ line (tableRefused t .number) 0 0 0
+table-line : (t : TableRefusal) → refusalLine (tableRefused t) ≡ line (tableRefused t .number) 0 0 0
 table-line OverLimit = refl
 table-line BreaksRules = refl
 table-line TooDeep = refl
@@ -211,46 +210,18 @@ module _ (first : Line) (plan : List ℕ) where
           bytes = f ∙ (rw (e, both, is, zeros) (stored-zeros out listing fits));
         }
 
--- a refusal that has no place and no counts
-abbrev zeros : List ℕ
-zeros = 32 ∷ 32 ∷ 32 ∷ 32 ∷ 32 ∷ 48 ∷ 32 ∷ 32 ∷ 32 ∷ 32 ∷ 32 ∷ 48 ∷ 32 ∷ 32 ∷ 32 ∷ 32 ∷ 32 ∷ 48 ∷ 10 ∷ []
+-- a refusal that has no place and no counts: no entry follows it
+no-entries : (n : ℕ) → entriesIn (line n 0 0 0) ≡ 0
+no-entries n = go (eqb n 0)
+  where
+    go : (b : Bool) → _≡_ {A = ℕ} (cond b 0 0) 0
+    go true = refl
+    go false = refl
 
-zeros-follow : (n : ℕ) → writeColumn n ++ zeros ≡ refusalLine n
-unfolding linesBytes lineBytes justified digits
-zeros-follow n = sym (append-nil (lineBytes (line n 0 0 0)))
+module _ {first : Line} (n : ℕ) (is : first ≡ line n 0 0 0) (plan : List ℕ) where
+  pub refusal-held : entriesIn first * 4 ≤ length plan
+  refusal-held = rw (is, no-entries n) (omega arith)
 
-pub bytes-copied : {from here : List ℕ} {size i : ℕ} → Filling (wordIn from) size i here → size ≡ length from → length here ≤ i → here ≡ from
-bytes-copied {from} {here} go same done = ext-getD 0 here from (go .long ∙ same) (λ k lt. go .each k (omega arith))
-
-pub byte-there : {f : ℕ → ℕ} (from : List ℕ) {here : List ℕ} {size i : ℕ} → Filling f size i here → size ≡ length from → i < length here → i < length from
-byte-there from go same lt = omega (arith, go .long)
-
-module _ (out : List ℕ) (n : ℕ) {clear : List ℕ} (is-clear : clear ≡ replicate (length out) 0) where
-  refusal-long : length (refusalLine n) ≡ 25
-  refusal-long = lines-long (line n 0 0 0 ∷ [])
-
-  cleared : length clear ≡ length out
-  cleared = ap length is-clear ∙ length-replicate (length out) 0
-
-  pub refusal-past : length clear < 25 → Printed (refusalLine n) out clear 0
-  unfolding printed printedCount
-  refusal-past small =
-      let past = lt-leb (length (refusalLine n)) (length out) (omega (arith, refusal-long, cleared)) in
-      record { count = rw past; bytes = rw past is-clear }
-
-  pub refusal-printed : {one part : List ℕ} → 25 ≤ length clear → one ≡ columnStored clear 0 n → part ≡ zeros → Printed (refusalLine n) out (take 6 one ++ (part ++ drop 19 (drop 6 one))) 25
-  unfolding printedCount
-  refusal-printed {one} {part} room e is =
-      let long = refusal-long in
-      let wide = cleared in
-      let fits : length (refusalLine n) ≤ length out = omega arith in
-      let six = read-back .column-long n in
-      let one-long : length one ≡ length clear = ap length e ∙ stored-long clear 0 (writeColumn n) in
-      let whole : take 6 one ++ (zeros ++ drop 19 (drop 6 one)) ≡ stored one 6 zeros =
-      ap (λ (l : List ℕ). take 6 one ++ (zeros ++ l)) (drop-drop 19 6 one) ∙ sym (stored-is one 6 zeros (omega arith)) in
-      let both : stored one 6 zeros ≡ stored clear 0 (writeColumn n ++ zeros) = rw e (after clear 0 (writeColumn n) zeros 6 six (omega arith)) in
-      let shown : stored clear 0 (writeColumn n ++ zeros) ≡ printed (refusalLine n) out = rw (zeros-follow n, is-clear) (stored-zeros out (refusalLine n) fits) in
-      record {
-        count = rw (le-leb (length (refusalLine n)) (length out) fits) (sym long);
-        bytes = rw is (whole ∙ (both ∙ shown));
-      }
+  pub refusal-printed : {before after : List ℕ} {r : ℕ} → Printed (linesBytes (answerLines first plan)) before after r → Printed (refusalBytes n) before after r
+  unfolding readEntries
+  refusal-printed p = rw (is, no-entries n) at p

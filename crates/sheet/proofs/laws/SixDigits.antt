@@ -17,7 +17,7 @@ use Rattle.assignment.specs.Assignment.{assignmentOutcome}
 use Rattle.assignment.proofs.laws.ShortAssignments.{assignment-short}
 use Rattle.some_in.specs.SomeIn.{someInOutcome}
 use Rattle.some_in.proofs.ShortSomeIn.{some-in-short}
-use Rattle.sheet.specs.declared.operation.Operation.{Operation}
+use Rattle.sheet.specs.declared.header.Operation.{Operation}
 use Rattle.sheet.specs.Sheet.{unparsed, parsed, parse, countsOf, withinLimits, layoutOk, sheetOf, scopingOf}
 use Rattle.sheet.specs.Listing.{operated, outcomeOf, entryLine, linesOf, linesOfSheet}
 use Rattle.sheet.specs.Lines.{isLine}

@@ -1,14 +1,13 @@
 -- Lines, as the code reads them.
-use Prim.Native.Nat.{ℕ, zero, suc, _+_, _-_, _*_, _/_, _%_, _^_, _<_, _≤_}
-use mathlib.Core.Bool.{Bool, true, false, not, _&&_, and-false, false≢true}
-use mathlib.Core.List.{List, _++_}
+use Prim.Native.Nat.{ℕ, _+_, _-_, _*_, _/_, _%_, _^_, _<_, _≤_}
+use mathlib.Core.Bool.{Bool, true, false, not, and-false, false≢true}
+use mathlib.Core.List.{List}
 use mathlib.Core.Path.{_≡_, refl, sym, ap, _∙_}
 use native.Mathlib.Omega.{arith}
 use native.Mathlib.Nat.{mul-le-mul-right, mul-add-div-right, mul-add-mod-self-right, div-eq-of-lt, mod-eq-of-lt}
-use borrow.Author.Tests.{not-false, ltb-true, ltb-false}
-use lib.Dec.{ltb}
-use lib.ListN.{length, getD, take, drop, set, length-set, List·getD-append, List·getD-eq-default}
-use lib.Seq.{ext-getD, getD-take, getD-append-add, length-take-le}
+use borrow.Author.Tests.{not-false}
+use lib.ListN.{length, take, drop, set, length-set, List·getD-eq-default}
+use lib.Seq.{ext-getD, getD-take, length-take-le}
 use mir.Syntax.{w64}
 use mir.Val.{Fits}
 use Rattle.columns.specs.declared.Column.{Column}
@@ -20,8 +19,8 @@ use Rattle.columns.proofs.read.Six.{column-inside}
 use Rattle.base.specs.Lists.{allFrom, tabulate}
 use Rattle.table.proofs.tests.Scan.{Scan, scan-start, scan-ends, all-on, all-fails}
 use Rattle.planner.proofs.buffer.Filling.{filling-next, length-tabulate, getD-tabulate}
-use Rattle.sheet.specs.Lines.{numberAt, isLineFeed, columnOk, isLine, lineLength, lineOk, linesOk, isNumberLine, numberLineOk, numberLinesOk, signedWord, wordAt, numberWord}
-use Rattle.sheet.specs.code.Post.{Inside, WordRead, wordIn, Filled, Read, LinesAsked, LineAsked, NodesAsked, NumbersAsked, NumbersOnAsked, NumberAsked}
+use Rattle.sheet.specs.Lines.{numberAt, isLineFeed, columnOk, isLine, lineLength, lineOk, linesOk, isNumberLine, numberLineOk, numberLinesOk, wordAt, numberWord}
+use Rattle.sheet.specs.code.Post.{Inside, WordRead, Filled, Read, LinesAsked, LineAsked, NumbersAsked, NumberAsked}
 
 -- a column, by what was read
 module _ (sheet : List ℕ) (at w : ℕ) (before : List ℕ) (inside : at + 6 ≤ length sheet) {column : Column}
@@ -70,27 +69,6 @@ filled-first {f} {count} {array} go le =
     let inside : k < count = omega arith in
     let z : 0 + k ≡ k = omega arith in
     getD-take count array k 0 inside ∙ (go .each k inside ∙ sym (getD-tabulate f 0 count k inside ∙ ap f z)))
-
--- The words of an array whose first n were copied, and the rest read as the first of its part from n on.
-filled-both : (f : ℕ → ℕ) (n count : ℕ) {first array part : List ℕ} (tail : List ℕ) → Filled f n first → Filled (wordIn first) n array → n ≤ length array → Filled (λ k. f (n + k)) count part → count ≤ length part
-    → Filled f (n + count) (take n array ++ (part ++ tail))
-filled-both f n count {first} {array} {part} tail go copied le more room = record { each = λ k lt. at k lt (ltb k n) refl }
-  where
-    front : length (take n array) ≡ n
-    front = length-take-le n array le
-
-    at : (k : ℕ) → k < n + count → (b : Bool) → ltb k n ≡ b → getD (take n array ++ (part ++ tail)) k 0 ≡ f k
-    at k lt true q =
-        let inside = ltb-true k n q in
-        List·getD-append (take n array) (part ++ tail) 0 k (omega (arith, front)) ∙ (getD-take n array k 0 inside ∙ (copied .each k inside ∙ go .each k inside))
-    at k lt false q =
-        let past = ltb-false k n q in
-        let l = front in
-        let split : length (take n array) + (k - n) ≡ k = omega arith in
-        let place : n + (k - n) ≡ k = omega arith in
-        ap (λ (j : ℕ). getD (take n array ++ (part ++ tail)) j 0) (sym split)
-        ∙ (getD-append-add (take n array) (part ++ tail) (k - n) 0
-        ∙ (List·getD-append part tail 0 (k - n) (omega arith) ∙ (more .each (k - n) (omega arith) ∙ ap f place)))
 
 -- the words of line i
 module _ (sheet : List ℕ) (at line columns i : ℕ) where
@@ -212,50 +190,6 @@ module _ (sheet : List ℕ) {at columns count : ℕ} {before : List ℕ} (asked 
         let n : i ≡ count = omega (arith, go .scan .inside) in
         record { ok = scan-ends (go .scan) le; filled = λ _. rw n at (go .filled) }
 
--- 16 lines of nodes, and those after them
-all-shift : (p q : ℕ → Bool) (d : ℕ) → ((j : ℕ) → p (d + j) ≡ q j) → (i k : ℕ) → allFrom p (d + i) k ≡ allFrom q i k
-unfolding allFrom
-all-shift p q d same i zero = refl
-all-shift p q d same i (suc k) = let n : d + i + 1 ≡ d + (i + 1) = omega arith in rw (n, same i, all-shift p q d same (i + 1) k)
-
-all-split : (p : ℕ → Bool) (i a b : ℕ) → allFrom p i (a + b) ≡ (allFrom p i a && allFrom p (i + a) b)
-unfolding allFrom
-all-split p i zero b =
-    let z : i + 0 ≡ i = omega arith in
-    let y : 0 + b ≡ b = omega arith in
-    rw (z, y)
-all-split p i (suc a) b =
-    let n : i + suc a ≡ i + 1 + a = omega arith in
-    let m : suc a + b ≡ suc (a + b) = omega arith in
-    rw (n, m, all-split p (i + 1) a b, and-assoc (p i) (allFrom p (i + 1) a) (allFrom p (i + 1 + a) b))
-  where
-    and-assoc : (x y z : Bool) → (x && (y && z)) ≡ ((x && y) && z)
-    and-assoc true y z = refl
-    and-assoc false y z = refl
-
-pub nodes-split : (sheet : List ℕ) (m : ℕ) → linesOk sheet 74 5 (16 + m) ≡ (linesOk sheet 74 5 16 && linesOk sheet 570 5 m)
-nodes-split sheet m =
-    let after = all-shift (lineOk sheet 74 5) (lineOk sheet 570 5) 16 (λ j. let e : 74 + (16 + j) * 31 ≡ 570 + j * 31 = omega arith in ap (λ (at : ℕ). isLine sheet at 5) e) 0 m in
-    all-split (lineOk sheet 74 5) 0 16 m ∙ ap (λ (b : Bool). linesOk sheet 74 5 16 && b) after
-
-nodes-after : (sheet : List ℕ) {count : ℕ} {part : List ℕ} → Filled (wordAt sheet 570 31 5) count part → Filled (λ k. wordAt sheet 74 31 5 (80 + k)) count part
-unfolding wordAt
-nodes-after sheet go = record {
-  each = λ k lt.
-      let e : 570 + k / 5 * 31 + k % 5 * 6 ≡ 74 + (80 + k) / 5 * 31 + (80 + k) % 5 * 6 = omega arith in
-      go .each k lt ∙ ap (numberAt sheet) e;
-}
-
-pub rest-read : {sheet : List ℕ} {count : ℕ} {first out : List ℕ} → NodesAsked sheet count first out → {here part : List ℕ} (tail : List ℕ) {r : Bool} → length here ≡ length out → Filled (wordIn first) 80 here → length part ≡ length here - 80
-    → Read (wordAt sheet 570 31 5) ((count - 16) * 5) (linesOk sheet 570 5 (count - 16)) part r → Read (wordAt sheet 74 31 5) (count * 5) (linesOk sheet 74 5 count) (take 80 here ++ (part ++ tail)) r
-rest-read {sheet} {count} asked tail long copied size read =
-    let n : 16 + (count - 16) ≡ count = omega (arith, asked .many) in
-    let m : 80 + (count - 16) * 5 ≡ count * 5 = omega (arith, asked .many) in
-    record {
-      ok = read .ok ∙ rw (asked .good) at (sym (rw n at (nodes-split sheet (count - 16))));
-      filled = λ t. rw m at (filled-both (wordAt sheet 74 31 5) 80 ((count - 16) * 5) tail (asked .held) copied (omega (arith, asked)) (nodes-after sheet (read .filled t)) (omega (arith, asked)));
-    }
-
 -- a number's line
 module _ {sheet : List ℕ} {at i : ℕ} {before : List ℕ} (asked : NumberAsked sheet at i before) where
   pub number-part-fits : Fits w64 (i * 21)
@@ -317,29 +251,3 @@ module _ (sheet : List ℕ) {at count : ℕ} {before : List ℕ} (asked : Number
     numbers-end le =
         let n : i ≡ count = omega (arith, go .scan .inside) in
         record { ok = scan-ends (go .scan) le; filled = λ _. rw n at (go .filled) }
-
--- 16 lines of numbers, and those after them
-pub numbers-split : (sheet : List ℕ) (at m : ℕ) → numberLinesOk sheet at (16 + m) ≡ (numberLinesOk sheet at 16 && numberLinesOk sheet (at + 336) m)
-numbers-split sheet at m =
-    let after = all-shift (numberLineOk sheet at) (numberLineOk sheet (at + 336)) 16 (λ j. let e : at + (16 + j) * 21 ≡ at + 336 + j * 21 = omega arith in ap (isNumberLine sheet) e) 0 m in
-    all-split (numberLineOk sheet at) 0 16 m ∙ ap (λ (b : Bool). numberLinesOk sheet at 16 && b) after
-
-numbers-after : (sheet : List ℕ) (at : ℕ) {count : ℕ} {part : List ℕ} → Filled (numberWord sheet (at + 336)) count part → Filled (λ k. numberWord sheet at (32 + k)) count part
-unfolding numberWord
-numbers-after sheet at go = record {
-  each = λ k lt.
-      let e : at + 336 + k / 2 * 21 ≡ at + (32 + k) / 2 * 21 = omega arith in
-      let f : k % 2 ≡ (32 + k) % 2 = omega arith in
-      go .each k lt ∙ (ap (λ (x : ℕ). signedWord (signedColumnAt sheet x) (k % 2)) e ∙ ap (signedWord (signedColumnAt sheet (at + (32 + k) / 2 * 21))) f);
-}
-
-module _ {sheet : List ℕ} {at count : ℕ} {first out : List ℕ} (on : NumbersOnAsked sheet at count first out) where
-  pub numbers-rest-read : {here part : List ℕ} (tail : List ℕ) {r : Bool} → length here ≡ length out → Filled (wordIn first) 32 here → length part ≡ length here - 32
-      → Read (numberWord sheet (at + 336)) ((count - 16) * 2) (numberLinesOk sheet (at + 336) (count - 16)) part r → Read (numberWord sheet at) (count * 2) (numberLinesOk sheet at count) (take 32 here ++ (part ++ tail)) r
-  numbers-rest-read tail long copied size read =
-      let n : 16 + (count - 16) ≡ count = omega (arith, on .many) in
-      let m : 32 + (count - 16) * 2 ≡ count * 2 = omega (arith, on .many) in
-      record {
-        ok = read .ok ∙ rw (on .good) at (sym (rw n at (numbers-split sheet at (count - 16))));
-        filled = λ t. rw m at (filled-both (numberWord sheet at) 32 ((count - 16) * 2) tail (on .held) copied (omega (arith, on .many, on .asked .room)) (numbers-after sheet at (read .filled t)) (omega (arith, on .many, on .asked .room)));
-      }

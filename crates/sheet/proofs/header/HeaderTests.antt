@@ -1,0 +1,99 @@
+-- Line 1 and line 2, as the code tests them.
+use Prim.Native.Nat.{ℕ, _<_, _≤_}
+use mathlib.Core.Bool.{Bool, false, not, _&&_, and-false}
+use mathlib.Core.List.{List}
+use mathlib.Core.Path.{_≡_}
+use borrow.Author.Tests.{ne-eqb, le-leb, lt-leb, leb-true}
+use lib.Dec.{leb}
+use lib.ListN.{length, getD}
+use Rattle.table.proofs.tests.Bools.{and-true, told-yes}
+use Rattle.sheet.specs.declared.header.Counts.{Counts}
+use Rattle.sheet.specs.declared.header.Operation.{Operation}
+use Rattle.sheet.specs.Lines.{numberAt}
+use Rattle.sheet.specs.Sheet.{countsOf, withinLimits, endPlace, operationOf, operationOk, layoutOk}
+use Rattle.sheet.specs.code.Header.{countsIn, Limited}
+
+-- limits
+module _ (c : Counts) where
+  pub limit-nodes : 512 < c .nodes → false ≡ withinLimits c
+  unfolding withinLimits
+  limit-nodes h = simp (lt-leb (c .nodes) 512 h)
+
+  pub limit-children : 512 < c .children → false ≡ withinLimits c
+  unfolding withinLimits
+  limit-children h = simp (lt-leb (c .children) 512 h, and-false)
+
+  pub limit-numbers : 256 < c .numbers → false ≡ withinLimits c
+  unfolding withinLimits
+  limit-numbers h = simp (lt-leb (c .numbers) 256 h, and-false)
+
+  pub limit-names : 128 < c .names → false ≡ withinLimits c
+  unfolding withinLimits
+  limit-names h = simp (lt-leb (c .names) 128 h, and-false)
+
+  pub limit-strings : 8192 < c .strings → false ≡ withinLimits c
+  unfolding withinLimits
+  limit-strings h = simp (lt-leb (c .strings) 8192 h, and-false)
+
+  pub limit-text : c .nodes ≤ 512 → c .children ≤ 512 → c .numbers ≤ 256 → c .names ≤ 128 → c .strings ≤ 8192 → leb (c .text) 16384 ≡ withinLimits c
+  unfolding withinLimits
+  limit-text n k m x s = simp (le-leb (c .nodes) 512 n, le-leb (c .children) 512 k, le-leb (c .numbers) 256 m, le-leb (c .names) 128 x, le-leb (c .strings) 8192 s)
+
+  pub limited : {r : Bool} → r ≡ withinLimits c → not r ≡ false → Limited c
+  unfolding withinLimits
+  limited is t =
+      let all = told-yes is t in
+      let a = and-true (leb (c .nodes) 512) (leb (c .children) 512 && (leb (c .numbers) 256 && (leb (c .names) 128 && (leb (c .strings) 8192 && leb (c .text) 16384)))) all in
+      let b = and-true (leb (c .children) 512) (leb (c .numbers) 256 && (leb (c .names) 128 && (leb (c .strings) 8192 && leb (c .text) 16384))) (a .1) in
+      let d = and-true (leb (c .numbers) 256) (leb (c .names) 128 && (leb (c .strings) 8192 && leb (c .text) 16384)) (b .1) in
+      let e = and-true (leb (c .names) 128) (leb (c .strings) 8192 && leb (c .text) 16384) (d .1) in
+      let f = and-true (leb (c .strings) 8192) (leb (c .text) 16384) (e .1) in
+      record {
+        nodes-few = leb-true (c .nodes) 512 (a .0);
+        children-few = leb-true (c .children) 512 (b .0);
+        numbers-few = leb-true (c .numbers) 256 (d .0);
+        names-few = leb-true (c .names) 128 (e .0);
+        strings-few = leb-true (c .strings) 8192 (f .0);
+        text-few = leb-true (c .text) 16384 (f .1);
+      }
+
+-- the length
+pub length-differs : (sheet : List ℕ) (c : Counts) → (length sheet ≡ endPlace c → ⊥) → false ≡ layoutOk sheet c
+unfolding layoutOk
+length-differs sheet c h = simp (ne-eqb (length sheet) (endPlace c) h)
+
+-- line 2
+module _ (o : Operation) where
+  pub operation-low : o .number < 1 → false ≡ operationOk o
+  unfolding operationOk
+  operation-low h = simp (lt-leb 1 (o .number) h)
+
+  pub operation-high : 6 < o .number → false ≡ operationOk o
+  unfolding operationOk
+  operation-high h = simp (lt-leb (o .number) 6 h, and-false)
+
+  pub scheduler-high : 1 < o .scheduler → false ≡ operationOk o
+  unfolding operationOk
+  scheduler-high h = simp (lt-leb (o .scheduler) 1 h, and-false)
+
+  pub scoping-low : o .scoping < 1 → false ≡ operationOk o
+  unfolding operationOk
+  scoping-low h = simp (lt-leb 1 (o .scoping) h, and-false)
+
+  pub scoping-high : 1 ≤ o .number → o .number ≤ 6 → o .scheduler ≤ 1 → 1 ≤ o .scoping → leb (o .scoping) 2 ≡ operationOk o
+  unfolding operationOk
+  scoping-high a b d e = simp (le-leb 1 (o .number) a, le-leb (o .number) 6 b, le-leb (o .scheduler) 1 d, le-leb 1 (o .scoping) e)
+
+-- the two lines as they are read
+module _ (sheet : List ℕ) where
+  pub counts-read : {n k m x s t : ℕ} → n ≡ numberAt sheet 0 → k ≡ numberAt sheet 6 → m ≡ numberAt sheet 12 → x ≡ numberAt sheet 18 → s ≡ numberAt sheet 24 → t ≡ numberAt sheet 30
+      → _≡_ {A = Counts} (record { nodes = n; children = k; numbers = m; names = x; strings = s; text = t }) (countsOf sheet)
+  counts-read a b c d e f = cc
+
+  pub operation-read : {n d g f s k : ℕ} → n ≡ numberAt sheet 37 → d ≡ numberAt sheet 43 → g ≡ numberAt sheet 49 → f ≡ numberAt sheet 55 → s ≡ numberAt sheet 61 → k ≡ numberAt sheet 67
+      → _≡_ {A = Operation} (record { number = n; scheduler = d; scoping = g; first = f; second = s; key = k }) (operationOf sheet)
+  operation-read a b c d e f = cc
+
+pub counts-in : (line : List ℕ) {n k m x s t : ℕ} → n ≡ getD line 0 0 → k ≡ getD line 1 0 → m ≡ getD line 2 0 → x ≡ getD line 3 0 → s ≡ getD line 4 0 → t ≡ getD line 5 0
+    → _≡_ {A = Counts} (record { nodes = n; children = k; numbers = m; names = x; strings = s; text = t }) (countsIn line)
+counts-in line a b c d e f = cc

@@ -1,0 +1,2 @@
+pub mod PlanListing
+pub mod SpaceTests

@@ -1,0 +1,140 @@
+-- Tables in arrays, cut to their size, and the listing of their sheet.
+use Prim.Native.Nat.{ℕ, _+_, _-_, _*_, _<_, _≤_}
+use mathlib.Core.Bool.{Bool, true, false, not}
+use mathlib.Core.List.{List, _++_}
+use mathlib.Core.Path.{_≡_, refl, sym, ap, _∙_}
+use native.Mathlib.Omega.{arith}
+use borrow.Author.Tests.{ltb-true, ltb-false, not-false}
+use lib.Dec.{ltb}
+use lib.ListN.{length, getD, take, drop, replicate, length-append, length-replicate, getD-replicate, List·getD-append}
+use lib.Seq.{ext-getD, length-take-le, getD-append-add}
+use Rattle.table.specs.Tables.{tables}
+use Rattle.table.proofs.tests.Bools.{told-no, told-yes, never}
+use Rattle.base.specs.Lists.{tabulate}
+use Rattle.planner.proofs.buffer.Filling.{length-tabulate, getD-tabulate}
+use Rattle.sheet.specs.declared.header.Counts.{Counts}
+use Rattle.sheet.specs.declared.header.Header.{Header}
+use Rattle.sheet.specs.declared.space.Tried.{Tried}
+use Rattle.sheet.specs.declared.space.Tried.the-variants as Tried
+use Rattle.sheet.specs.Lines.{wordAt}
+use Rattle.sheet.specs.Sheet.{namesPlace, stringsPlace, textPlace, endPlace, marksOf}
+use Rattle.sheet.specs.Listing.{listingOf, Printed}
+use Rattle.sheet.specs.code.Header.{Headed}
+use Rattle.sheet.specs.code.Post.{Overlaid, refusalBytes, plannedBytes, TriedBy, Space, Roomy, TablesAsked, TablesRead, Tabled}
+use Rattle.sheet.proofs.lines.LineTests.{filled-first}
+
+-- space for the tables
+pub few-nodes : {sheet : List ℕ} {h : Header} → Headed sheet h → {n : ℕ} → h .counts .nodes ≤ n → Space (h .counts) n 512 256 128
+few-nodes headed le = let l = headed .limited in record { nodes-fit = le; children-fit = l .children-few; numbers-fit = l .numbers-few; names-fit = l .names-few }
+
+pub all-space : {sheet : List ℕ} {h : Header} → Headed sheet h → Space (h .counts) 512 512 256 128
+all-space headed = few-nodes headed (headed .limited .nodes-few)
+
+roomy : {c : Counts} {n k m x : ℕ} → Space c n k m x → (nodes children numbers names : List ℕ) → length nodes ≡ n * 5 → length children ≡ k → length numbers ≡ m * 2 → length names ≡ x * 3 → Roomy c nodes children numbers names
+roomy s nodes children numbers names a b d e =
+    record { nodes-room = omega (arith, s); children-room = omega (arith, s); numbers-room = omega (arith, s); names-room = omega (arith, s) }
+
+pub tables-asked : {sheet : List ℕ} {h : Header} → Headed sheet h → {n k m x : ℕ} → Space (h .counts) n k m x
+    → (nodes children numbers names : List ℕ) → length nodes ≡ n * 5 → length children ≡ k → length numbers ≡ m * 2 → length names ≡ x * 3 → TablesAsked h nodes children numbers names
+tables-asked headed s nodes children numbers names a b d e =
+    record { limited = headed .limited; places-are = headed .places-are; roomy = roomy s nodes children numbers names a b d e }
+
+pub cut : (n : ℕ) (array : List ℕ) → n ≤ length array → n ≡ length (take n array)
+cut n array le = sym (length-take-le n array le)
+
+-- what was read
+module _ {sheet : List ℕ} {h : Header} (headed : Headed sheet h) {nodes children numbers names marks : List ℕ} {r : Bool}
+    (read : TablesRead sheet (h .counts) nodes children numbers names (replicate 128 0) marks r) where
+  pub tables-refused : not r ≡ true → {before after : List ℕ} {bytes : ℕ} → Printed (refusalBytes 7) before after bytes → Printed (listingOf sheet) before after bytes
+  unfolding listingOf
+  tables-refused t p = rw (headed .parses, told-no (read .ok) t) p
+
+  pub tabled : not r ≡ false → {n k m x : ℕ} → Space (h .counts) n k m x → length nodes ≡ n * 5 → length children ≡ k → length numbers ≡ m * 2 → length names ≡ x * 3 → Tabled sheet h nodes children numbers names marks
+  tabled t s a b d e = record {
+    headed = headed;
+    good = told-yes (read .ok) t;
+    roomy = roomy s nodes children numbers names a b d e;
+    held = read .held (not-false r t);
+  }
+
+-- the marks of a scope
+marks-all : (f : ℕ → ℕ) (count : ℕ) → count ≤ 128 → {marks : List ℕ} → Overlaid f count (replicate 128 0) marks → marks ≡ tabulate f 0 count ++ replicate (128 - count) 0
+marks-all f count few {marks} m = ext-getD 0 marks (first ++ rest) long each
+  where
+    first : List ℕ
+    first = tabulate f 0 count
+
+    rest : List ℕ
+    rest = replicate (128 - count) 0
+
+    first-long : length first ≡ count
+    first-long = length-tabulate f 0 count
+
+    long : length marks ≡ length (first ++ rest)
+    long = m .long ∙ sym (length-append first rest ∙ omega (arith, first-long, length-replicate {A = ℕ} (128 - count) 0))
+
+    at-k : (k : ℕ) → k < 128 → (b : Bool) → ltb k count ≡ b → getD marks k 0 ≡ getD (first ++ rest) k 0
+    at-k k lt true q =
+        let inside = ltb-true k count q in
+        let z : 0 + k ≡ k = omega arith in
+        m .first .each k inside
+        ∙ sym (List·getD-append first rest 0 k (omega (arith, first-long)) ∙ (getD-tabulate f 0 count k inside ∙ ap f z))
+    at-k k lt false q =
+        let past = ltb-false k count q in
+        let l = first-long in
+        let split : length first + (k - count) ≡ k = omega arith in
+        m .rest k past ∙ (getD-replicate 128 k 0 0 lt
+        ∙ sym (ap (λ (j : ℕ). getD (first ++ rest) j 0) (sym split) ∙ (getD-append-add first rest (k - count) 0 ∙ getD-replicate (128 - count) (k - count) 0 0 (omega arith))))
+
+    each : (k : ℕ) → k < length marks → getD marks k 0 ≡ getD (first ++ rest) k 0
+    each k lt = at-k k (omega (arith, m .long, length-replicate {A = ℕ} 128 0)) (ltb k count) refl
+
+-- the tables, the strings, the text and the scope
+module _ {sheet : List ℕ} {h : Header} {nodes children numbers names marks : List ℕ} (t : Tabled sheet h nodes children numbers names marks) where
+  pub nodes-inside : h .counts .nodes * 5 ≤ length nodes
+  nodes-inside = t .roomy .nodes-room
+
+  pub children-inside : h .counts .children ≤ length children
+  children-inside = t .roomy .children-room
+
+  pub numbers-inside : h .counts .numbers * 2 ≤ length numbers
+  numbers-inside = t .roomy .numbers-room
+
+  pub names-inside : h .counts .names * 2 ≤ length names
+  names-inside = omega (arith, t .roomy .names-room)
+
+  pub strings-before : h .places .strings ≤ h .places .text
+  strings-before = rw (t .headed .places-are) (omega arith)
+
+  pub text-before : h .places .text ≤ h .places .end
+  text-before = rw (t .headed .places-are) (omega arith)
+
+  pub text-inside : h .places .text ≤ length sheet
+  text-inside = rw (t .headed .places-are) (omega (arith, t .headed .size))
+
+  pub end-inside : h .places .end ≤ length sheet
+  end-inside = rw (t .headed .places-are) (omega (arith, t .headed .size))
+
+  pub sheet-bytes : plannedBytes (h .operation)
+      (tables (take (h .counts .nodes * 5) nodes) (take (h .counts .children) children) (take (h .counts .numbers * 2) numbers) (take (h .counts .names * 2) names)
+      (take (h .places .text - h .places .strings) (drop (h .places .strings) sheet)) (take (h .places .end - h .places .text) (drop (h .places .text) sheet))) marks
+      ≡ listingOf sheet
+  unfolding listingOf
+  sheet-bytes =
+      let c = h .counts in
+      let strings : textPlace c - stringsPlace c ≡ c .strings = omega arith in
+      let text : endPlace c - textPlace c ≡ c .text = omega arith in
+      let held = t .held in
+      let all : marks ≡ marksOf sheet c ++ replicate (128 - c .names) 0 = marks-all (wordAt sheet (namesPlace c + 12) 19 1) (c .names) (t .headed .limited .names-few) (held .names-held .marked) in
+      let scope-marks : marks ≡ marksOf sheet c ++ replicate (128 - length (marksOf sheet c)) 0 = rw (length-tabulate (wordAt sheet (namesPlace c + 12) 19 1) 0 (c .names)) all in
+      rw (t .headed .parses, t .good, t .headed .places-are, t .headed .operation-is, strings, text, scope-marks, filled-first (held .nodes-filled) nodes-inside, filled-first (held .children-filled) children-inside, filled-first (held .numbers-filled) numbers-inside, filled-first (held .names-held .words) names-inside)
+
+pub is-listed : {listing before after : List ℕ} {bytes : ℕ} (space : ℕ) → Printed listing before after bytes → TriedBy listing space before after (Tried.Listed bytes)
+is-listed {bytes = bytes} space p = record {
+  listed = λ n e. let same : bytes ≡ n = cc in rw (← same) p;
+  more = λ e. let z : _≡_ {A = ℕ} 0 1 = cc in never z;
+  kept = λ e. let z : _≡_ {A = ℕ} 0 1 = cc in never z;
+}
+
+pub tried-as : {listing other : List ℕ} → listing ≡ other → {space : ℕ} {before after : List ℕ} {r : Tried} → TriedBy listing space before after r → TriedBy other space before after r
+tried-as e t = rw e at t

@@ -1,0 +1,180 @@
+// Space for a sheet's tables and its plan. Nodes and plan have two sizes, as arrays have to be cleared, which for a small sheet would take longer than all else. The sheet is read, then planned, then listed.
+ghost use mathlib.Core.Path.{_≡_};
+ghost use mathlib.Core.Bool.{_&&_};
+ghost use Prim.Native.Nat.{_≤_};
+ghost use lib.Dec.{eqb, ltb};
+ghost use lib.ListN.{length};
+ghost use Rattle.base.specs.Lent.{old};
+ghost use Rattle.sheet.specs.Listing.{listingOf};
+ghost use Rattle.sheet.specs.code.Header.{Headed};
+ghost use Rattle.sheet.specs.code.Post.{planWords, smallWords, smallNodes, PrintedIn, TriedIn, Tabled};
+use crate::header::Header;
+use crate::header::MOST_CHILDREN;
+use crate::header::MOST_NAMES;
+use crate::header::MOST_NODES;
+use crate::header::MOST_NUMBERS;
+use crate::listing::Row;
+use crate::listing::refuse;
+use crate::listing::row_of;
+use crate::listing::write_lines;
+use crate::operation::operate;
+use crate::tables::read_tables;
+use scope::Scope;
+
+// A plan has four words an entry. Counted by hand, an `=` of 64 nodes needs some 260 entries at most; what needs more is planned again.
+const PLAN_WORDS: usize = 4 * 1536;
+
+const SMALL_PLAN_WORDS: usize = 4 * 320;
+
+const SMALL_NODES: usize = 64;
+
+// What became of a sheet in some space: the bytes of its listing, or its plan needs more.
+enum Tried {
+    Listed(usize),
+    TooLarge,
+}
+
+// Is an answer 6 in space for less than 1,536 entries?
+fn needs_more(first: Row, words: usize) -> bool
+    ensures { λ r. ⌜ r ≡ (eqb (first .number) 6 && ltb words planWords) ⌝ }
+{
+    if first.number == 6 {
+        return words < PLAN_WORDS;
+    }
+    false
+}
+
+// A sheet whose tables stand in arrays, perhaps longer than they are, planned and listed.
+fn plan_tables(
+    sheet: &[u8],
+    header: Header,
+    nodes: &[u32],
+    children: &[u32],
+    numbers: &[u64],
+    names: &[u32],
+    marks: &[u8; 128],
+    plan: &mut [u32],
+    out: &mut [u8],
+) -> Tried
+    requires { ⌜ Tabled (now sheet) header (now nodes) (now children) (now numbers) (now names) (now marks) × (length (now plan) ≤ planWords) ⌝ }
+    ensures { λ r. ⌜ TriedIn out (listingOf (old sheet)) (length (old plan)) r ⌝ }
+{
+    let counts = header.counts;
+    let places = header.places;
+    let operation = header.operation;
+    let node_words = counts.nodes * 5;
+    let child_words = counts.children;
+    let number_words = counts.numbers * 2;
+    let name_words = counts.names * 2;
+    let strings = places.strings;
+    let text = places.text;
+    let end = places.end;
+    let scope = Scope {
+        marks: *marks,
+        underscore: 0,
+        scheduler: operation.scheduler == 1,
+    };
+    let answer = operate(
+        &nodes[..node_words],
+        &children[..child_words],
+        &numbers[..number_words],
+        &names[..name_words],
+        &sheet[strings..text],
+        &sheet[text..end],
+        scope,
+        operation,
+        plan,
+    );
+    let first = row_of(answer);
+    if needs_more(first, plan.len()) {
+        return Tried::TooLarge;
+    }
+    Tried::Listed(write_lines(out, first, plan))
+}
+
+fn plan_small(sheet: &[u8], header: Header, out: &mut [u8]) -> Tried
+    requires { ⌜ Headed (now sheet) header × (header .counts .nodes ≤ smallNodes) ⌝ }
+    ensures { λ r. ⌜ TriedIn out (listingOf (old sheet)) smallWords r ⌝ }
+{
+    let mut nodes = [0u32; SMALL_NODES * 5];
+    let mut children = [0u32; MOST_CHILDREN];
+    let mut numbers = [0u64; MOST_NUMBERS * 2];
+    let mut names = [0u32; MOST_NAMES * 3];
+    let mut marks = [0u8; 128];
+    if !read_tables(
+        sheet,
+        header,
+        &mut nodes,
+        &mut children,
+        &mut numbers,
+        &mut names,
+        &mut marks,
+    ) {
+        return Tried::Listed(refuse(7, out));
+    }
+    let mut plan = [0u32; SMALL_PLAN_WORDS];
+    plan_tables(
+        sheet,
+        header,
+        &nodes,
+        &children,
+        &numbers,
+        &names,
+        &marks,
+        &mut plan,
+        out,
+    )
+}
+
+fn plan_full(sheet: &[u8], header: Header, out: &mut [u8]) -> usize
+    requires { ⌜ Headed (now sheet) header ⌝ }
+    ensures { λ r. ⌜ PrintedIn out (listingOf (old sheet)) r ⌝ }
+{
+    let mut nodes = [0u32; MOST_NODES * 5];
+    let mut children = [0u32; MOST_CHILDREN];
+    let mut numbers = [0u64; MOST_NUMBERS * 2];
+    let mut names = [0u32; MOST_NAMES * 3];
+    let mut marks = [0u8; 128];
+    if !read_tables(
+        sheet,
+        header,
+        &mut nodes,
+        &mut children,
+        &mut numbers,
+        &mut names,
+        &mut marks,
+    ) {
+        return refuse(7, out);
+    }
+    let mut plan = [0u32; PLAN_WORDS];
+    match plan_tables(
+        sheet,
+        header,
+        &nodes,
+        &children,
+        &numbers,
+        &names,
+        &marks,
+        &mut plan,
+        out,
+    ) {
+        Tried::Listed(bytes) => bytes,
+        // Not in the full space.
+        Tried::TooLarge => 0,
+    }
+}
+
+// Few nodes are planned in the small space first: an `=` may need more entries than there are nodes.
+pub(crate) fn plan_headed(sheet: &[u8], header: Header, out: &mut [u8]) -> usize
+    requires { ⌜ Headed (now sheet) header ⌝ }
+    ensures { λ r. ⌜ PrintedIn out (listingOf (old sheet)) r ⌝ }
+{
+    let counts = header.counts;
+    if SMALL_NODES < counts.nodes {
+        return plan_full(sheet, header, out);
+    }
+    match plan_small(sheet, header, out) {
+        Tried::Listed(bytes) => bytes,
+        Tried::TooLarge => plan_full(sheet, header, out),
+    }
+}

@@ -1,0 +1,109 @@
+"""Runs ./test in a small repository whose `rt` and parts are stubs."""
+
+import os
+import pathlib
+import shutil
+import subprocess
+import sys
+import tempfile
+import unittest
+
+SCRIPT = pathlib.Path(__file__).resolve().parent.parent.parent / "test"
+GREEN = "echo proving; echo '3 passed, 0 failed'"
+RED = "echo '2 passed, 1 failed'; exit 1"
+COMPARED = "compared 20000 with target/staticlib/libsheet.a"
+UNITTEST = """\
+import os, unittest
+class Stub(unittest.TestCase):
+    def test(self):
+        self.assertEqual(os.path.basename(os.environ.get("PLANSHEET", "")), {planner!r})
+"""
+
+
+class Gate(unittest.TestCase):
+    def setUp(self):
+        folder = tempfile.TemporaryDirectory()
+        self.addCleanup(folder.cleanup)
+        self.outside = pathlib.Path(folder.name)
+        self.root = self.outside / "repository"
+        self.root.mkdir()
+        shutil.copy(SCRIPT, self.root / "test")
+        self.write("crates.txt", "c:\n")
+        self.write("crates/c/src/lib.rt", "")
+        self.write("gate/mistakes.py", "print('mistakes read')")
+        self.write("gate/test_gate.py", UNITTEST.format(planner=""))
+        self.write("tools/test_tools.py", UNITTEST.format(planner="plansheet"))
+        self.command("examples/run", "echo example run")
+        self.command("oracle/compare", 'echo "compared $1 with $PLAN_SHEET_LIBRARY"')
+        self.command("../bin/rt", GREEN)
+        self.command("../bin/cargo", "exit 1")
+        (self.outside / "bin/python3").symlink_to(sys.executable)
+
+    def write(self, path, text):
+        file = self.root / path
+        file.parent.mkdir(parents=True, exist_ok=True)
+        file.write_text(text)
+        return file
+
+    def command(self, path, text):
+        self.write(path, f"#!/bin/sh\n{text}\n").chmod(0o755)
+
+    def sources(self):
+        (self.outside / "shared/docs/src/src").mkdir(parents=True)
+
+    def gate(self):
+        """The exit status and the lines of output."""
+        path = f"{self.outside / 'bin'}:/usr/bin:/bin"
+        names = {name: value for name, value in os.environ.items() if name not in ("PLANSHEET", "REGORUS_SOURCE")}
+        run = subprocess.run(
+            [self.root / "test"], env=names | {"PATH": path}, stdout=subprocess.PIPE, stderr=subprocess.DEVNULL
+        )
+        return run.returncode, run.stdout.decode().splitlines()
+
+    def test_all_passes(self):
+        self.sources()
+        status, lines = self.gate()
+        self.assertEqual((status, lines[-1]), (0, "3 passed, 0 failed"))
+        for line in ("proving", "mistakes read", "example run", COMPARED):
+            self.assertIn(line, lines)
+        self.assertFalse([line for line in lines if line.startswith(("failed", "not run"))])
+
+    def test_no_rust_sources(self):
+        status, lines = self.gate()
+        self.assertEqual((status, lines[-1]), (0, "3 passed, 0 failed"))
+        self.assertEqual(len([line for line in lines if line.startswith("not run: oracle/compare 20000")]), 1)
+        self.assertNotIn(COMPARED, lines)
+
+    def test_each_part_that_fails_is_one_failed(self):
+        self.sources()
+        parts = {
+            "gate/mistakes.py": "raise SystemExit(1)",
+            "gate/test_gate.py": UNITTEST.format(planner="another"),
+            "tools/test_tools.py": UNITTEST.format(planner="another"),
+            "examples/run": "#!/bin/sh\nexit 3\n",
+            "oracle/compare": "#!/bin/sh\nexit 1\n",
+        }
+        for path, text in parts.items():
+            with self.subTest(path=path):
+                before = (self.root / path).read_text()
+                self.write(path, text)
+                status, lines = self.gate()
+                self.assertEqual((status, lines[-1]), (1, "3 passed, 1 failed"))
+                self.assertEqual(len([line for line in lines if line.startswith("failed: ")]), 1)
+                self.write(path, before)
+        for path in ("examples/run", "oracle/compare"):
+            self.write(path, parts[path])
+        self.assertEqual(self.gate()[1][-1], "3 passed, 2 failed")
+
+    def test_refused_by_rt(self):
+        self.command("../bin/rt", RED)
+        status, lines = self.gate()
+        self.assertEqual((status, lines), (1, ["2 passed, 1 failed", "2 passed, 1 failed"]))
+
+    def test_crate_that_is_not_listed(self):
+        self.write("crates/d/src/lib.rt", "")
+        self.assertEqual(self.gate(), (1, []))
+
+
+if __name__ == "__main__":
+    unittest.main()
