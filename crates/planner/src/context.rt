@@ -81,6 +81,9 @@ pub(crate) fn name_flags(
     let mut flags = [0u8; 128];
     let mut i: usize = 0;
     while i < 128 {
+        if names.len() / 2 <= i {
+            return flags;
+        }
         flags[i] = name_state(
             names,
             text,

@@ -4,9 +4,11 @@ use mathlib.Core.Path.{_≡_, refl, sym, ap, _∙_}
 use mathlib.Core.List.{List, []}
 use mathlib.Core.Bool.{Bool, true, false, cond, not, false≢true}
 use native.Mathlib.Omega.{arith}
-use borrow.Author.Tests.{le-leb, lt-leb, eq-eqb, ne-eqb, not-true, not-false}
+use borrow.Author.Tests.{leb-true, leb-false, le-leb, lt-leb, eq-eqb, ne-eqb, not-true, not-false}
 use lib.Dec.{leb}
-use lib.ListN.{length, getD}
+use lib.ListN.{length, getD, set, replicate, getD-replicate, List·getD-eq-default}
+use lib.Seq.{getD-set-other, ext-getD}
+use Rattle.base.specs.Lists.{tabulate}
 use Rattle.scope.specs.declared.Scope.{Scope}
 use Rattle.scope.specs.declared.ScopingMode.{ScopingMode}
 use Rattle.scope.specs.declared.Binding.{Binding}
@@ -20,7 +22,7 @@ use Rattle.table.specs.Names.{classOf}
 use Rattle.planner.specs.code.Passes.{binderOf, stateBy, nameState, unboundMark}
 use Rattle.planner.specs.code.Post.{NameNumber, statesOf}
 use Rattle.planner.specs.code.Validation.{markIf, flagBy, flagOf, flagsOf}
-use Rattle.planner.proofs.buffer.Filling.{Filling, filling-ends, getD-tabulate, tabulate-next, tabulate-same}
+use Rattle.planner.proofs.buffer.Filling.{Filling, filling-start, filling-on, filling-ends, length-tabulate, getD-tabulate, tabulate-next, tabulate-same}
 
 -- the scope's answer of a name's number
 module _ (x : ℕ) (u : Bool) {b : Binding} (is : questionOf b ≡ asked x u) where
@@ -87,8 +89,35 @@ module _ (names text : List ℕ) (s : Scope) (mode : ScopingMode) (defined : Boo
   abbrev pub flagAt : ℕ → ℕ
   flagAt k = flagOf names text s mode defined binders (k + 1)
 
-  pub flags-end : {i : ℕ} {here : List ℕ} → Filling flagAt 128 i here → 128 ≤ i → here ≡ flagsOf names text s mode defined binders
-  flags-end {i} {here} go le = let long = go .long in filling-ends go (omega arith) ∙ tabulate-next (flagOf names text s mode defined binders) 0 128
+  -- those of the first i names are there, and zeros behind them
+  pub record Flagging (i : ℕ) (here : List ℕ) : Type 0 where
+    pub filled : Filling flagAt 128 i here
+    pub rest : (k : ℕ) → i ≤ k → getD here k 0 ≡ 0
+
+  pub flagging-start : Flagging 0 (replicate 128 0)
+  flagging-start = record { filled = filling-start flagAt 128; rest = λ k le. zero-at k (leb 128 k) refl }
+    where
+      zero-at : (k : ℕ) (b : Bool) → leb 128 k ≡ b → _≡_ {A = ℕ} (getD (replicate 128 0) k 0) 0
+      zero-at k true e = List·getD-eq-default (replicate 128 0) 0 (leb-true 128 k e)
+      zero-at k false e = getD-replicate 128 k 0 0 (leb-false 128 k e)
+
+  module _ {i : ℕ} {here : List ℕ} (go : Flagging i here) where
+    pub flagging-on : {v : ℕ} → i < 128 → v ≡ flagAt i → Flagging (i + 1) (set here i v)
+    flagging-on {v} lt is = record { filled = filling-on {count = 128} (go .filled) lt (omega arith) is; rest = λ k le. getD-set-other here i k v 0 (λ e. omega arith) ∙ go .rest k (omega arith) }
+
+    pub flags-end : 128 ≤ i → here ≡ flagsOf names text s mode defined binders
+    flags-end le = let long = go .filled .long in filling-ends (go .filled) (omega arith) ∙ tabulate-next (flagOf names text s mode defined binders) 0 128
+
+    -- the table has no further names
+    pub flags-stop : length names / 2 ≤ i → here ≡ flagsOf names text s mode defined binders
+    flags-stop le =
+        let flag = flagOf names text s mode defined binders in
+        ext-getD 0 here (tabulate flag 1 128) (go .filled .long ∙ sym (length-tabulate flag 1 128))
+        (λ k lt. let one : k + 1 ≡ 1 + k = omega arith in at k (leb i k) refl ∙ (ap flag one ∙ sym (getD-tabulate flag 1 128 k (rw (go .filled .long) at lt))))
+      where
+        at : (k : ℕ) (b : Bool) → leb i k ≡ b → getD here k 0 ≡ flagOf names text s mode defined binders (k + 1)
+        at k true e = let l = leb-true i k e in go .rest k l ∙ state-none (k + 1) (omega arith)
+        at k false e = go .filled .each k (leb-false i k e)
 
   -- a name that the table has
   pub flags-each : {flags : List ℕ} → flags ≡ flagsOf names text s mode defined binders → length names / 2 ≤ 128 → (x : ℕ) → 1 ≤ x → x ≤ length names / 2

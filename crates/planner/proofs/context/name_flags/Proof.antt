@@ -1,6 +1,5 @@
 use Prim.Native.Nat.{_-_}
-use Rattle.planner.proofs.buffer.Filling.{Filling, filling-start, filling-on}
-use Rattle.planner.proofs.laws.States.{flagAt, flags-end}
+use Rattle.planner.proofs.laws.States.{Flagging, flagging-start, flagging-on, flags-stop, flags-end}
 use borrow.Author.Needs.{needs}
 use Rattle.planner.proofs.context.name_flags.Statement.{statement}
 use Rattle.planner.proofs.context.name_flags.Tie as tie
@@ -9,13 +8,16 @@ use Rattle.planner.proofs.context.name_flags.Lts as lts
 use Rattle.planner.proofs.context.name_state.Reads as name-state-reads
 
 abbrev Inv-loop : tie.InvT-loop
-Inv-loop names text scope scoping defined binders flags₀ i₀ flags i = Filling (flagAt names text scope scoping defined binders) 128 i flags
+Inv-loop names text scope scoping defined binders flags₀ i₀ flags i = Flagging names text scope scoping defined binders i flags
 
 abbrev μ-loop : tie.MeasureT-loop
 μ-loop names text scope scoping defined binders flags₀ i₀ flags i = 128 - i
 
 loop-holds : tie.Need-loop-holds Inv-loop μ-loop
-loop-holds c = search (filling-start, needs)
+loop-holds c = search (flagging-start, needs)
+
+returns : tie.Need-returns Inv-loop μ-loop
+returns c = search (flags-stop, needs)
 
 add-name-state : tie.Need-add-name-state Inv-loop μ-loop
 add-name-state c = search needs
@@ -36,10 +38,10 @@ loop-less : tie.Need-loop-less Inv-loop μ-loop
 loop-less c = search needs
 
 loop-again : tie.Need-loop-again Inv-loop μ-loop
-loop-again c = search (filling-on, needs)
+loop-again c = search (flagging-on, needs)
 
-returns : tie.Need-returns Inv-loop μ-loop
-returns c = search (flags-end, needs)
+returns-2 : tie.Need-returns-2 Inv-loop μ-loop
+returns-2 c = search (flags-end, needs)
 
 pub name-flags-spec : {M : Type 1} → statement M
 name-flags-spec =
@@ -48,6 +50,7 @@ name-flags-spec =
     Inv-loop
     μ-loop
     loop-holds
+    returns
     add-name-state
     cast-name-state
     name-state-requires
@@ -55,4 +58,4 @@ name-flags-spec =
     add-i
     loop-less
     loop-again
-    returns)
+    returns-2)
