@@ -15,6 +15,17 @@ const MORE_SAMPLES: usize = 301;
 /// How many of the lowest ratios are listed.
 const LISTED: usize = 5;
 
+/// The bars of docs/PERFORMANCE.md.
+const PLANNED_BAR: f64 = 1.0;
+const REFUSED_BAR: f64 = 0.7;
+
+struct Measured {
+    /// The Rust's time over ours.
+    ratio: f64,
+    planned: bool,
+    name: String,
+}
+
 pub fn run(count: u64) -> Result<(), String> {
     report("at the edges", edges().into_iter())?;
     report("drawn", (0..count).map(|case| input(case, sheet(SEED, case))))?;
@@ -38,32 +49,43 @@ fn changed(case: u64) -> Vec<u8> {
 }
 
 fn report(title: &str, inputs: impl Iterator<Item = Input>) -> Result<(), String> {
-    let mut ratios = inputs.map(measured).collect::<Result<Vec<_>, _>>()?;
-    ratios.sort_by(|one, other| one.0.total_cmp(&other.0));
-    let below = ratios.iter().filter(|(value, _)| *value < 1.0).count();
-    let at = |part: f64| ratio(ratios[(part * (ratios.len() - 1) as f64) as usize].0);
-    println!(
-        "{} sheets {title}: {below} below 1, least {:.3}, a hundredth below {}, median {}",
-        ratios.len(),
-        ratios[0].0,
-        at(0.01),
-        at(0.5)
-    );
-    for (value, name) in ratios.iter().take(LISTED) {
-        println!("    {value:.3} {name}");
-    }
+    let mut measured = inputs.map(measured).collect::<Result<Vec<_>, _>>()?;
+    measured.sort_by(|one, other| one.ratio.total_cmp(&other.ratio));
+    let (planned, refused) = measured.into_iter().partition(|one| one.planned);
+    list(&format!("{title}, planned"), PLANNED_BAR, planned);
+    list(&format!("{title}, refused"), REFUSED_BAR, refused);
     Ok(())
 }
 
-/// The Rust's time over ours, and what the sheet is.
-fn measured(input: Input) -> Result<(f64, String), String> {
-    let mut value = ratio_of(&input, SAMPLES)?;
-    if value < NEAR {
-        value = ratio_of(&input, MORE_SAMPLES)?;
+/// The ratios of a group, from the lowest on.
+fn list(title: &str, bar: f64, measured: Vec<Measured>) {
+    let Some(least) = measured.first() else {
+        println!("no sheets {title}");
+        return;
+    };
+    let below = measured.iter().filter(|one| one.ratio < bar).count();
+    let at = |part: f64| ratio(measured[(part * (measured.len() - 1) as f64) as usize].ratio);
+    println!(
+        "{} sheets {title}: {below} below {bar}, least {:.3}, a hundredth below {}, median {}",
+        measured.len(),
+        least.ratio,
+        at(0.01),
+        at(0.5)
+    );
+    for one in measured.iter().take(LISTED) {
+        println!("    {:.3} {}", one.ratio, one.name);
+    }
+}
+
+fn measured(input: Input) -> Result<Measured, String> {
+    let mut ratio = ratio_of(&input, SAMPLES)?;
+    if ratio < NEAR {
+        ratio = ratio_of(&input, MORE_SAMPLES)?;
     }
     let listing = answer(&input.sheets[0]).to_string();
-    let line = listing.lines().next().unwrap_or_default();
-    Ok((value, format!("{}, answered {}", input.name, line.trim())))
+    let line = listing.lines().next().unwrap_or_default().trim();
+    let planned = line.starts_with("0 ");
+    Ok(Measured { ratio, planned, name: format!("{}, answered {line}", input.name) })
 }
 
 fn ratio_of(input: &Input, samples: usize) -> Result<f64, String> {

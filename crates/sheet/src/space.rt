@@ -1,13 +1,14 @@
-// Space for a sheet's tables and its plan. Nodes and plan have two sizes, as arrays have to be cleared, which for a small sheet would take longer than all else. The sheet is read, then planned, then listed.
+// Space for a sheet's tables and its plan, of two sizes, as arrays have to be cleared, which for a small sheet would take longer than all else. The sheet is read, then planned, then listed.
 ghost use mathlib.Core.Path.{_≡_};
-ghost use mathlib.Core.Bool.{_&&_};
+ghost use mathlib.Core.Bool.{true, _&&_};
 ghost use Prim.Native.Nat.{_≤_};
 ghost use lib.Dec.{eqb, ltb};
 ghost use lib.ListN.{length};
 ghost use Rattle.base.specs.Lent.{old};
 ghost use Rattle.sheet.specs.Listing.{listingOf};
 ghost use Rattle.sheet.specs.code.Header.{Headed};
-ghost use Rattle.sheet.specs.code.Post.{planWords, smallWords, smallNodes, PrintedIn, TriedIn, Tabled};
+ghost use Rattle.sheet.specs.code.Post.{planWords, smallWords, isSmall, PrintedIn, TriedIn, Tabled};
+use crate::header::Counts;
 use crate::header::Header;
 use crate::header::MOST_CHILDREN;
 use crate::header::MOST_NAMES;
@@ -21,12 +22,19 @@ use crate::operation::operate;
 use crate::tables::read_tables;
 use scope::Scope;
 
-// A plan has four words an entry. Counted by hand, an `=` of 64 nodes needs some 260 entries at most; what needs more is planned again.
+// A plan has four words an entry.
 const PLAN_WORDS: usize = 4 * 1536;
 
-const SMALL_PLAN_WORDS: usize = 4 * 320;
+// The small space. The longest plan found for 64 nodes is an `=` of 226 entries; what needs more is planned again.
+const SMALL_PLAN_WORDS: usize = 4 * 240;
 
 const SMALL_NODES: usize = 64;
+
+const SMALL_CHILDREN: usize = 64;
+
+const SMALL_NUMBERS: usize = 32;
+
+const SMALL_NAMES: usize = 16;
 
 // What became of a sheet in some space: the bytes of its listing, or its plan needs more.
 enum Tried {
@@ -42,6 +50,22 @@ fn needs_more(first: Row, words: usize) -> bool
         return words < PLAN_WORDS;
     }
     false
+}
+
+// Is the small space enough for the tables?
+fn is_small(counts: Counts) -> bool
+    ensures { λ r. ⌜ r ≡ isSmall counts ⌝ }
+{
+    if SMALL_NODES < counts.nodes {
+        return false;
+    }
+    if SMALL_CHILDREN < counts.children {
+        return false;
+    }
+    if SMALL_NUMBERS < counts.numbers {
+        return false;
+    }
+    counts.names <= SMALL_NAMES
 }
 
 // A sheet whose tables stand in arrays, perhaps longer than they are, planned and listed.
@@ -93,13 +117,13 @@ fn plan_tables(
 }
 
 fn plan_small(sheet: &[u8], header: Header, out: &mut [u8]) -> Tried
-    requires { ⌜ Headed (now sheet) header × (header .counts .nodes ≤ smallNodes) ⌝ }
+    requires { ⌜ Headed (now sheet) header × (isSmall (header .counts) ≡ true) ⌝ }
     ensures { λ r. ⌜ TriedIn out (listingOf (old sheet)) smallWords r ⌝ }
 {
     let mut nodes = [0u32; SMALL_NODES * 5];
-    let mut children = [0u32; MOST_CHILDREN];
-    let mut numbers = [0u64; MOST_NUMBERS * 2];
-    let mut names = [0u32; MOST_NAMES * 3];
+    let mut children = [0u32; SMALL_CHILDREN];
+    let mut numbers = [0u64; SMALL_NUMBERS * 2];
+    let mut names = [0u32; SMALL_NAMES * 3];
     let mut marks = [0u8; 128];
     if !read_tables(
         sheet,
@@ -169,8 +193,7 @@ pub(crate) fn plan_headed(sheet: &[u8], header: Header, out: &mut [u8]) -> usize
     requires { ⌜ Headed (now sheet) header ⌝ }
     ensures { λ r. ⌜ PrintedIn out (listingOf (old sheet)) r ⌝ }
 {
-    let counts = header.counts;
-    if SMALL_NODES < counts.nodes {
+    if !is_small(header.counts) {
         return plan_full(sheet, header, out);
     }
     match plan_small(sheet, header, out) {

@@ -1,15 +1,15 @@
 -- Tables in arrays, cut to their size, and the listing of their sheet.
 use Prim.Native.Nat.{ℕ, _+_, _-_, _*_, _<_, _≤_}
-use mathlib.Core.Bool.{Bool, true, false, not}
+use mathlib.Core.Bool.{Bool, true, false, not, _&&_, and-false}
 use mathlib.Core.List.{List, _++_}
 use mathlib.Core.Path.{_≡_, refl, sym, ap, _∙_}
 use native.Mathlib.Omega.{arith}
-use borrow.Author.Tests.{ltb-true, ltb-false, not-false}
-use lib.Dec.{ltb}
+use borrow.Author.Tests.{ltb-true, ltb-false, not-false, le-leb, lt-leb, leb-true}
+use lib.Dec.{leb, ltb}
 use lib.ListN.{length, getD, take, drop, replicate, length-append, length-replicate, getD-replicate, List·getD-append}
 use lib.Seq.{ext-getD, length-take-le, getD-append-add}
 use Rattle.table.specs.Tables.{tables}
-use Rattle.table.proofs.tests.Bools.{told-no, told-yes, never}
+use Rattle.table.proofs.tests.Bools.{and-true, told-no, told-yes, never}
 use Rattle.base.specs.Lists.{tabulate}
 use Rattle.planner.proofs.buffer.Filling.{length-tabulate, getD-tabulate}
 use Rattle.sheet.specs.declared.header.Counts.{Counts}
@@ -20,15 +20,37 @@ use Rattle.sheet.specs.Lines.{wordAt}
 use Rattle.sheet.specs.Sheet.{namesPlace, stringsPlace, textPlace, endPlace, marksOf}
 use Rattle.sheet.specs.Listing.{listingOf, Printed}
 use Rattle.sheet.specs.code.Header.{Headed}
-use Rattle.sheet.specs.code.Post.{Overlaid, refusalBytes, plannedBytes, TriedBy, Space, Roomy, TablesAsked, TablesRead, Tabled}
+use Rattle.sheet.specs.code.Post.{isSmall, Overlaid, refusalBytes, plannedBytes, TriedBy, Space, Roomy, TablesAsked, TablesRead, Tabled}
 use Rattle.sheet.proofs.lines.LineTests.{filled-first}
 
 -- space for the tables
-pub few-nodes : {sheet : List ℕ} {h : Header} → Headed sheet h → {n : ℕ} → h .counts .nodes ≤ n → Space (h .counts) n 512 256 128
-few-nodes headed le = let l = headed .limited in record { nodes-fit = le; children-fit = l .children-few; numbers-fit = l .numbers-few; names-fit = l .names-few }
-
 pub all-space : {sheet : List ℕ} {h : Header} → Headed sheet h → Space (h .counts) 512 512 256 128
-all-space headed = few-nodes headed (headed .limited .nodes-few)
+all-space headed = let l = headed .limited in record { nodes-fit = l .nodes-few; children-fit = l .children-few; numbers-fit = l .numbers-few; names-fit = l .names-few }
+
+module _ (c : Counts) where
+  pub many-nodes : 64 < c .nodes → false ≡ isSmall c
+  unfolding isSmall
+  many-nodes h = simp (lt-leb (c .nodes) 64 h)
+
+  pub many-children : 64 < c .children → false ≡ isSmall c
+  unfolding isSmall
+  many-children h = simp (lt-leb (c .children) 64 h, and-false)
+
+  pub many-numbers : 32 < c .numbers → false ≡ isSmall c
+  unfolding isSmall
+  many-numbers h = simp (lt-leb (c .numbers) 32 h, and-false)
+
+  pub few-names : c .nodes ≤ 64 → c .children ≤ 64 → c .numbers ≤ 32 → leb (c .names) 16 ≡ isSmall c
+  unfolding isSmall
+  few-names n k m = simp (le-leb (c .nodes) 64 n, le-leb (c .children) 64 k, le-leb (c .numbers) 32 m)
+
+pub small-space : {c : Counts} → isSmall c ≡ true → Space c 64 64 32 16
+unfolding isSmall
+small-space {c} all =
+    let a = and-true (leb (c .nodes) 64) (leb (c .children) 64 && (leb (c .numbers) 32 && leb (c .names) 16)) all in
+    let b = and-true (leb (c .children) 64) (leb (c .numbers) 32 && leb (c .names) 16) (a .1) in
+    let d = and-true (leb (c .numbers) 32) (leb (c .names) 16) (b .1) in
+    record { nodes-fit = leb-true (c .nodes) 64 (a .0); children-fit = leb-true (c .children) 64 (b .0); numbers-fit = leb-true (c .numbers) 32 (d .0); names-fit = leb-true (c .names) 16 (d .1) }
 
 roomy : {c : Counts} {n k m x : ℕ} → Space c n k m x → (nodes children numbers names : List ℕ) → length nodes ≡ n * 5 → length children ≡ k → length numbers ≡ m * 2 → length names ≡ x * 3 → Roomy c nodes children numbers names
 roomy s nodes children numbers names a b d e =

@@ -126,15 +126,16 @@ pub record EntriesAsked (out plan : List ℕ) (count : ℕ) : Type 0 where
 abbrev pub scopeIn : Operation → List ℕ → Scope
 scopeIn o marks = record { marks = marks; underscore = 0; scheduler = eqb (o .scheduler) 1 }
 
--- the words of a plan, four an entry, in the full space and in the small one, which is for few nodes
+-- the words of a plan, four an entry, in the full space and in the small one
 abbrev pub planWords : ℕ
 planWords = 4 * 1536
 
 abbrev pub smallWords : ℕ
-smallWords = 4 * 320
+smallWords = 4 * 240
 
-abbrev pub smallNodes : ℕ
-smallNodes = 64
+-- tables for which the small space is enough
+unfoldable pub isSmall : Counts → Bool
+isSmall c = leb (c .nodes) 64 && (leb (c .children) 64 && (leb (c .numbers) 32 && leb (c .names) 16))
 
 -- what became of an operation in space of so many words: it is listed, or it needs more and nothing was written
 pub record TriedBy (listing : List ℕ) (space : ℕ) (before after : List ℕ) (r : Tried) : Type 0 where
