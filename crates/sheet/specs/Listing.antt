@@ -3,32 +3,18 @@ use Prim.Native.Nat.{ℕ, _-_}
 use mathlib.Core.Bool.{cond}
 use mathlib.Core.List.{List, [], _∷_, _++_, map}
 use mathlib.Core.Path.{_≡_}
-use lib.Dec.{eqb, leb}
+use lib.Dec.{leb}
 use lib.ListN.{length, replicate}
-use Rattle.scope.specs.declared.Scope.{Scope}
-use Rattle.table.specs.Tables.{Tables}
 use Rattle.columns.specs.Columns.{writeColumn}
 use Rattle.base.specs.Refusal.{planTooLarge, Line, line, refusalLine}
 use Rattle.planner.specs.Layout.{Entry}
-use Rattle.planner.specs.Operations.{Outcome, refused, planned, patternOutcome, indexOutcome, parameterOutcome}
-use Rattle.assignment.specs.declared.AssignOp.the-variants.{ColEq, Eq}
-use Rattle.assignment.specs.Assignment.{assignmentOutcome}
-use Rattle.some_in.specs.SomeIn.{someInOutcome}
-use Rattle.sheet.specs.declared.header.Operation.{Operation}
-use Rattle.sheet.specs.Sheet.{Sheet, Parsed, unparsed, parsed, parse, scopeOf, scopingOf}
-
--- 1 pattern, 2 `:=`, 3 `=`, 4 some-in, 5 index, 6 parameter
-unfoldable pub operated : Operation → Tables → Scope → Outcome
-operated o T s =
-    cond (eqb (o .number) 1) (patternOutcome T s (scopingOf o) (o .first))
-    (cond (eqb (o .number) 2) (assignmentOutcome T s ColEq (o .first) (o .second))
-    (cond (eqb (o .number) 3) (assignmentOutcome T s Eq (o .first) (o .second))
-    (cond (eqb (o .number) 4) (someInOutcome T s (o .first) (o .second) (o .key))
-    (cond (eqb (o .number) 5) (indexOutcome T s (o .first))
-    (parameterOutcome T s (scopingOf o) (o .first))))))
+use Rattle.planner.specs.Operations.{Outcome, refused, planned}
+use Rattle.operation.specs.Operation.{operationOutcome}
+use Rattle.operation.specs.Numbers.{operationOf}
+use Rattle.sheet.specs.Sheet.{Sheet, Parsed, unparsed, parsed, parse, scopeOf}
 
 abbrev pub outcomeOf : Sheet → Outcome
-outcomeOf S = operated (S .operation) (S .held) (scopeOf (S .operation) (S .marks))
+outcomeOf S = operationOutcome (S .held) (scopeOf (S .operation) (S .marks)) (operationOf (S .operation))
 
 -- A plan has space for 1,536 entries. The lines: 0, form, side, entries, then each entry; or one of a refusal.
 abbrev pub entryLine : Entry → Line

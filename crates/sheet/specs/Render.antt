@@ -12,8 +12,9 @@ use Rattle.table.specs.Check.{checked}
 use Rattle.table.specs.Rules.{withinLimits, wholeRecords, numberOk}
 use Rattle.table.specs.Tables.{Tables, nodeCount, numberCount, nameCount}
 use Rattle.columns.specs.Columns.{writeColumn, writeSigned}
-use Rattle.sheet.specs.declared.header.Operation.{Operation}
-use Rattle.sheet.specs.Sheet.{operationOk, Sheet, parsed, parse}
+use Rattle.operation.specs.declared.numbers.OperationNumbers.{OperationNumbers}
+use Rattle.operation.specs.Numbers.{areListed}
+use Rattle.sheet.specs.Sheet.{Sheet, parsed, parse}
 
 -- columns of six, then LF
 unfoldable pub writeColumns : List ℕ → List ℕ
@@ -33,7 +34,7 @@ abbrev pub countsRow : Tables → List ℕ
 countsRow T =
     nodeCount T ∷ length (T .children) ∷ numberCount T ∷ nameCount T ∷ length (T .strings) ∷ length (T .text) ∷ []
 
-abbrev pub operationRow : Operation → List ℕ
+abbrev pub operationRow : OperationNumbers → List ℕ
 operationRow o = o .number ∷ o .scheduler ∷ o .scoping ∷ o .first ∷ o .second ∷ o .key ∷ []
 
 abbrev pub nodeRow : Tables → ℕ → List ℕ
@@ -68,7 +69,7 @@ pub record Narrow (words : List ℕ) : Type 0 where
 pub record Renderable (S : Sheet) : Type 0 where
   pub whole : wholeRecords (S .held) ≡ true
   pub few : withinLimits (S .held) ≡ true
-  pub operation-ok : operationOk (S .operation) ≡ true
+  pub operation-ok : areListed (S .operation) ≡ true
   pub operation-narrow : Narrow (operationRow (S .operation))
   pub nodes : Narrow (S .held .nodes)
   pub children : Narrow (S .held .children)
@@ -80,5 +81,5 @@ pub record Renderable (S : Sheet) : Type 0 where
 -- What is rendered is parsed back; and a table that passes the check can be rendered.
 pub record RoundTrip : Type 0 where
   pub back : (S : Sheet) → Renderable S → parse (render S) ≡ parsed S
-  pub sound : (S : Sheet) (s : Scope) → checked (S .held) s ≡ passed → operationOk (S .operation) ≡ true → Narrow (operationRow (S .operation)) → length (S .marks) ≡ nameCount (S .held)
+  pub sound : (S : Sheet) (s : Scope) → checked (S .held) s ≡ passed → areListed (S .operation) ≡ true → Narrow (operationRow (S .operation)) → length (S .marks) ≡ nameCount (S .held)
       → ((x : ℕ) → getD (S .marks) x 0 ≤ 31) → Renderable S

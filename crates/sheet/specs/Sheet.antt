@@ -1,6 +1,6 @@
 -- Document 01, "Sheet": what a sheet says. Line 1 has the counts, line 2 the operation; then nodes, children, numbers, names, string bytes and text bytes.
 use Prim.Native.Nat.{ℕ, _+_, _-_, _*_}
-use mathlib.Core.Bool.{Bool, cond, _&&_}
+use mathlib.Core.Bool.{Bool, _&&_}
 use mathlib.Core.List.{List, _++_}
 use lib.Dec.{eqb, leb}
 use lib.ListN.{length, replicate}
@@ -8,11 +8,10 @@ use Rattle.table.specs.Rules.{countsWithinLimits}
 use Rattle.base.specs.Refusal.{Refusal, overLimit, layoutBroken, requireOr}
 use Rattle.base.specs.Lists.{part, allFrom, tabulate}
 use Rattle.scope.specs.declared.Scope.{Scope}
-use Rattle.scope.specs.declared.ScopingMode.{ScopingMode}
-use Rattle.scope.specs.declared.ScopingMode.the-variants.{RespectParent, AllowShadowing}
 use Rattle.table.specs.Tables.{Tables, tables}
 use Rattle.sheet.specs.declared.header.Counts.{Counts}
-use Rattle.sheet.specs.declared.header.Operation.{Operation}
+use Rattle.operation.specs.declared.numbers.OperationNumbers.{OperationNumbers}
+use Rattle.operation.specs.Numbers.{areListed}
 use Rattle.sheet.specs.Lines.{numberIn, columnPlace, lineLength, numberLineLength, isLine, linesOk, numberLinesOk, wordAt, numberWord}
 
 -- Lines 1 and 2 have six columns each; then come the nodes.
@@ -59,8 +58,8 @@ textPlace c = stringsPlace c + c .strings
 abbrev pub endPlace : Counts → ℕ
 endPlace c = textPlace c + c .text
 
-abbrev pub operationOf : List ℕ → Operation
-operationOf sheet =
+abbrev pub operationNumbers : List ℕ → OperationNumbers
+operationNumbers sheet =
     record {
       number = numberIn sheet line2 0;
       scheduler = numberIn sheet line2 1;
@@ -69,10 +68,6 @@ operationOf sheet =
       second = numberIn sheet line2 4;
       key = numberIn sheet line2 5;
     }
-
--- operations 1 to 6, scheduler 0 or 1, scoping 1 or 2, whether or not the operation reads it
-unfoldable pub operationOk : Operation → Bool
-operationOk o = (leb 1 (o .number) && leb (o .number) 6) && (leb (o .scheduler) 1 && (leb 1 (o .scoping) && leb (o .scoping) 2))
 
 -- the marks of name x, which are 0 to 31, are column 2 of its line
 abbrev pub markWord : List ℕ → ℕ → ℕ → ℕ
@@ -89,7 +84,7 @@ unfoldable pub layoutOk : List ℕ → Counts → Bool
 layoutOk sheet c =
     eqb (length sheet) (endPlace c)
     && (isLine sheet line2 6
-    && (operationOk (operationOf sheet)
+    && (areListed (operationNumbers sheet)
     && (linesOk sheet nodesPlace 5 (c .nodes)
     && (linesOk sheet (childrenPlace c) 1 (c .children)
     && (numberLinesOk sheet (numbersPlace c) (c .numbers)
@@ -123,12 +118,12 @@ tablesOf sheet c = tables (nodesOf sheet c) (childrenOf sheet c) (numbersOf shee
 
 -- What a sheet says: an operation, tables, and the marks of the names by their numbers.
 pub record Sheet : Type 0 where
-  pub operation : Operation
+  pub operation : OperationNumbers
   pub held : Tables
   pub marks : List ℕ
 
 abbrev pub sheetOf : List ℕ → Counts → Sheet
-sheetOf sheet c = record { operation = operationOf sheet; held = tablesOf sheet c; marks = marksOf sheet c }
+sheetOf sheet c = record { operation = operationNumbers sheet; held = tablesOf sheet c; marks = marksOf sheet c }
 
 pub data Parsed : Type 0 where
   unparsed : Refusal → Parsed
@@ -146,8 +141,5 @@ unfoldable pub parse : List ℕ → Parsed
 parse sheet = require (isLine sheet line1 6) layoutBroken (parsedBy sheet (countsOf sheet))
 
 -- The scope. Planning tells `_` by its bytes, so the scope's number of `_` makes no difference, and is 0.
-abbrev pub scopeOf : Operation → List ℕ → Scope
+abbrev pub scopeOf : OperationNumbers → List ℕ → Scope
 scopeOf o marks = record { marks = marks ++ replicate (128 - length marks) 0; underscore = 0; scheduler = eqb (o .scheduler) 1 }
-
-abbrev pub scopingOf : Operation → ScopingMode
-scopingOf o = cond (eqb (o .scoping) 2) AllowShadowing RespectParent

@@ -1,11 +1,13 @@
 // Lines 1 and 2: what the tables hold, where each stands, and the operation.
 ghost use mathlib.Core.Path.{_≡_};
-ghost use Rattle.sheet.specs.Sheet.{withinLimits, operationOk};
+ghost use Rattle.sheet.specs.Sheet.{withinLimits};
 ghost use Rattle.base.specs.Lent.{old};
 ghost use Rattle.sheet.specs.code.Header.{countsIn, operationIn, placesOf, Limited, headingOf};
 use crate::lines::COLUMN;
 use crate::lines::NUMBER_LINE;
 use crate::lines::read_lines;
+use operation::numbers::OperationNumbers;
+use operation::numbers::are_listed;
 
 // The bytes of each kind of line, by its columns, and LF.
 const HEAD_LINE: usize = 6 * COLUMN + 1;
@@ -50,20 +52,10 @@ pub(crate) struct Places {
     pub end: usize,
 }
 
-// What line 2 says. The roots: first (left, pattern or value pattern), second (right or collection), some-in key.
-pub(crate) struct Operation {
-    pub number: u32,
-    pub scheduler: u32,
-    pub scoping: u32,
-    pub first: u32,
-    pub second: u32,
-    pub key: u32,
-}
-
 pub(crate) struct Header {
     pub counts: Counts,
     pub places: Places,
-    pub operation: Operation,
+    pub operation: OperationNumbers,
 }
 
 // A header, or the number of its refusal.
@@ -133,10 +125,10 @@ fn places_of(counts: Counts) -> Places
     }
 }
 
-fn operation_of(line: [u32; 6]) -> Operation
+fn operation_in(line: [u32; 6]) -> OperationNumbers
     ensures { λ r. ⌜ r ≡ operationIn line ⌝ }
 {
-    Operation {
+    OperationNumbers {
         number: line[0],
         scheduler: line[1],
         scoping: line[2],
@@ -144,24 +136,6 @@ fn operation_of(line: [u32; 6]) -> Operation
         second: line[4],
         key: line[5],
     }
-}
-
-fn operation_ok(operation: Operation) -> bool
-    ensures { λ r. ⌜ r ≡ operationOk operation ⌝ }
-{
-    if operation.number < 1 {
-        return false;
-    }
-    if 6 < operation.number {
-        return false;
-    }
-    if 1 < operation.scheduler {
-        return false;
-    }
-    if operation.scoping < 1 {
-        return false;
-    }
-    operation.scoping <= 2
 }
 
 // Both lines, and the length of the sheet.
@@ -184,8 +158,8 @@ pub(crate) fn read_header(sheet: &[u8]) -> Heading
     if !read_lines(sheet, HEAD_LINE, 6, 1, &mut line_2) {
         return Heading::Refused(7);
     }
-    let operation = operation_of(line_2);
-    if !operation_ok(operation) {
+    let operation = operation_in(line_2);
+    if !are_listed(operation) {
         return Heading::Refused(7);
     }
     Heading::Good(Header {

@@ -2,7 +2,6 @@
 mod header;
 mod lines;
 mod listing;
-mod operation;
 mod space;
 mod tables;
 

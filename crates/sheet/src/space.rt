@@ -18,8 +18,8 @@ use crate::listing::Row;
 use crate::listing::refuse;
 use crate::listing::row_of;
 use crate::listing::write_lines;
-use crate::operation::operate;
 use crate::tables::read_tables;
+use operation::numbers::operation_of;
 use scope::Scope;
 
 // A plan has four words an entry.
@@ -98,7 +98,7 @@ fn plan_tables(
         underscore: 0,
         scheduler: operation.scheduler == 1,
     };
-    let answer = operate(
+    let answer = operation::plan(
         &nodes[..node_words],
         &children[..child_words],
         &numbers[..number_words],
@@ -106,7 +106,7 @@ fn plan_tables(
         &sheet[strings..text],
         &sheet[text..end],
         scope,
-        operation,
+        operation_of(operation),
         plan,
     );
     let first = row_of(answer);

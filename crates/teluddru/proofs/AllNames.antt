@@ -21,12 +21,12 @@ use Rattle.report.specs.Report.{ReportOutcome, reportOutcome, reportAnswer, rep
 use Rattle.run.specs.declared.RunAnswer.{RunAnswer}
 use Rattle.run.specs.Operations.{RunOutcome, refused, runOutcome, plannedName, Ran, valuesAfter}
 use Rattle.teluddru.specs.declared.Name.{Name}
-use Rattle.teluddru.specs.declared.Operation.{Operation}
-use Rattle.teluddru.specs.declared.Operation.the-variants.{Pattern, ColonEquals, Equals, SomeIn, Index, Parameter}
+use Rattle.operation.specs.declared.Operation.{Operation}
+use Rattle.operation.specs.declared.Operation.the-variants.{Pattern, ColonEquals, Equals, SomeIn, Index, Parameter}
 use Rattle.teluddru.specs.declared.records.NameWords.{NameWords}
 use Rattle.teluddru.specs.Records.{nameWords}
 use Rattle.teluddru.specs.code.Copying.{held, Copied}
-use Rattle.teluddru.specs.Outcome.{operationOutcome}
+use Rattle.operation.specs.Operation.{operationOutcome}
 use Rattle.teluddru.proofs.Limits.{over-limit, as-all}
 
 -- ---- over the limit of names each call is refused

@@ -1,6 +1,5 @@
 pub mod Copying
 pub mod Limits
-pub mod Cases
 pub mod AllNames
 pub mod LocalArray
 pub mod Trials

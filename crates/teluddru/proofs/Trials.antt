@@ -25,7 +25,7 @@ use Rattle.value.specs.Value.{valueOf, same, within, keysᵛ, under}
 use Rattle.planner.specs.Names.{occurrences, namesOf}
 use Rattle.matching.specs.Matching.{run, planKeys, sameLength}
 use Rattle.run.specs.Operations.{valuesListed, knownListed, runAnswer, valuesAfter}
-use Rattle.teluddru.specs.Outcome.{operationOutcome}
+use Rattle.operation.specs.Operation.{operationOutcome}
 use Rattle.teluddru.specs.Trial.{Shown, Trial, trials, rows, oneByteEach, positive}
 
 abbrev shownIn : Trial → Shown

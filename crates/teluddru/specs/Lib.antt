@@ -1,5 +1,4 @@
 pub mod Records
-pub mod Outcome
 pub mod Trial
 pub mod Demand
 pub mod code

@@ -13,9 +13,9 @@ use Rattle.base.specs.Refusal.{Line, line}
 use Rattle.planner.specs.Operations.{Outcome, answered, written}
 use Rattle.run.specs.Answer.{RunResult, aMatch}
 use Rattle.run.specs.Operations.{RunOutcome, runOutcome, runAnswer, valuesAfter, plannedName}
-use Rattle.teluddru.specs.declared.Operation.{Operation}
-use Rattle.teluddru.specs.declared.Operation.the-variants.{Pattern, ColonEquals, Equals}
-use Rattle.teluddru.specs.Outcome.{operationOutcome}
+use Rattle.operation.specs.declared.Operation.{Operation}
+use Rattle.operation.specs.declared.Operation.the-variants.{Pattern, ColonEquals, Equals}
+use Rattle.operation.specs.Operation.{operationOutcome}
 
 -- an answer's line with its entries, or a run's answer with the list afterwards
 pub data Shown : Type 0 where

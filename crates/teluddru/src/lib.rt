@@ -1,13 +1,14 @@
 // The library's calls for a caller in Rattle: names are a lent table of records.
-mod operations;
+mod plans;
 mod records;
 mod reports;
 mod runs;
 
-use crate::operations::plan_words;
+use crate::plans::plan_words;
 use crate::records::copy_names;
 use crate::reports::report_words;
 use crate::runs::run_words;
+use operation::Operation;
 use planner::PlanAnswer;
 use report::ReportAnswer;
 use run::RunAnswer;
@@ -17,40 +18,12 @@ ghost use Rattle.planner.specs.Operations.{AnsweredIn};
 ghost use Rattle.report.specs.Report.{ReportedIn};
 ghost use Rattle.run.specs.Operations.{RanIn};
 ghost use Rattle.teluddru.specs.Records.{lentRecords};
-ghost use Rattle.teluddru.specs.Outcome.{operationOutcome};
+ghost use Rattle.operation.specs.Operation.{operationOutcome};
 
 // A range of the rule text.
 pub struct Name {
     pub start: u32,
     pub length: u32,
-}
-
-// What to plan, with its roots; a some-in key of 0 says that there is none.
-pub enum Operation {
-    Pattern {
-        scoping: ScopingMode,
-        root: u32,
-    },
-    ColonEquals {
-        left: u32,
-        right: u32,
-    },
-    Equals {
-        left: u32,
-        right: u32,
-    },
-    SomeIn {
-        value: u32,
-        collection: u32,
-        key: u32,
-    },
-    Index {
-        root: u32,
-    },
-    Parameter {
-        scoping: ScopingMode,
-        root: u32,
-    },
 }
 
 // The planning call.

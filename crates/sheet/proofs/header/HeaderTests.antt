@@ -8,9 +8,9 @@ use lib.Dec.{leb}
 use lib.ListN.{length, getD}
 use Rattle.table.proofs.tests.Bools.{and-true, told-yes}
 use Rattle.sheet.specs.declared.header.Counts.{Counts}
-use Rattle.sheet.specs.declared.header.Operation.{Operation}
-use Rattle.sheet.specs.Lines.{numberAt}
-use Rattle.sheet.specs.Sheet.{countsOf, withinLimits, endPlace, operationOf, operationOk, layoutOk}
+use Rattle.operation.specs.declared.numbers.OperationNumbers.{OperationNumbers}
+use Rattle.sheet.specs.Lines.{numberIn}
+use Rattle.sheet.specs.Sheet.{line1, line2, countsOf, withinLimits, endPlace, operationNumbers, layoutOk}
 use Rattle.sheet.specs.code.Header.{countsIn, Limited}
 
 -- limits
@@ -62,36 +62,14 @@ pub length-differs : (sheet : List ℕ) (c : Counts) → (length sheet ≡ endPl
 unfolding layoutOk
 length-differs sheet c h = simp (ne-eqb (length sheet) (endPlace c) h)
 
--- line 2
-module _ (o : Operation) where
-  pub operation-low : o .number < 1 → false ≡ operationOk o
-  unfolding operationOk
-  operation-low h = simp (lt-leb 1 (o .number) h)
-
-  pub operation-high : 6 < o .number → false ≡ operationOk o
-  unfolding operationOk
-  operation-high h = simp (lt-leb (o .number) 6 h, and-false)
-
-  pub scheduler-high : 1 < o .scheduler → false ≡ operationOk o
-  unfolding operationOk
-  scheduler-high h = simp (lt-leb (o .scheduler) 1 h, and-false)
-
-  pub scoping-low : o .scoping < 1 → false ≡ operationOk o
-  unfolding operationOk
-  scoping-low h = simp (lt-leb 1 (o .scoping) h, and-false)
-
-  pub scoping-high : 1 ≤ o .number → o .number ≤ 6 → o .scheduler ≤ 1 → 1 ≤ o .scoping → leb (o .scoping) 2 ≡ operationOk o
-  unfolding operationOk
-  scoping-high a b d e = simp (le-leb 1 (o .number) a, le-leb (o .number) 6 b, le-leb (o .scheduler) 1 d, le-leb 1 (o .scoping) e)
-
 -- the two lines as they are read
 module _ (sheet : List ℕ) where
-  pub counts-read : {n k m x s t : ℕ} → n ≡ numberAt sheet 0 → k ≡ numberAt sheet 6 → m ≡ numberAt sheet 12 → x ≡ numberAt sheet 18 → s ≡ numberAt sheet 24 → t ≡ numberAt sheet 30
+  pub counts-read : {n k m x s t : ℕ} → n ≡ numberIn sheet line1 0 → k ≡ numberIn sheet line1 1 → m ≡ numberIn sheet line1 2 → x ≡ numberIn sheet line1 3 → s ≡ numberIn sheet line1 4 → t ≡ numberIn sheet line1 5
       → _≡_ {A = Counts} (record { nodes = n; children = k; numbers = m; names = x; strings = s; text = t }) (countsOf sheet)
   counts-read a b c d e f = cc
 
-  pub operation-read : {n d g f s k : ℕ} → n ≡ numberAt sheet 37 → d ≡ numberAt sheet 43 → g ≡ numberAt sheet 49 → f ≡ numberAt sheet 55 → s ≡ numberAt sheet 61 → k ≡ numberAt sheet 67
-      → _≡_ {A = Operation} (record { number = n; scheduler = d; scoping = g; first = f; second = s; key = k }) (operationOf sheet)
+  pub operation-read : {n d g f s k : ℕ} → n ≡ numberIn sheet line2 0 → d ≡ numberIn sheet line2 1 → g ≡ numberIn sheet line2 2 → f ≡ numberIn sheet line2 3 → s ≡ numberIn sheet line2 4 → k ≡ numberIn sheet line2 5
+      → _≡_ {A = OperationNumbers} (record { number = n; scheduler = d; scoping = g; first = f; second = s; key = k }) (operationNumbers sheet)
   operation-read a b c d e f = cc
 
 pub counts-in : (line : List ℕ) {n k m x s t : ℕ} → n ≡ getD line 0 0 → k ≡ getD line 1 0 → m ≡ getD line 2 0 → x ≡ getD line 3 0 → s ≡ getD line 4 0 → t ≡ getD line 5 0

@@ -12,46 +12,47 @@ use Rattle.base.specs.Refusal.{overLimit, layoutBroken, line}
 use Rattle.table.proofs.tests.Bools.{and-true, told-no, told-yes, never}
 use Rattle.sheet.specs.declared.header.Counts.{Counts}
 use Rattle.sheet.specs.declared.header.Places.{Places}
-use Rattle.sheet.specs.declared.header.Operation.{Operation}
+use Rattle.operation.specs.declared.numbers.OperationNumbers.{OperationNumbers}
+use Rattle.operation.specs.Numbers.{areListed}
 use Rattle.sheet.specs.declared.header.Header.{Header}
 use Rattle.sheet.specs.declared.header.Heading.{Heading}
 use Rattle.sheet.specs.declared.header.Heading.the-variants as Heading
-use Rattle.sheet.specs.Lines.{isLine, linesOk, wordAt}
-use Rattle.sheet.specs.Sheet.{countsOf, withinLimits, endPlace, operationOf, operationOk, layoutOk, sheetOf, unparsed, parsed, parse}
+use Rattle.sheet.specs.Lines.{lineLength, isLine, linesOk, wordAt}
+use Rattle.sheet.specs.Sheet.{line1, line2, countsOf, withinLimits, endPlace, operationNumbers, layoutOk, sheetOf, unparsed, parsed, parse}
 use Rattle.sheet.specs.Listing.{linesOfSheet, listingOf, Printed}
 use Rattle.sheet.specs.code.Header.{countsIn, operationIn, placesOf, headerOf, headOk, headingBy, headingOf, tablesOk, Headed}
 use Rattle.sheet.specs.code.Post.{Read, refusalBytes}
 use Rattle.sheet.proofs.header.HeaderTests.{limited, counts-read, operation-read}
 
 -- one line of six columns
-module _ (sheet : List ℕ) (at : ℕ) {line : List ℕ} {r : Bool} (read : Read (wordAt sheet at 37 6) (1 * 6) (linesOk sheet at 6 1) line r) where
+module _ (sheet : List ℕ) (at : ℕ) {line : List ℕ} {r : Bool} (read : Read (wordAt sheet at (lineLength 6) 6) (1 * 6) (linesOk sheet at 6 1) line r) where
   one-line : r ≡ isLine sheet at 6
   unfolding allFrom
-  one-line = read .ok ∙ (let z : at + 0 * 37 ≡ at = omega arith in rw z (go (isLine sheet at 6)))
+  one-line = read .ok ∙ (let z : at + 0 * lineLength 6 ≡ at = omega arith in rw z (go (isLine sheet at 6)))
     where
       go : (b : Bool) → (b && true) ≡ b
       go true = refl
       go false = refl
 
-  line-word : not r ≡ false → (k : ℕ) → k < 6 → getD line k 0 ≡ wordAt sheet at 37 6 k
+  line-word : not r ≡ false → (k : ℕ) → k < 6 → getD line k 0 ≡ wordAt sheet at (lineLength 6) 6 k
   line-word good k lt = read .filled (not-false r good) .each k (omega arith)
 
 -- line 1
-module _ (sheet : List ℕ) {line : List ℕ} {b : Bool} (read : Read (wordAt sheet 0 37 6) (1 * 6) (linesOk sheet 0 6 1) line b) where
+module _ (sheet : List ℕ) {line : List ℕ} {b : Bool} (read : Read (wordAt sheet line1 (lineLength 6) 6) (1 * 6) (linesOk sheet line1 6 1) line b) where
   pub line-1-unread : not b ≡ true → Heading.Refused 7 ≡ headingOf sheet
   unfolding headingOf
-  line-1-unread t = rw (told-no (one-line sheet 0 read) t)
+  line-1-unread t = rw (told-no (one-line sheet line1 read) t)
 
   module _ (good : not b ≡ false) {c : Counts} (is : c ≡ countsIn line) where
     counted : c ≡ countsOf sheet
     unfolding wordAt
     counted =
-        let word = line-word sheet 0 read good in
+        let word = line-word sheet line1 read good in
         is ∙ counts-read sheet (word 0 (omega arith)) (word 1 (omega arith)) (word 2 (omega arith)) (word 3 (omega arith)) (word 4 (omega arith)) (word 5 (omega arith))
 
     pub by-counts : headingBy sheet c ≡ headingOf sheet
     unfolding headingOf
-    by-counts = rw (told-yes (one-line sheet 0 read) good) (ap (headingBy sheet) counted)
+    by-counts = rw (told-yes (one-line sheet line1 read) good) (ap (headingBy sheet) counted)
 
 pub over-limit : (sheet : List ℕ) (c : Counts) → headingBy sheet c ≡ headingOf sheet → {l : Bool} → l ≡ withinLimits c → not l ≡ true → Heading.Refused 1 ≡ headingOf sheet
 unfolding headingBy
@@ -67,16 +68,16 @@ module _ (sheet : List ℕ) (c : Counts) (by : headingBy sheet c ≡ headingOf s
   unfolding headOk
   length-wrong h = broken (simp (ne-eqb (length sheet) (endPlace c) (rw is at h)))
 
-  module _ {line : List ℕ} {b : Bool} (read : Read (wordAt sheet 37 37 6) (1 * 6) (linesOk sheet 37 6 1) line b) where
+  module _ {line : List ℕ} {b : Bool} (read : Read (wordAt sheet line2 (lineLength 6) 6) (1 * 6) (linesOk sheet line2 6 1) line b) where
     pub line-2-unread : not b ≡ true → Heading.Refused 7 ≡ headingOf sheet
     unfolding headOk
-    line-2-unread t = broken (simp (told-no (one-line sheet 37 read) t, and-false))
+    line-2-unread t = broken (simp (told-no (one-line sheet line2 read) t, and-false))
 
-    module _ (good : not b ≡ false) {o : Operation} (says : o ≡ operationIn line) {k : Bool} (fine : k ≡ operationOk o) where
-      operation-said : o ≡ operationOf sheet
+    module _ (good : not b ≡ false) {o : OperationNumbers} (says : o ≡ operationIn line) {k : Bool} (fine : k ≡ areListed o) where
+      operation-said : o ≡ operationNumbers sheet
       unfolding wordAt
       operation-said =
-          let word = line-word sheet 37 read good in
+          let word = line-word sheet line2 read good in
           says ∙ operation-read sheet (word 0 (omega arith)) (word 1 (omega arith)) (word 2 (omega arith)) (word 3 (omega arith)) (word 4 (omega arith)) (word 5 (omega arith))
 
       pub operation-wrong : not k ≡ true → Heading.Refused 7 ≡ headingOf sheet
@@ -87,25 +88,25 @@ module _ (sheet : List ℕ) (c : Counts) (by : headingBy sheet c ≡ headingOf s
       unfolding headOk headingBy
       header-read t size =
           let long : length sheet ≡ endPlace c = rw is at size in
-          let ok : headOk sheet c ≡ true = simp (eq-eqb (length sheet) (endPlace c) long, told-yes (one-line sheet 37 read) good, told-yes (rw operation-said at fine) t) in
+          let ok : headOk sheet c ≡ true = simp (eq-eqb (length sheet) (endPlace c) long, told-yes (one-line sheet line2 read) good, told-yes (rw operation-said at fine) t) in
           rw (is, operation-said) (rw (told-yes limits few, ok) at by)
 
 -- what a heading says of its sheet
 module _ (sheet : List ℕ) (c : Counts) where
   layout-split : layoutOk sheet c ≡ (headOk sheet c && tablesOk sheet c)
   unfolding layoutOk headOk
-  layout-split = go (eqb (length sheet) (endPlace c)) (isLine sheet 37 6) (operationOk (operationOf sheet)) (tablesOk sheet c)
+  layout-split = go (eqb (length sheet) (endPlace c)) (isLine sheet line2 6) (areListed (operationNumbers sheet)) (tablesOk sheet c)
     where
       go : (a b d t : Bool) → (a && (b && (d && t))) ≡ ((a && (b && d)) && t)
       go true true d t = refl
       go true false d t = refl
       go false b d t = refl
 
-headed-by : (sheet : List ℕ) → isLine sheet 0 6 ≡ true → withinLimits (countsOf sheet) ≡ true → headOk sheet (countsOf sheet) ≡ true → Headed sheet (headerOf sheet (countsOf sheet))
+headed-by : (sheet : List ℕ) → isLine sheet line1 6 ≡ true → withinLimits (countsOf sheet) ≡ true → headOk sheet (countsOf sheet) ≡ true → Headed sheet (headerOf sheet (countsOf sheet))
 unfolding headOk parse
 headed-by sheet line-1 few ok =
     let c = countsOf sheet in
-    let size = and-true (eqb (length sheet) (endPlace c)) (isLine sheet 37 6 && operationOk (operationOf sheet)) ok in
+    let size = and-true (eqb (length sheet) (endPlace c)) (isLine sheet line2 6 && areListed (operationNumbers sheet)) ok in
     record {
       limited = limited c (sym few) refl;
       places-are = refl;
@@ -117,7 +118,7 @@ headed-by sheet line-1 few ok =
 module _ (sheet : List ℕ) {r : Heading} (is : r ≡ headingOf sheet) where
   says-refused : {n : ℕ} → r ≡ Heading.Refused n → linesOfSheet (parse sheet) ≡ line n 0 0 0 ∷ []
   unfolding headingOf headingBy parse
-  says-refused {n} e = go (isLine sheet 0 6) (withinLimits (countsOf sheet)) (headOk sheet (countsOf sheet)) refl (sym e ∙ is)
+  says-refused {n} e = go (isLine sheet line1 6) (withinLimits (countsOf sheet)) (headOk sheet (countsOf sheet)) refl (sym e ∙ is)
     where
       go : (a b d : Bool) → headOk sheet (countsOf sheet) ≡ d
           → Heading.Refused n ≡ cond a (cond b (cond d (Heading.Good (headerOf sheet (countsOf sheet))) (Heading.Refused 7)) (Heading.Refused 1)) (Heading.Refused 7)
@@ -133,9 +134,9 @@ module _ (sheet : List ℕ) {r : Heading} (is : r ≡ headingOf sheet) where
 
   pub header-good : {h : Header} → r ≡ Heading.Good h → Headed sheet h
   unfolding headingOf headingBy
-  header-good {h} e = go (isLine sheet 0 6) (withinLimits (countsOf sheet)) (headOk sheet (countsOf sheet)) refl refl refl (sym e ∙ is)
+  header-good {h} e = go (isLine sheet line1 6) (withinLimits (countsOf sheet)) (headOk sheet (countsOf sheet)) refl refl refl (sym e ∙ is)
     where
-      go : (a b d : Bool) → isLine sheet 0 6 ≡ a → withinLimits (countsOf sheet) ≡ b → headOk sheet (countsOf sheet) ≡ d
+      go : (a b d : Bool) → isLine sheet line1 6 ≡ a → withinLimits (countsOf sheet) ≡ b → headOk sheet (countsOf sheet) ≡ d
           → Heading.Good h ≡ cond a (cond b (cond d (Heading.Good (headerOf sheet (countsOf sheet))) (Heading.Refused 7)) (Heading.Refused 1)) (Heading.Refused 7)
           → Headed sheet h
       go true true true f g k q = let same : h ≡ headerOf sheet (countsOf sheet) = cc in rw same (headed-by sheet f g k)

@@ -11,14 +11,14 @@ use Rattle.base.specs.Refusal.{overLimit, layoutBroken}
 use Rattle.base.specs.Lists.{part, allFrom}
 use Rattle.columns.specs.Columns.{readColumn, columnBytes, columnAt}
 use Rattle.sheet.specs.declared.header.Counts.{Counts}
-use Rattle.sheet.specs.Lines.{numberOf, numberAt, isLine}
-use Rattle.sheet.specs.Sheet.{countsOf, withinLimits, layoutOk, sheetOf, Parsed, unparsed, parsed, parsedBy, parse}
+use Rattle.sheet.specs.Lines.{numberOf, numberAt, columnPlace, lineLength, isLine}
+use Rattle.sheet.specs.Sheet.{line1, countsOf, withinLimits, layoutOk, sheetOf, Parsed, unparsed, parsed, parsedBy, parse}
 use Rattle.sheet.specs.Listing.{linesBytes, linesOfSheet, listingOf}
 use Rattle.sheet.specs.Laws.{CutShort}
 use Rattle.sheet.proofs.header.HeaderTests.{limited, length-differs, counts-read}
 
 -- line 1, of bytes that have it and of more bytes
-module _ (xs ys : List ℕ) (long : 37 ≤ length xs) where
+module _ (xs ys : List ℕ) (long : lineLength 6 ≤ length xs) where
   column-same : (at : ℕ) → at + 6 ≤ length xs → columnAt (xs ++ ys) at ≡ columnAt xs at
   unfolding columnBytes
   column-same at inside =
@@ -34,19 +34,19 @@ module _ (xs ys : List ℕ) (long : 37 ≤ length xs) where
 
   counts-same : countsOf xs ≡ countsOf (xs ++ ys)
   counts-same =
-      counts-read (xs ++ ys) (number-same 0 (omega arith)) (number-same 6 (omega arith)) (number-same 12 (omega arith)) (number-same 18 (omega arith)) (number-same 24 (omega arith)) (number-same 30 (omega arith))
+      counts-read (xs ++ ys) (number-same (columnPlace line1 0) (omega arith)) (number-same (columnPlace line1 1) (omega arith)) (number-same (columnPlace line1 2) (omega arith)) (number-same (columnPlace line1 3) (omega arith)) (number-same (columnPlace line1 4) (omega arith)) (number-same (columnPlace line1 5) (omega arith))
 
-  line-1-same : isLine xs 0 6 ≡ isLine (xs ++ ys) 0 6
+  line-1-same : isLine xs line1 6 ≡ isLine (xs ++ ys) line1 6
   unfolding isLine allFrom
   line-1-same =
       rw (
-        column-same 0 (omega arith),
-        column-same 6 (omega arith),
-        column-same 12 (omega arith),
-        column-same 18 (omega arith),
-        column-same 24 (omega arith),
-        column-same 30 (omega arith),
-        List·getD-append xs ys 0 36 (omega arith),
+        column-same (columnPlace line1 0) (omega arith),
+        column-same (columnPlace line1 1) (omega arith),
+        column-same (columnPlace line1 2) (omega arith),
+        column-same (columnPlace line1 3) (omega arith),
+        column-same (columnPlace line1 4) (omega arith),
+        column-same (columnPlace line1 5) (omega arith),
+        List·getD-append xs ys 0 (columnPlace line1 6) (omega arith),
       )
 
 -- a too long input, by its line 1
@@ -66,15 +66,15 @@ module _ (sheet : List ℕ) (long : 51915 ≤ length sheet) where
       go true e = rw (layout-fails c e)
       go false e = refl
 
-  parsed-long : parse sheet ≡ tooLong (isLine sheet 0 6) (countsOf sheet)
+  parsed-long : parse sheet ≡ tooLong (isLine sheet line1 6) (countsOf sheet)
   unfolding parse
-  parsed-long = ap (λ (p : Parsed). cond (isLine sheet 0 6) p (unparsed layoutBroken)) (refused-by (countsOf sheet))
+  parsed-long = ap (λ (p : Parsed). cond (isLine sheet line1 6) p (unparsed layoutBroken)) (refused-by (countsOf sheet))
 
 parsed-alike : (xs ys : List ℕ) → 51915 ≤ length xs → parse xs ≡ parse (xs ++ ys)
 parsed-alike xs ys long =
-    let line-1 : 37 ≤ length xs = omega arith in
+    let line-1 : lineLength 6 ≤ length xs = omega arith in
     let more : 51915 ≤ length (xs ++ ys) = omega (arith, length-append xs ys) in
-    let same : tooLong (isLine xs 0 6) (countsOf xs) ≡ tooLong (isLine (xs ++ ys) 0 6) (countsOf (xs ++ ys)) =
+    let same : tooLong (isLine xs line1 6) (countsOf xs) ≡ tooLong (isLine (xs ++ ys) line1 6) (countsOf (xs ++ ys)) =
     ap₂ tooLong (line-1-same xs ys line-1) (counts-same xs ys line-1) in
     parsed-long xs long ∙ (same ∙ sym (parsed-long (xs ++ ys) more))
 

@@ -20,6 +20,7 @@ use Rattle.planner.specs.Answer.{lineOf}
 use Rattle.planner.specs.Entries.{entryAt, readEntries}
 use Rattle.planner.proofs.buffer.ReadBack.{length-read}
 use Rattle.sheet.specs.declared.listing.Row.{Row}
+use Rattle.sheet.specs.Lines.{lineLength}
 use Rattle.sheet.specs.Listing.{entryLine, lineBytes, linesBytes, printed, printedCount, Printed}
 use Rattle.sheet.specs.code.Post.{rowLine, writePair, entriesIn, entryLines, answerLines, EntriesAsked, refusalBytes}
 
@@ -51,7 +52,7 @@ pub entry-row : (plan : List ℕ) (i : ℕ) {l : Line} {a b c d : ℕ} → a ≡
 entry-row plan i a b c d is = rw (← a, ← b, ← c, ← d) is
 
 -- lengths
-pub line-long : (l : Line) → length (lineBytes l) ≡ 25
+pub line-long : (l : Line) → length (lineBytes l) ≡ lineLength 4
 unfolding lineBytes
 line-long l =
     let long = read-back .column-long in
@@ -72,7 +73,7 @@ line-long l =
       long (l .fourth),
     )
 
-pub lines-long : (ls : List Line) → length (linesBytes ls) ≡ length ls * 25
+pub lines-long : (ls : List Line) → length (linesBytes ls) ≡ length ls * lineLength 4
 unfolding linesBytes
 lines-long [] = refl
 lines-long (l ∷ ls) = length-append (lineBytes l) (linesBytes ls) ∙ omega (arith, line-long l, lines-long ls)
@@ -95,7 +96,7 @@ module _ (out : List ℕ) (at a b : ℕ) {one two : List ℕ} (room : at + 12 �
       let long = read-back .column-long in
       second ∙ rw first (after out at (writeColumn a) (writeColumn b) 6 (long a) (omega (arith, long b)))
 
-module _ (out : List ℕ) (at a b c d : ℕ) {one : List ℕ} (room : at + 25 ≤ length out) (first : one ≡ stored out at (writePair a b)) where
+module _ (out : List ℕ) (at a b c d : ℕ) {one : List ℕ} (room : at + lineLength 4 ≤ length out) (first : one ≡ stored out at (writePair a b)) where
   module _ {two : List ℕ} (second : two ≡ stored one (at + 12) (writePair c d)) where
     second-is : two ≡ stored out at (writePair a b ++ writePair c d)
     second-is = second ∙ rw first (after out at (writePair a b) (writePair c d) 12 (pair-long a b) (omega (arith, pair-long c d)))
@@ -119,10 +120,10 @@ line-kept out one two i b e f = length-set two i b ∙ (f ∙ e)
 -- The entries: what is left of them makes of the output what all of them make of it as it was.
 pub record Entering (out₀ plan : List ℕ) (count i : ℕ) (out : List ℕ) : Type 0 where
   pub inside : i ≤ count
-  pub space : count * 25 + 25 ≤ length out₀
+  pub space : count * lineLength 4 + lineLength 4 ≤ length out₀
   pub held : count * 4 ≤ length plan
   pub long : length out ≡ length out₀
-  pub same : stored out (25 + i * 25) (linesBytes (entryLines plan i (count - i))) ≡ stored out₀ 25 (linesBytes (entryLines plan 0 count))
+  pub same : stored out (lineLength 4 + i * lineLength 4) (linesBytes (entryLines plan i (count - i))) ≡ stored out₀ (lineLength 4) (linesBytes (entryLines plan 0 count))
 
 pub entering-start : {out plan : List ℕ} {count : ℕ} → EntriesAsked out plan count → Entering out plan count 0 out
 entering-start {out} {plan} {count} asked =
@@ -134,17 +135,17 @@ module _ {out₀ plan : List ℕ} {count i : ℕ} {out : List ℕ} (w : Entering
     pub entry-held : i * 4 + 4 ≤ length plan
     entry-held = omega (arith, w .held)
 
-    pub entry-room : 25 + i * 25 + 25 ≤ length out
+    pub entry-room : lineLength 4 + i * lineLength 4 + lineLength 4 ≤ length out
     entry-room = omega (arith, w .space, w .long)
 
-    pub entering-on : {l : Line} {later : List ℕ} → l ≡ entryLine (entryAt plan i) → later ≡ stored out (25 + i * 25) (lineBytes l) → Entering out₀ plan count (i + 1) later
+    pub entering-on : {l : Line} {later : List ℕ} → l ≡ entryLine (entryAt plan i) → later ≡ stored out (lineLength 4 + i * lineLength 4) (lineBytes l) → Entering out₀ plan count (i + 1) later
     unfolding linesBytes readEntries
     entering-on {l} {later} is e =
-        let at = 25 + i * 25 in
+        let at = lineLength 4 + i * lineLength 4 in
         let rest = entryLines plan (i + 1) (count - (i + 1)) in
         let left : count - i ≡ suc (count - (i + 1)) = omega arith in
         let split : entryLines plan i (count - i) ≡ l ∷ rest = rw (left, is) in
-        let next : 25 + (i + 1) * 25 ≡ at + length (lineBytes l) = omega (arith, line-long l) in
+        let next : lineLength 4 + (i + 1) * lineLength 4 ≡ at + length (lineBytes l) = omega (arith, line-long l) in
         let size = lines-long rest in
         let few = entries-long plan (i + 1) (count - (i + 1)) in
         let fits : at + length (lineBytes l) + length (linesBytes rest) ≤ length out = omega (arith, line-long l, w .space, w .long) in
@@ -156,11 +157,11 @@ module _ {out₀ plan : List ℕ} {count i : ℕ} {out : List ℕ} (w : Entering
           same = rw (e, next, stored-on out at (lineBytes l) (linesBytes rest) fits) (rw split at (w .same));
         }
 
-  pub entering-ends : count ≤ i → out ≡ stored out₀ 25 (linesBytes (entryLines plan 0 count))
+  pub entering-ends : count ≤ i → out ≡ stored out₀ (lineLength 4) (linesBytes (entryLines plan 0 count))
   unfolding readEntries linesBytes
   entering-ends le =
       let z : count - i ≡ 0 = omega arith in
-      sym (stored-none out (25 + i * 25) (omega (arith, w .inside, w .space, w .long))) ∙ rw z at (w .same)
+      sym (stored-none out (lineLength 4 + i * lineLength 4) (omega (arith, w .inside, w .space, w .long))) ∙ rw z at (w .same)
 
 -- the whole output
 drop-replicate : (k n : ℕ) → drop k (replicate n 0) ≡ replicate {A = ℕ} (n - k) 0
@@ -179,7 +180,7 @@ module _ (first : Line) (plan : List ℕ) where
   listing : List ℕ
   listing = linesBytes (answerLines first plan)
 
-  listing-long : length listing ≡ entriesIn first * 25 + 25
+  listing-long : length listing ≡ entriesIn first * lineLength 4 + lineLength 4
   unfolding listing
   listing-long = lines-long (answerLines first plan) ∙ omega (arith, entries-long plan 0 (entriesIn first))
 
@@ -187,14 +188,14 @@ module _ (first : Line) (plan : List ℕ) where
     clear-long : length clear ≡ length out
     clear-long = ap length zeros ∙ length-replicate (length out) 0
 
-    pub lines-past : length clear / 25 ≤ count → Printed (linesBytes (answerLines first plan)) out clear 0
+    pub lines-past : length clear / lineLength 4 ≤ count → Printed (linesBytes (answerLines first plan)) out clear 0
     unfolding listing printed printedCount
     lines-past small =
         let past = lt-leb (length listing) (length out) (omega (arith, listing-long, clear-long)) in
         record { count = rw past; bytes = rw past zeros }
 
-    pub lines-printed : {one two : List ℕ} → count < length clear / 25 → one ≡ stored clear 0 (lineBytes first) → two ≡ stored one 25 (linesBytes (entryLines plan 0 count))
-        → Printed (linesBytes (answerLines first plan)) out two (count * 25 + 25)
+    pub lines-printed : {one two : List ℕ} → count < length clear / lineLength 4 → one ≡ stored clear 0 (lineBytes first) → two ≡ stored one (lineLength 4) (linesBytes (entryLines plan 0 count))
+        → Printed (linesBytes (answerLines first plan)) out two (count * lineLength 4 + lineLength 4)
     unfolding listing linesBytes printedCount
     lines-printed room e f =
         let long = listing-long in
@@ -203,8 +204,8 @@ module _ (first : Line) (plan : List ℕ) where
         let rest = linesBytes (entryLines plan 0 count) in
         let many = lines-long (entryLines plan 0 count) in
         let few = entries-long plan 0 count in
-        let both : stored (stored clear 0 (lineBytes first)) 25 rest ≡ stored clear 0 (lineBytes first ++ rest) =
-        after clear 0 (lineBytes first) rest 25 (line-long first) (omega arith) in
+        let both : stored (stored clear 0 (lineBytes first)) (lineLength 4) rest ≡ stored clear 0 (lineBytes first ++ rest) =
+        after clear 0 (lineBytes first) rest (lineLength 4) (line-long first) (omega arith) in
         record {
           count = rw (le-leb (length listing) (length out) fits) (omega arith);
           bytes = f ∙ (rw (e, both, is, zeros) (stored-zeros out listing fits));

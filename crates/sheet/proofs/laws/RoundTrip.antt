@@ -1,5 +1,5 @@
 -- What is rendered is parsed back.
-use Prim.Native.Nat.{ℕ, zero, suc, _+_, _*_, _^_, _<_}
+use Prim.Native.Nat.{ℕ, zero, suc, _+_, _^_, _<_}
 use mathlib.Core.Bool.{true}
 use mathlib.Core.List.{List, [], _++_, append-nil}
 use mathlib.Core.Path.{_≡_, refl, sym, ap, _∙_}
@@ -11,9 +11,10 @@ use Rattle.table.specs.Tables.{Tables, tables, nodeCount, numberCount, nameCoun
 use Rattle.table.specs.code.Sound.{Limits}
 use Rattle.table.proofs.trees.Facts.{limits-of}
 use Rattle.sheet.specs.declared.header.Counts.{Counts}
-use Rattle.sheet.specs.declared.header.Operation.{Operation}
-use Rattle.sheet.specs.Lines.{numberAt, isLine}
-use Rattle.sheet.specs.Sheet.{countsOf, withinLimits, childrenPlace, numbersPlace, namesPlace, stringsPlace, textPlace, endPlace, operationOf, operationOk, layoutOk, Sheet, sheetOf, parsed, parsedBy, parse}
+use Rattle.operation.specs.declared.numbers.OperationNumbers.{OperationNumbers}
+use Rattle.operation.specs.Numbers.{areListed}
+use Rattle.sheet.specs.Lines.{numberIn, isLine}
+use Rattle.sheet.specs.Sheet.{line1, line2, nodesPlace, countsOf, withinLimits, childrenPlace, numbersPlace, namesPlace, stringsPlace, textPlace, endPlace, operationNumbers, layoutOk, Sheet, sheetOf, parsed, parsedBy, parse}
 use Rattle.sheet.specs.Render.{writeLine, writeLines, countsRow, operationRow, nodeRow, childRow, nameRow, numberLine, render, Renderable, RoundTrip}
 use Rattle.sheet.proofs.header.HeaderTests.{counts-read, operation-read}
 use Rattle.sheet.proofs.laws.RoundTripParts.{Stands, stands-at, stands-first, stands-next, stands-part, line-long, number-at, line-there}
@@ -46,13 +47,13 @@ counts-small T few (suc (suc (suc (suc (suc zero))))) lt = omega (arith, few)
 counts-small T few (suc (suc (suc (suc (suc (suc j)))))) lt = absurd (omega arith)
 
 -- sheets with the same fields
-abbrev filled : Operation → List ℕ → List ℕ → List ℕ → List ℕ → List ℕ → List ℕ → List ℕ → Sheet
+abbrev filled : OperationNumbers → List ℕ → List ℕ → List ℕ → List ℕ → List ℕ → List ℕ → List ℕ → Sheet
 filled o nodes children numbers names strings text marks = record { operation = o; held = tables nodes children numbers names strings text; marks = marks }
 
-sheet-same : {o o′ : Operation} {n n′ k k′ m m′ x x′ s s′ t t′ b b′ : List ℕ} → o ≡ o′ → n ≡ n′ → k ≡ k′ → m ≡ m′ → x ≡ x′ → s ≡ s′ → t ≡ t′ → b ≡ b′ → filled o n k m x s t b ≡ filled o′ n′ k′ m′ x′ s′ t′ b′
+sheet-same : {o o′ : OperationNumbers} {n n′ k k′ m m′ x x′ s s′ t t′ b b′ : List ℕ} → o ≡ o′ → n ≡ n′ → k ≡ k′ → m ≡ m′ → x ≡ x′ → s ≡ s′ → t ≡ t′ → b ≡ b′ → filled o n k m x s t b ≡ filled o′ n′ k′ m′ x′ s′ t′ b′
 sheet-same a b c d e f g h = cc
 
-parsed-as : (sheet : List ℕ) (c : Counts) (S : Sheet) → isLine sheet 0 6 ≡ true → c ≡ countsOf sheet → withinLimits c ≡ true → layoutOk sheet c ≡ true → sheetOf sheet c ≡ S → parse sheet ≡ parsed S
+parsed-as : (sheet : List ℕ) (c : Counts) (S : Sheet) → isLine sheet line1 6 ≡ true → c ≡ countsOf sheet → withinLimits c ≡ true → layoutOk sheet c ≡ true → sheetOf sheet c ≡ S → parse sheet ≡ parsed S
 unfolding parse
 parsed-as sheet c S first counts few laid same =
     let by : parsedBy sheet c ≡ parsed S = rw (few, laid) (ap parsed same) in
@@ -109,23 +110,23 @@ module _ (S : Sheet) (ok : Renderable S) where
   after-1 = line-2 ++ after-2
 
   -- where they stand
-  sheet-at : Stands (render S) (line-1 ++ after-1) 0
+  sheet-at : Stands (render S) (line-1 ++ after-1) line1
   unfolding render
   sheet-at = record { before = []; after = []; is = sym (append-nil (line-1 ++ after-1)); long = refl }
 
-  line-1-at : Stands (render S) line-1 0
+  line-1-at : Stands (render S) line-1 line1
   line-1-at = stands-first line-1 after-1 sheet-at
 
-  after-1-at : Stands (render S) after-1 37
+  after-1-at : Stands (render S) after-1 line2
   after-1-at = stands-at refl (stands-next line-1 after-1 sheet-at (line-long (countsRow T) refl))
 
-  line-2-at : Stands (render S) line-2 37
+  line-2-at : Stands (render S) line-2 line2
   line-2-at = stands-first line-2 after-2 after-1-at
 
-  after-2-at : Stands (render S) after-2 74
+  after-2-at : Stands (render S) after-2 nodesPlace
   after-2-at = stands-at refl (stands-next line-2 after-2 after-1-at (line-long (operationRow (S .operation)) refl))
 
-  nodes-at : Stands (render S) node-lines 74
+  nodes-at : Stands (render S) node-lines nodesPlace
   nodes-at = stands-first node-lines after-nodes after-2-at
 
   after-nodes-at : Stands (render S) after-nodes (childrenPlace c)
@@ -176,17 +177,17 @@ module _ (S : Sheet) (ok : Renderable S) where
       )
 
   -- lines 1 and 2
-  count-at : (j : ℕ) → j < 6 → getD (countsRow T) j 0 ≡ numberAt (render S) (0 + j * 6)
+  count-at : (j : ℕ) → j < 6 → getD (countsRow T) j 0 ≡ numberIn (render S) line1 j
   count-at j lt = sym (number-at (countsRow T) line-1-at refl (counts-small T few) j lt)
 
   counts-back : c ≡ countsOf (render S)
   counts-back =
       counts-read (render S) (count-at 0 (omega arith)) (count-at 1 (omega arith)) (count-at 2 (omega arith)) (count-at 3 (omega arith)) (count-at 4 (omega arith)) (count-at 5 (omega arith))
 
-  operation-at : (j : ℕ) → j < 6 → getD (operationRow (S .operation)) j 0 ≡ numberAt (render S) (37 + j * 6)
+  operation-at : (j : ℕ) → j < 6 → getD (operationRow (S .operation)) j 0 ≡ numberIn (render S) line2 j
   operation-at j lt = sym (number-at (operationRow (S .operation)) line-2-at refl (λ j lt. ok .operation-narrow .digits j) j lt)
 
-  operation-back : S .operation ≡ operationOf (render S)
+  operation-back : S .operation ≡ operationNumbers (render S)
   operation-back =
       operation-read (render S) (operation-at 0 (omega arith)) (operation-at 1 (omega arith)) (operation-at 2 (omega arith)) (operation-at 3 (omega arith)) (operation-at 4 (omega arith)) (operation-at 5 (omega arith))
 
@@ -197,7 +198,7 @@ module _ (S : Sheet) (ok : Renderable S) where
       simp (
         eq-eqb (length (render S)) (endPlace c) sheet-long,
         line-there (operationRow (S .operation)) line-2-at refl (λ j lt. ok .operation-narrow .digits j),
-        ap operationOk (sym operation-back) ∙ ok .operation-ok,
+        ap areListed (sym operation-back) ∙ ok .operation-ok,
         nodes-there T (whole .nodes) nodes-at (ok .nodes),
         children-there T children-at (ok .children),
         numbers-there T numbers-at (ok .numbers),

@@ -19,7 +19,7 @@ use Rattle.columns.proofs.read.Six.{column-inside}
 use Rattle.base.specs.Lists.{allFrom, tabulate}
 use Rattle.table.proofs.tests.Scan.{Scan, scan-start, scan-ends, all-on, all-fails}
 use Rattle.planner.proofs.buffer.Filling.{filling-next, length-tabulate, getD-tabulate}
-use Rattle.sheet.specs.Lines.{numberAt, isLineFeed, columnOk, isLine, lineLength, lineOk, linesOk, isNumberLine, numberLineOk, numberLinesOk, wordAt, numberWord}
+use Rattle.sheet.specs.Lines.{numberAt, isLineFeed, columnOk, isLine, lineLength, lineOk, linesOk, signedLength, numberLineLength, isNumberLine, numberLineOk, numberLinesOk, wordAt, numberWord}
 use Rattle.sheet.specs.code.Post.{Inside, WordRead, Filled, Read, LinesAsked, LineAsked, NumbersAsked, NumberAsked}
 
 -- a column, by what was read
@@ -192,13 +192,13 @@ module _ (sheet : List ℕ) {at columns count : ℕ} {before : List ℕ} (asked 
 
 -- a number's line
 module _ {sheet : List ℕ} {at i : ℕ} {before : List ℕ} (asked : NumberAsked sheet at i before) where
-  pub number-part-fits : Fits w64 (i * 21)
+  pub number-part-fits : Fits w64 (i * numberLineLength)
   number-part-fits = part-fits (asked .asked .lines) i (omega arith)
 
-  pub number-place-fits : Fits w64 (at + i * 21)
+  pub number-place-fits : Fits w64 (at + i * numberLineLength)
   number-place-fits = place-fits (asked .asked .lines) i (omega arith)
 
-  pub number-end-place : Fits w64 (at + i * 21 + 20)
+  pub number-end-place : Fits w64 (at + i * numberLineLength + signedLength)
   number-end-place = let b = asked .asked .lines .below in record { fits = omega arith }
 
   pub number-room : i * 2 < length before
@@ -207,8 +207,8 @@ module _ {sheet : List ℕ} {at i : ℕ} {before : List ℕ} (asked : NumberAske
   pub size-room : (b : ℕ) → i * 2 + 1 < length (set before (i * 2) b)
   size-room b = omega (arith, asked .asked .room, length-set before (i * 2) b)
 
-  module _ {column : SignedColumn} (is : column ≡ signedColumnAt sheet (at + i * 21)) where
-    pub number-read : {below size : ℕ} {r : Bool} → column ≡ SignedColumn.Number below size → r ≡ isLineFeed sheet (at + i * 21 + 20)
+  module _ {column : SignedColumn} (is : column ≡ signedColumnAt sheet (at + i * numberLineLength)) where
+    pub number-read : {below size : ℕ} {r : Bool} → column ≡ SignedColumn.Number below size → r ≡ isLineFeed sheet (at + i * numberLineLength + signedLength)
         → Read (numberWord sheet at) (i * 2 + 2) (numberLineOk sheet at i) (set (set before (i * 2) below) (i * 2 + 1) size) r
     unfolding isNumberLine numberWord
     number-read {below} {size} e feed =
@@ -217,7 +217,7 @@ module _ {sheet : List ℕ} {at i : ℕ} {before : List ℕ} (asked : NumberAske
         let q′ : (i * 2 + 1) / 2 ≡ i = omega arith in
         let m′ : (i * 2 + 1) % 2 ≡ 1 = omega arith in
         let n : i * 2 + 2 ≡ i * 2 + 1 + 1 = omega arith in
-        let here : signedColumnAt sheet (at + i * 21) ≡ SignedColumn.Number below size = sym is ∙ e in
+        let here : signedColumnAt sheet (at + i * numberLineLength) ≡ SignedColumn.Number below size = sym is ∙ e in
         let one : Filled (numberWord sheet at) (i * 2 + 1) (set before (i * 2) below) =
         filled-on (asked .before) number-room (rw (q, m, here)) in
         record { ok = rw here feed; filled = λ _. rw n (filled-on one (size-room below) (rw (q′, m′, here))) }

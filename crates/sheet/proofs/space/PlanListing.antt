@@ -8,64 +8,25 @@ use borrow.Author.Tests.{eq-eqb, ne-eqb, eqb-false, leb-true, le-leb, ltb-true, 
 use lib.Dec.{eqb, leb, ltb}
 use lib.ListN.{length, drop, replicate, length-append, List·getD-append}
 use Rattle.literal.proofs.Numbers.{and-true}
-use Rattle.scope.specs.declared.Scope.{Scope}
-use Rattle.scope.specs.declared.ScopingMode.{ScopingMode}
-use Rattle.scope.specs.declared.ScopingMode.the-variants.{RespectParent, AllowShadowing}
-use Rattle.table.specs.Tables.{Tables}
 use Rattle.planner.specs.declared.PlanAnswer.{PlanAnswer}
 use Rattle.base.specs.Refusal.{Refusal, planTooLarge, Line, line, refusalLine}
 use Rattle.planner.specs.Answer.{lineOf}
 use Rattle.planner.specs.Layout.{Entry, words}
-use Rattle.planner.specs.Operations.{Outcome, refused, planned, answered, written, Answered, patternOutcome, indexOutcome, parameterOutcome}
+use Rattle.planner.specs.Operations.{Outcome, refused, planned, answered, written, Answered}
 use Rattle.planner.specs.Entries.{readEntries}
 use Rattle.planner.proofs.buffer.ReadBack.{read-words}
 use Rattle.planner.proofs.buffer.Written.{length-words}
-use Rattle.assignment.specs.declared.AssignOp.the-variants.{ColEq, Eq}
-use Rattle.assignment.specs.Assignment.{assignmentOutcome}
-use Rattle.some_in.specs.SomeIn.{someInOutcome}
-use Rattle.sheet.specs.declared.header.Operation.{Operation}
-use Rattle.sheet.specs.Sheet.{scopingOf}
-use Rattle.sheet.specs.Listing.{operated, linesOf, linesBytes, Printed}
+use Rattle.scope.specs.declared.Scope.{Scope}
+use Rattle.table.specs.Tables.{Tables}
+use Rattle.operation.specs.declared.Operation.{Operation}
+use Rattle.operation.specs.declared.numbers.OperationNumbers.{OperationNumbers}
+use Rattle.operation.specs.Operation.{operationOutcome}
+use Rattle.operation.specs.Numbers.{operationOf}
+use Rattle.operation.proofs.Cases.{by-case}
+use Rattle.sheet.specs.Listing.{linesOf, linesBytes, Printed}
 use Rattle.sheet.specs.declared.space.Tried.{Tried}
 use Rattle.sheet.specs.declared.space.Tried.the-variants as Tried
 use Rattle.sheet.specs.code.Post.{entriesIn, answerLines, TriedBy}
-
--- the scoping
-module _ (o : Operation) where
-  pub scoping-shadows : o .scoping ≡ 2 → AllowShadowing ≡ scopingOf o
-  scoping-shadows e = simp (eq-eqb (o .scoping) 2 e)
-
-  pub scoping-respects : (o .scoping ≡ 2 → ⊥) → RespectParent ≡ scopingOf o
-  scoping-respects e = simp (ne-eqb (o .scoping) 2 e)
-
--- the operation, by its number
-module _ (o : Operation) (T : Tables) (s : Scope) {before after : List ℕ} {r : PlanAnswer} where
-  pub operated-pattern : {mode : ScopingMode} → mode ≡ scopingOf o → o .number ≡ 1 → Answered (patternOutcome T s mode (o .first)) before after r → Answered (operated o T s) before after r
-  unfolding operated
-  operated-pattern m e a = rw (eq-eqb (o .number) 1 e, ← m) a
-
-  pub operated-colon : o .number ≡ 2 → Answered (assignmentOutcome T s ColEq (o .first) (o .second)) before after r → Answered (operated o T s) before after r
-  unfolding operated
-  operated-colon e a = rw e a
-
-  pub operated-equals : o .number ≡ 3 → Answered (assignmentOutcome T s Eq (o .first) (o .second)) before after r → Answered (operated o T s) before after r
-  unfolding operated
-  operated-equals e a = rw e a
-
-  pub operated-some-in : o .number ≡ 4 → Answered (someInOutcome T s (o .first) (o .second) (o .key)) before after r → Answered (operated o T s) before after r
-  unfolding operated
-  operated-some-in e a = rw e a
-
-  pub operated-index : o .number ≡ 5 → Answered (indexOutcome T s (o .first)) before after r → Answered (operated o T s) before after r
-  unfolding operated
-  operated-index e a = rw e a
-
-  pub operated-parameter : {mode : ScopingMode} → mode ≡ scopingOf o
-      → (o .number ≡ 1 → ⊥) → (o .number ≡ 2 → ⊥) → (o .number ≡ 3 → ⊥) → (o .number ≡ 4 → ⊥) → (o .number ≡ 5 → ⊥)
-      → Answered (parameterOutcome T s mode (o .first)) before after r → Answered (operated o T s) before after r
-  unfolding operated
-  operated-parameter m n1 n2 n3 n4 n5 a =
-      rw (ne-eqb (o .number) 1 n1, ne-eqb (o .number) 2 n2, ne-eqb (o .number) 3 n3, ne-eqb (o .number) 4 n4, ne-eqb (o .number) 5 n5, ← m) a
 
 -- what is listed of an answer and its plan
 record Listed (o : Outcome) (first : Line) (plan : List ℕ) : Type 0 where
@@ -137,23 +98,27 @@ listed-in o {blank} {plan} {a} few done other = go (eqb (lineOf a .number) 6) (l
     go true true p q e = absurd (false≢true (sym e))
     go false small p q e = listed-small o few done (eqb-false (lineOf a .number) 6 p)
 
-module _ (o : Operation) (T : Tables) (s : Scope) {blank plan : List ℕ} {a : PlanAnswer} {first : Line}
-    (few : length blank ≤ 6144) (done : Answered (operated o T s) blank plan a) (is : first ≡ lineOf a) {m : Bool} (told : m ≡ (eqb (first .number) 6 && ltb (length plan) 6144)) (kept : length plan ≡ length blank) where
+module _ (T : Tables) (s : Scope) (numbers : OperationNumbers) {operation : Operation} {blank plan : List ℕ} {a : PlanAnswer} {first : Line}
+    (few : length blank ≤ 6144) (of : operation ≡ operationOf numbers) (done : Answered (operationOutcome T s operation) blank plan a) (is : first ≡ lineOf a)
+    {m : Bool} (told : m ≡ (eqb (first .number) 6 && ltb (length plan) 6144)) (kept : length plan ≡ length blank) where
+  abbrev outcome : Outcome
+  outcome = operationOutcome T s (operationOf numbers)
+
   module _ (fits : m ≡ false) where
-    listed : Listed (operated o T s) (lineOf a) plan
-    listed = listed-in (operated o T s) few done (rw (is, kept) at (sym told ∙ fits))
+    listed : Listed outcome (lineOf a) plan
+    listed = listed-in outcome few (by-case T s (operationOf numbers) operation (sym of) done) (rw (is, kept) at (sym told ∙ fits))
 
     pub tried-held : entriesIn first * 4 ≤ length plan
     tried-held = rw is (listed .held)
 
-    pub tried-listed : {before after : List ℕ} {bytes : ℕ} → Printed (linesBytes (answerLines first plan)) before after bytes → TriedBy (linesBytes (linesOf (operated o T s))) (length blank) before after (Tried.Listed bytes)
+    pub tried-listed : {before after : List ℕ} {bytes : ℕ} → Printed (linesBytes (answerLines first plan)) before after bytes → TriedBy (linesBytes (linesOf outcome)) (length blank) before after (Tried.Listed bytes)
     tried-listed {bytes = bytes} p = record {
       listed = λ n e. let same : bytes ≡ n = cc in rw (← listed .lines, ← is, ← same) p;
       more = λ e. let z : _≡_ {A = ℕ} 0 1 = cc in absurd (omega arith);
       kept = λ e. let z : _≡_ {A = ℕ} 0 1 = cc in absurd (omega arith);
     }
 
-  pub tried-large : (out : List ℕ) → m ≡ true → TriedBy (linesBytes (linesOf (operated o T s))) (length blank) out out Tried.TooLarge
+  pub tried-large : (out : List ℕ) → m ≡ true → TriedBy (linesBytes (linesOf outcome)) (length blank) out out Tried.TooLarge
   tried-large out large = record {
     listed = λ n e. let z : _≡_ {A = ℕ} 0 1 = cc in absurd (omega arith);
     more = λ _. omega (arith, ltb-true (length plan) 6144 (and-true (eqb (first .number) 6) (ltb (length plan) 6144) (sym told ∙ large) .1));

@@ -16,8 +16,7 @@ use Rattle.sheet.specs.declared.header.Counts.{Counts}
 use Rattle.sheet.specs.declared.header.Header.{Header}
 use Rattle.sheet.specs.declared.space.Tried.{Tried}
 use Rattle.sheet.specs.declared.space.Tried.the-variants as Tried
-use Rattle.sheet.specs.Lines.{wordAt}
-use Rattle.sheet.specs.Sheet.{namesPlace, stringsPlace, textPlace, endPlace, marksOf}
+use Rattle.sheet.specs.Sheet.{markWord, namesPlace, stringsPlace, textPlace, endPlace, marksOf}
 use Rattle.sheet.specs.Listing.{listingOf, Printed}
 use Rattle.sheet.specs.code.Header.{Headed}
 use Rattle.sheet.specs.code.Post.{isSmall, Overlaid, refusalBytes, plannedBytes, TriedBy, Space, Roomy, TablesAsked, TablesRead, Tabled}
@@ -147,8 +146,8 @@ module _ {sheet : List ℕ} {h : Header} {nodes children numbers names marks : L
       let strings : textPlace c - stringsPlace c ≡ c .strings = omega arith in
       let text : endPlace c - textPlace c ≡ c .text = omega arith in
       let held = t .held in
-      let all : marks ≡ marksOf sheet c ++ replicate (128 - c .names) 0 = marks-all (wordAt sheet (namesPlace c + 12) 19 1) (c .names) (t .headed .limited .names-few) (held .names-held .marked) in
-      let scope-marks : marks ≡ marksOf sheet c ++ replicate (128 - length (marksOf sheet c)) 0 = rw (length-tabulate (wordAt sheet (namesPlace c + 12) 19 1) 0 (c .names)) all in
+      let all : marks ≡ marksOf sheet c ++ replicate (128 - c .names) 0 = marks-all (markWord sheet (namesPlace c)) (c .names) (t .headed .limited .names-few) (held .names-held .marked) in
+      let scope-marks : marks ≡ marksOf sheet c ++ replicate (128 - length (marksOf sheet c)) 0 = rw (length-tabulate (markWord sheet (namesPlace c)) 0 (c .names)) all in
       rw (t .headed .parses, t .good, t .headed .places-are, t .headed .operation-is, strings, text, scope-marks, filled-first (held .nodes-filled) nodes-inside, filled-first (held .children-filled) children-inside, filled-first (held .numbers-filled) numbers-inside, filled-first (held .names-held .words) names-inside)
 
 pub is-listed : {listing before after : List ℕ} {bytes : ℕ} (space : ℕ) → Printed listing before after bytes → TriedBy listing space before after (Tried.Listed bytes)

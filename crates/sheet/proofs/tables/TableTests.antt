@@ -10,28 +10,28 @@ use lib.ListN.{length, getD}
 use Rattle.base.specs.Lists.{allFrom}
 use Rattle.table.proofs.tests.Bools.{told-no, told-yes}
 use Rattle.sheet.specs.declared.header.Header.{Header}
-use Rattle.sheet.specs.Lines.{numberAt, linesOk, numberLinesOk, wordAt, numberWord}
-use Rattle.sheet.specs.Sheet.{markOk, marksOk}
+use Rattle.sheet.specs.Lines.{numberAt, columnPlace, numberIn, lineLength, linesOk, numberLinesOk, wordAt, numberWord}
+use Rattle.sheet.specs.Sheet.{markWord, markOk, marksOk}
 use Rattle.sheet.specs.code.Header.{tablesOk}
 use Rattle.sheet.specs.code.Post.{Filled, Read, LinesAsked, NumbersAsked, nameWord, rowMark, rowMarkOk, NamesAsked, MarksAsked, Overlaid, MarksRead, namesOk, NamesRead, TablesAsked, TablesRead}
 use Rattle.sheet.proofs.lines.LineTests.{word-in-line}
 
 -- the words of names and marks
-module _ (sheet : List ℕ) (at count : ℕ) {rows : List ℕ} (words : Filled (wordAt sheet at 19 3) (count * 3) rows) where
-  row-word : (i j : ℕ) → i < count → j < 3 → getD rows (i * 3 + j) 0 ≡ numberAt sheet (at + i * 19 + j * 6)
-  row-word i j lt less = words .each (i * 3 + j) (omega arith) ∙ word-in-line sheet at 19 3 i j less
+module _ (sheet : List ℕ) (at count : ℕ) {rows : List ℕ} (words : Filled (wordAt sheet at (lineLength 3) 3) (count * 3) rows) where
+  row-word : (i j : ℕ) → i < count → j < 3 → getD rows (i * 3 + j) 0 ≡ numberIn sheet (at + i * lineLength 3) j
+  row-word i j lt less = words .each (i * 3 + j) (omega arith) ∙ word-in-line sheet at (lineLength 3) 3 i j less
 
-  name-word : (w : ℕ) → w < count * 2 → nameWord rows w ≡ wordAt sheet at 19 2 w
+  name-word : (w : ℕ) → w < count * 2 → nameWord rows w ≡ wordAt sheet at (lineLength 3) 2 w
   unfolding wordAt
   name-word w lt = row-word (w / 2) (w % 2) (omega arith) (omega arith)
 
-  names-words : {names : List ℕ} → Filled (nameWord rows) (count * 2) names → Filled (wordAt sheet at 19 2) (count * 2) names
+  names-words : {names : List ℕ} → Filled (nameWord rows) (count * 2) names → Filled (wordAt sheet at (lineLength 3) 2) (count * 2) names
   names-words f = record { each = λ k lt. f .each k lt ∙ name-word k lt }
 
-  mark-word : (x : ℕ) → x < count → rowMark rows x ≡ wordAt sheet (at + 12) 19 1 x
+  mark-word : (x : ℕ) → x < count → rowMark rows x ≡ markWord sheet at x
   unfolding wordAt
   mark-word x lt =
-      let e : at + x * 19 + 2 * 6 ≡ at + 12 + x * 19 + 0 * 6 = omega arith in
+      let e : columnPlace (at + x * lineLength 3) 2 ≡ columnPlace (columnPlace at 2 + x * lineLength 3) 0 = omega arith in
       row-word x 2 lt (omega arith) ∙ rw (div-one x, mod-one x) (ap (numberAt sheet) e)
 
   marks-tested : allFrom (rowMarkOk rows) 0 count ≡ marksOk sheet at count
@@ -42,7 +42,7 @@ module _ (sheet : List ℕ) (at count : ℕ) {rows : List ℕ} (words : Filled (
       go from zero le = refl
       go from (suc k) le = rw (mark-word from (omega arith), go (from + 1) k (omega arith))
 
-  marks-words : {before marks : List ℕ} → Overlaid (rowMark rows) count before marks → Overlaid (wordAt sheet (at + 12) 19 1) count before marks
+  marks-words : {before marks : List ℕ} → Overlaid (rowMark rows) count before marks → Overlaid (markWord sheet at) count before marks
   marks-words m = record { long = m .long; first = record { each = λ k lt. m .first .each k lt ∙ mark-word k lt }; rest = m .rest }
 
 -- the lines of names
@@ -56,12 +56,12 @@ module _ {at count : ℕ} {names : List ℕ} (asked : LinesAsked at 3 count name
 names-unread : {sheet : List ℕ} {at count : ℕ} (names before marks : List ℕ) → false ≡ namesOk sheet at count → NamesRead sheet at count names before marks false
 names-unread names before marks e = record { ok = e; held = λ t. absurd (false≢true t) }
 
-module _ (sheet : List ℕ) (at count : ℕ) {rows : List ℕ} {l : Bool} (read : Read (wordAt sheet at 19 3) (count * 3) (linesOk sheet at 3 count) rows l) where
+module _ (sheet : List ℕ) (at count : ℕ) {rows : List ℕ} {l : Bool} (read : Read (wordAt sheet at (lineLength 3) 3) (count * 3) (linesOk sheet at 3 count) rows l) where
   pub rows-fail : (before marks : List ℕ) → not l ≡ true → NamesRead sheet at count rows before marks false
   rows-fail before marks t = names-unread rows before marks (rw (told-no (read .ok) t))
 
   module _ (good : not l ≡ false) {before marks : List ℕ} {m : Bool} (read-2 : MarksRead rows count before marks m) where
-    rows-are : Filled (wordAt sheet at 19 3) (count * 3) rows
+    rows-are : Filled (wordAt sheet at (lineLength 3) 3) (count * 3) rows
     rows-are = read .filled (not-false l good)
 
     marks-say : m ≡ marksOk sheet at count
@@ -94,14 +94,14 @@ module _ {h : Header} {nodes children numbers names : List ℕ} (asked : TablesA
   names-asked = rw (asked .places-are) (record { lines = record { below = omega (arith, asked .limited) }; few = omega arith; room = asked .roomy .names-room })
 
   -- one table after the other
-  module _ (sheet before marks : List ℕ) {nodes-2 : List ℕ} {a : Bool} (read-1 : Read (wordAt sheet (h .places .nodes) 31 5) (h .counts .nodes * 5) (linesOk sheet (h .places .nodes) 5 (h .counts .nodes)) nodes-2 a) where
+  module _ (sheet before marks : List ℕ) {nodes-2 : List ℕ} {a : Bool} (read-1 : Read (wordAt sheet (h .places .nodes) (lineLength 5) 5) (h .counts .nodes * 5) (linesOk sheet (h .places .nodes) 5 (h .counts .nodes)) nodes-2 a) where
     unread : (ns ks ms xs : List ℕ) → false ≡ tablesOk sheet (h .counts) → TablesRead sheet (h .counts) ns ks ms xs before marks false
     unread ns ks ms xs e = record { ok = e; held = λ t. absurd (false≢true t) }
 
     pub no-nodes : (ks ms xs : List ℕ) → not a ≡ true → TablesRead sheet (h .counts) nodes-2 ks ms xs before marks false
     no-nodes ks ms xs t = unread nodes-2 ks ms xs (rw (told-no (rw (asked .places-are) at (read-1 .ok)) t))
 
-    module _ (good-1 : not a ≡ false) {children-2 : List ℕ} {b : Bool} (read-2 : Read (wordAt sheet (h .places .children) 7 1) (h .counts .children * 1) (linesOk sheet (h .places .children) 1 (h .counts .children)) children-2 b) where
+    module _ (good-1 : not a ≡ false) {children-2 : List ℕ} {b : Bool} (read-2 : Read (wordAt sheet (h .places .children) (lineLength 1) 1) (h .counts .children * 1) (linesOk sheet (h .places .children) 1 (h .counts .children)) children-2 b) where
       pub no-children : (ms xs : List ℕ) → not b ≡ true → TablesRead sheet (h .counts) nodes-2 children-2 ms xs before marks false
       no-children ms xs t = unread nodes-2 children-2 ms xs (rw (told-yes (rw (asked .places-are) at (read-1 .ok)) good-1, told-no (rw (asked .places-are) at (read-2 .ok)) t))
 

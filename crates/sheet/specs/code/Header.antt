@@ -8,12 +8,13 @@ use lib.ListN.{length, getD}
 use Rattle.base.specs.Refusal.{overLimit, layoutBroken}
 use Rattle.sheet.specs.declared.header.Counts.{Counts}
 use Rattle.sheet.specs.declared.header.Places.{Places}
-use Rattle.sheet.specs.declared.header.Operation.{Operation}
+use Rattle.operation.specs.declared.numbers.OperationNumbers.{OperationNumbers}
+use Rattle.operation.specs.Numbers.{areListed}
 use Rattle.sheet.specs.declared.header.Header.{Header}
 use Rattle.sheet.specs.declared.header.Heading.{Heading}
 use Rattle.sheet.specs.declared.header.Heading.the-variants as Heading
 use Rattle.sheet.specs.Lines.{isLine, linesOk, numberLinesOk}
-use Rattle.sheet.specs.Sheet.{line1, line2, nodesPlace, countsOf, withinLimits, childrenPlace, numbersPlace, namesPlace, stringsPlace, textPlace, endPlace, operationOf, operationOk, marksOk, sheetOf, unparsed, parsed, parse}
+use Rattle.sheet.specs.Sheet.{line1, line2, nodesPlace, countsOf, withinLimits, childrenPlace, numbersPlace, namesPlace, stringsPlace, textPlace, endPlace, operationNumbers, marksOk, sheetOf, unparsed, parsed, parse}
 
 -- the two lines, by their words
 abbrev pub countsIn : List ℕ → Counts
@@ -27,7 +28,7 @@ countsIn line =
       text = getD line 5 0;
     }
 
-abbrev pub operationIn : List ℕ → Operation
+abbrev pub operationIn : List ℕ → OperationNumbers
 operationIn line =
     record {
       number = getD line 0 0;
@@ -62,10 +63,10 @@ pub record Limited (c : Counts) : Type 0 where
 
 -- 7 line 1 unreadable, 1 by line 1, 7 for the length or line 2
 abbrev pub headerOf : List ℕ → Counts → Header
-headerOf sheet c = record { counts = c; places = placesOf c; operation = operationOf sheet }
+headerOf sheet c = record { counts = c; places = placesOf c; operation = operationNumbers sheet }
 
 unfoldable pub headOk : List ℕ → Counts → Bool
-headOk sheet c = eqb (length sheet) (endPlace c) && (isLine sheet line2 6 && operationOk (operationOf sheet))
+headOk sheet c = eqb (length sheet) (endPlace c) && (isLine sheet line2 6 && areListed (operationNumbers sheet))
 
 unfoldable pub headingBy : List ℕ → Counts → Heading
 headingBy sheet c = cond (withinLimits c) (cond (headOk sheet c) (Heading.Good (headerOf sheet c)) (Heading.Refused (layoutBroken .number))) (Heading.Refused (overLimit .number))
@@ -86,6 +87,6 @@ tablesOk sheet c =
 pub record Headed (sheet : List ℕ) (h : Header) : Type 0 where
   pub limited : Limited (h .counts)
   pub places-are : h .places ≡ placesOf (h .counts)
-  pub operation-is : h .operation ≡ operationOf sheet
+  pub operation-is : h .operation ≡ operationNumbers sheet
   pub size : length sheet ≡ endPlace (h .counts)
   pub parses : parse sheet ≡ cond (tablesOk sheet (h .counts)) (parsed (sheetOf sheet (h .counts))) (unparsed layoutBroken)

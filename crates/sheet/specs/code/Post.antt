@@ -13,14 +13,16 @@ use Rattle.base.specs.Refusal.{Line, line}
 use Rattle.planner.specs.Entries.{readEntries}
 use Rattle.sheet.specs.declared.header.Counts.{Counts}
 use Rattle.sheet.specs.declared.header.Header.{Header}
-use Rattle.sheet.specs.declared.header.Operation.{Operation}
+use Rattle.operation.specs.declared.numbers.OperationNumbers.{OperationNumbers}
+use Rattle.operation.specs.Operation.{operationOutcome}
+use Rattle.operation.specs.Numbers.{operationOf}
 use Rattle.sheet.specs.declared.listing.Row.{Row}
 use Rattle.sheet.specs.declared.space.Tried.{Tried}
 use Rattle.sheet.specs.declared.space.Tried.the-variants as Tried
 use Rattle.base.specs.Lent.{Slices}
 use Rattle.sheet.specs.Lines.{isReadable, numberAt, lineLength, numberLineLength, linesOk, wordAt, numberWord}
 use Rattle.sheet.specs.Sheet.{nodesPlace, markWord, childrenPlace, numbersPlace, namesPlace, marksOk}
-use Rattle.sheet.specs.Listing.{operated, entryLine, linesOf, linesBytes, Printed}
+use Rattle.sheet.specs.Listing.{entryLine, linesOf, linesBytes, Printed}
 use Rattle.sheet.specs.code.Header.{placesOf, Limited, tablesOk, Headed}
 
 -- so many parts of `line` bytes each, below 2^32
@@ -123,7 +125,7 @@ pub record EntriesAsked (out plan : List ℕ) (count : ℕ) : Type 0 where
   pub held : count * 4 ≤ length plan
 
 -- the scope of a sheet, by its marks
-abbrev pub scopeIn : Operation → List ℕ → Scope
+abbrev pub scopeIn : OperationNumbers → List ℕ → Scope
 scopeIn o marks = record { marks = marks; underscore = 0; scheduler = eqb (o .scheduler) 1 }
 
 -- the words of a plan, four an entry, in the full space and in the small one
@@ -144,8 +146,8 @@ pub record TriedBy (listing : List ℕ) (space : ℕ) (before after : List ℕ) 
   pub kept : r ≡ Tried.TooLarge → after ≡ before
 
 -- the listing of a sheet, by its tables and marks
-abbrev pub plannedBytes : Operation → Tables → List ℕ → List ℕ
-plannedBytes o T marks = linesBytes (linesOf (operated o T (scopeIn o marks)))
+abbrev pub plannedBytes : OperationNumbers → Tables → List ℕ → List ℕ
+plannedBytes o T marks = linesBytes (linesOf (operationOutcome T (scopeIn o marks) (operationOf o)))
 
 -- in an output that is lent
 abbrev pub PrintedIn : Slices → List ℕ → ℕ → Type 0

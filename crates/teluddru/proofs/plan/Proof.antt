@@ -40,10 +40,10 @@ use Rattle.teluddru.specs.declared.Name.{Name}
 use Rattle.teluddru.specs.declared.records.NameWords.{NameWords}
 use Rattle.teluddru.specs.Records.{nameWords}
 use Rattle.teluddru.specs.code.Copying.{held, Copied}
-use Rattle.teluddru.specs.Outcome.{operationOutcome}
-use Rattle.teluddru.specs.declared.Operation.{Operation}
-use Rattle.teluddru.proofs.Operation as O
-use Rattle.teluddru.proofs.Operation.Laws as O′
+use Rattle.operation.specs.Operation.{operationOutcome}
+use Rattle.operation.specs.declared.Operation.{Operation}
+use Rattle.operation.proofs.Operation as O
+use Rattle.operation.proofs.Operation.Laws as O′
 use Rattle.teluddru.proofs.records.NameWords as N
 use Rattle.teluddru.proofs.records.NameWords.Laws as N′
 use Rattle.teluddru.proofs.AllNames.{plan-all}
@@ -51,10 +51,10 @@ use Rattle.teluddru.proofs.Passing.{CopyNames, said-of-all, lftsOn, sha
 use Rattle.teluddru.proofs.records.copy_names.Symbol as copy-names-def
 use Rattle.teluddru.proofs.records.copy_names.Symbol.{name as #copy-names}
 use Rattle.teluddru.proofs.records.copy_names.Met as copy-names-thm
-use Rattle.teluddru.proofs.operations.plan_words as plan-words
-use Rattle.teluddru.proofs.operations.plan_words.Symbol as plan-words-def
-use Rattle.teluddru.proofs.operations.plan_words.Symbol.{name as #plan-words}
-use Rattle.teluddru.proofs.operations.plan_words.Met as plan-words-thm
+use Rattle.teluddru.proofs.plans.plan_words as plan-words
+use Rattle.teluddru.proofs.plans.plan_words.Symbol as plan-words-def
+use Rattle.teluddru.proofs.plans.plan_words.Symbol.{name as #plan-words}
+use Rattle.teluddru.proofs.plans.plan_words.Met as plan-words-thm
 use Rattle.teluddru.proofs.plan.Key.{name as #plan}
 use Rattle.teluddru.proofs.plan as self
 use Rattle.teluddru.proofs.plan.Statement as stated
@@ -155,4 +155,4 @@ plan-spec 𝓤 H 𝓜 𝓖 𝓡 =
     entered 𝓤 H (Plan 𝓤 H (𝓖 .A) (𝓜 .mem) (𝓡 .run)) (code-tables 𝓤 H 𝓜 𝓡 code.env .C) (code-tables 𝓤 H 𝓜 𝓡 code.env .Λ) #plan code.function (code.unfolded 𝓤 H 𝓜 𝓡)
     (meets 𝓤 H (𝓖 .A) (givenOf 𝓤 H 𝓜 𝓖) (𝓜 .mem) (𝓡 .run) (tablesOf 𝓤 H 𝓜 (code-tables 𝓤 H 𝓜 𝓡 code.env))
     (cited 𝓤 H (CopyNames 𝓤 H (𝓖 .A) (𝓜 .mem) (𝓡 .run)) 𝓜 𝓡 code.env #copy-names copy-names-def.routine code.calls-teluddru·records·copy-names (copy-names-thm.met 𝓤 H 𝓜 𝓖 𝓡))
-    (cited 𝓤 H (PlanWords 𝓤 H (𝓖 .A) (𝓜 .mem) (𝓡 .run)) 𝓜 𝓡 code.env #plan-words plan-words-def.routine code.calls-teluddru·operations·plan-words (plan-words-thm.met 𝓤 H 𝓜 𝓖 𝓡)))
+    (cited 𝓤 H (PlanWords 𝓤 H (𝓖 .A) (𝓜 .mem) (𝓡 .run)) 𝓜 𝓡 code.env #plan-words plan-words-def.routine code.calls-teluddru·plans·plan-words (plan-words-thm.met 𝓤 H 𝓜 𝓖 𝓡)))

@@ -6,8 +6,8 @@ use Rattle.scope.specs.declared.Scope.{Scope}
 use Rattle.table.specs.Tables.{Tables}
 use Rattle.planner.specs.declared.PlanAnswer.{PlanAnswer}
 use Rattle.planner.specs.Operations.{Answered}
-use Rattle.teluddru.specs.declared.Operation.{Operation}
-use Rattle.teluddru.specs.Outcome.{operationOutcome}
+use Rattle.operation.specs.declared.Operation.{Operation}
+use Rattle.operation.specs.Operation.{operationOutcome}
 
 pub by-case : (T : Tables) (s : Scope) {before later : List ℕ} {r : PlanAnswer} (operation case : Operation) → operation ≡ case
     → Answered (operationOutcome T s case) before later r → Answered (operationOutcome T s operation) before later r

@@ -5,8 +5,8 @@ use Rattle.planner.specs.Operations.{Outcome, patternOutcome, indexOutcome, par
 use Rattle.assignment.specs.declared.AssignOp.the-variants.{ColEq, Eq}
 use Rattle.assignment.specs.Assignment.{assignmentOutcome}
 use Rattle.some_in.specs.SomeIn.{someInOutcome}
-use Rattle.teluddru.specs.declared.Operation.{Operation}
-use Rattle.teluddru.specs.declared.Operation.the-variants.{Pattern, ColonEquals, Equals, SomeIn, Index, Parameter}
+use Rattle.operation.specs.declared.Operation.{Operation}
+use Rattle.operation.specs.declared.Operation.the-variants.{Pattern, ColonEquals, Equals, SomeIn, Index, Parameter}
 
 unfoldable pub operationOutcome : Tables → Scope → Operation → Outcome
 operationOutcome T s (Pattern scoping root) = patternOutcome T s scoping root

@@ -1,6 +1,9 @@
-// An operation over names in pairs of words.
-use crate::Operation;
-use crate::records::NameWords;
+// The planning call over the six operations.
+pub mod numbers;
+
+ghost use Rattle.table.specs.Lent.{lent};
+ghost use Rattle.planner.specs.Operations.{AnsweredIn};
+ghost use Rattle.operation.specs.Operation.{operationOutcome};
 use assignment::AssignOp;
 use assignment::assignment::create_assignment_binding_plan;
 use planner::PlanAnswer;
@@ -8,14 +11,39 @@ use planner::destructuring::create_destructuring_plan;
 use planner::parameters::create_loop_index_binding_plan;
 use planner::parameters::create_parameter_binding_plan;
 use scope::Scope;
+use scope::ScopingMode;
 use some_in::create_some_in_binding_plan;
-ghost use Rattle.table.specs.Lent.{lent};
-ghost use Prim.Native.Nat.{_≤_};
-ghost use Rattle.planner.specs.Operations.{AnsweredIn};
-ghost use Rattle.teluddru.specs.code.Copying.{lentWords};
-ghost use Rattle.teluddru.specs.Outcome.{operationOutcome};
 
-fn plan_operation(
+// What to plan, with its roots; a some-in key of 0 says that there is none.
+pub enum Operation {
+    Pattern {
+        scoping: ScopingMode,
+        root: u32,
+    },
+    ColonEquals {
+        left: u32,
+        right: u32,
+    },
+    Equals {
+        left: u32,
+        right: u32,
+    },
+    SomeIn {
+        value: u32,
+        collection: u32,
+        key: u32,
+    },
+    Index {
+        root: u32,
+    },
+    Parameter {
+        scoping: ScopingMode,
+        root: u32,
+    },
+}
+
+// Plans the operation into the buffer.
+pub fn plan(
     nodes: &[u32],
     children: &[u32],
     numbers: &[u64],
@@ -108,33 +136,4 @@ fn plan_operation(
             plan,
         ),
     }
-}
-
-pub(crate) fn plan_words(
-    nodes: &[u32],
-    children: &[u32],
-    numbers: &[u64],
-    names: NameWords,
-    strings: &[u8],
-    text: &[u8],
-    scope: Scope,
-    operation: Operation,
-    plan: &mut [u32],
-) -> PlanAnswer
-    requires { ⌜ names .count ≤ 129 ⌝ }
-    ensures { λ r. ⌜ AnsweredIn plan (operationOutcome (lentWords nodes children numbers names strings text) scope operation) r ⌝ }
-{
-    let all = &names.words[..];
-    let end = names.count * 2;
-    plan_operation(
-        nodes,
-        children,
-        numbers,
-        &all[..end],
-        strings,
-        text,
-        scope,
-        operation,
-        plan,
-    )
 }
