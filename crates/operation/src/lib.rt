@@ -1,0 +1,139 @@
+// The planning call over the six operations.
+pub mod numbers;
+
+ghost use Rattle.table.specs.Lent.{lent};
+ghost use Rattle.planner.specs.Operations.{AnsweredIn};
+ghost use Rattle.operation.specs.Operation.{operationOutcome};
+use assignment::AssignOp;
+use assignment::assignment::create_assignment_binding_plan;
+use planner::PlanAnswer;
+use planner::destructuring::create_destructuring_plan;
+use planner::parameters::create_loop_index_binding_plan;
+use planner::parameters::create_parameter_binding_plan;
+use scope::Scope;
+use scope::ScopingMode;
+use some_in::create_some_in_binding_plan;
+
+// What to plan, with its roots; a some-in key of 0 says that there is none.
+pub enum Operation {
+    Pattern {
+        scoping: ScopingMode,
+        root: u32,
+    },
+    ColonEquals {
+        left: u32,
+        right: u32,
+    },
+    Equals {
+        left: u32,
+        right: u32,
+    },
+    SomeIn {
+        value: u32,
+        collection: u32,
+        key: u32,
+    },
+    Index {
+        root: u32,
+    },
+    Parameter {
+        scoping: ScopingMode,
+        root: u32,
+    },
+}
+
+// Plans the operation into the buffer.
+pub fn plan(
+    nodes: &[u32],
+    children: &[u32],
+    numbers: &[u64],
+    names: &[u32],
+    strings: &[u8],
+    text: &[u8],
+    scope: Scope,
+    operation: Operation,
+    plan: &mut [u32],
+) -> PlanAnswer
+    ensures { λ r. ⌜ AnsweredIn plan (operationOutcome (lent nodes children numbers names strings text) scope operation) r ⌝ }
+{
+    match operation {
+        Operation::Pattern { scoping, root } => create_destructuring_plan(
+            nodes,
+            children,
+            numbers,
+            names,
+            strings,
+            text,
+            scope,
+            scoping,
+            root,
+            plan,
+        ),
+        Operation::ColonEquals { left, right } => create_assignment_binding_plan(
+            nodes,
+            children,
+            numbers,
+            names,
+            strings,
+            text,
+            scope,
+            AssignOp::ColEq,
+            left,
+            right,
+            plan,
+        ),
+        Operation::Equals { left, right } => create_assignment_binding_plan(
+            nodes,
+            children,
+            numbers,
+            names,
+            strings,
+            text,
+            scope,
+            AssignOp::Eq,
+            left,
+            right,
+            plan,
+        ),
+        Operation::SomeIn {
+            value,
+            collection,
+            key,
+        } => create_some_in_binding_plan(
+            nodes,
+            children,
+            numbers,
+            names,
+            strings,
+            text,
+            scope,
+            value,
+            collection,
+            key,
+            plan,
+        ),
+        Operation::Index { root } => create_loop_index_binding_plan(
+            nodes,
+            children,
+            numbers,
+            names,
+            strings,
+            text,
+            scope,
+            root,
+            plan,
+        ),
+        Operation::Parameter { scoping, root } => create_parameter_binding_plan(
+            nodes,
+            children,
+            numbers,
+            names,
+            strings,
+            text,
+            scope,
+            scoping,
+            root,
+            plan,
+        ),
+    }
+}
