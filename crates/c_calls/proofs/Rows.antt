@@ -6,7 +6,6 @@ use native.Mathlib.Omega.{arith}
 use lib.ListN.{length, set}
 use Rattle.base.specs.Refusal.{Line, line, refusalLine, layoutBroken}
 use Rattle.table.specs.declared.TableRefusal.{TableRefusal}
-use Rattle.table.specs.declared.TableRefusal.the-variants.{OverLimit, BreaksRules, TooDeep, EqualNames}
 use Rattle.table.specs.Check.{tableRefused}
 use Rattle.planner.specs.Short.{ShortLine}
 use Rattle.planner.proofs.laws.ShortOutcomes.{short}
@@ -16,18 +15,10 @@ use Rattle.run.specs.Answer.{resultOf}
 use Rattle.report.specs.declared.ReportAnswer.{ReportAnswer}
 use Rattle.report.specs.declared.ReportAnswer.the-variants as Report
 use Rattle.report.specs.Answer.{reportLine}
-use Rattle.c_calls.specs.declared.answer.Row.{Row}
+use Rattle.operation.specs.declared.row.Row.{Row}
+use Rattle.operation.specs.Rows.{rowLine}
+use Rattle.operation.proofs.RowLaws.{table-row}
 use Rattle.c_calls.specs.Calls.{ranLine, told, Told}
-use Rattle.c_calls.specs.code.Post.{rowLine}
-
-table-line : (t : TableRefusal) → refusalLine (tableRefused t) ≡ line (tableRefused t .number) 0 0 0
-table-line OverLimit = refl
-table-line BreaksRules = refl
-table-line TooDeep = refl
-table-line EqualNames = refl
-
-table-row : (t : TableRefusal) {l : Line} {n : ℕ} → n ≡ tableRefused t .number → l ≡ line n 0 0 0 → l ≡ refusalLine (tableRefused t)
-table-row t n is = is ∙ (ap (λ (m : ℕ). line m 0 0 0) n ∙ sym (table-line t))
 
 pub run-is : (answer : RunAnswer) {a : RunAnswer} {l : Line} → answer ≡ a → l ≡ ranLine (resultOf a) → l ≡ ranLine (resultOf answer)
 run-is answer e is = rw e is

@@ -18,10 +18,14 @@ use Rattle.table.specs.code.Sound.{WellFormed}
 use Rattle.table.proofs.trees.Facts.{sound-table}
 use Rattle.table.proofs.tests.Bools.{and-true}
 use Rattle.planner.specs.Layout.{Entry, entries}
-use Rattle.planner.specs.Operations.{Outcome, planned, checkedFirst, tableFirst, require, planOf, fits}
+use Rattle.planner.specs.Operations as Plan
+use Rattle.planner.specs.Operations.{Outcome, planned, fits, answered}
 use Rattle.planner.specs.Short.{Short, ShortLine, ShortRefusal, ShortOutcome}
 use Rattle.planner.specs.Simple.{simple}
 use Rattle.planner.proofs.laws.ShortOutcomes.{short, refusal-short, planned-short, checked-short, root-small, entries-few}
+use Rattle.operation.specs.declared.Operation.{Operation}
+use Rattle.operation.specs.Operation.{operationOutcome}
+use Rattle.operation.proofs.ShortOperation.{operation-short}
 use Rattle.value.specs.Value.{isValue}
 use Rattle.matching.specs.Matching as Matching
 use Rattle.run.specs.Answer.{RunResult, turnedBack, aMatch, noMatch}
@@ -49,6 +53,19 @@ module _ {O : Type 0} (refuse : Refusal → O) (P : O → Type 0) (refused : (r 
       go : (c : Tested) → checked T s ≡ c → P (testedOr refuse c (requireOr refuse (allNodes T roots) rootOutside o))
       go Refusal.passed ok = require-is (allNodes T roots) rootOutside o (refusal-short (omega arith) (omega arith)) (p (sound-table T s ok .wellFormed))
       go (Refusal.refused r) e = refused r (table-short T s r e)
+
+-- a planning call
+outcome-short : (o : Outcome) (buffer : List ℕ) → ShortOutcome o → ShortLine (answered o buffer)
+unfolding answered
+outcome-short (Plan.refused r) buffer p = p
+outcome-short (planned form side es) buffer p = go (fits es buffer)
+  where
+    go : (b : Bool) → ShortLine (cond b (line 0 form side (length es)) (refusalLine (planTooLarge (length es))))
+    go true = p .0
+    go false = short (omega arith) (omega arith) (p .0 .four) (omega arith)
+
+pub plan-short : (T : Tables) (s : Scope) (operation : Operation) (buffer : List ℕ) → ShortLine (answered (operationOutcome T s operation) buffer)
+plan-short T s operation buffer = outcome-short (operationOutcome T s operation) buffer (operation-short T s operation)
 
 -- a run
 abbrev ShortRun : RunOutcome → Type 0

@@ -1,14 +1,14 @@
--- What a C host gives beside the tables: marks as bytes, scheduler and scoping as numbers.
+-- What a C host gives beside the tables: marks as bytes, the operation as the six numbers of a sheet's line 2.
 use Prim.Native.Nat.{ℕ}
-use mathlib.Core.Bool.{Bool, cond, _&&_}
+use mathlib.Core.Bool.{Bool, _&&_}
 use mathlib.Core.List.{List}
-use lib.Dec.{eqb, leb}
+use lib.Dec.{eqb}
 use lib.ListN.{getD}
 use Rattle.base.specs.Lists.{tabulate}
 use Rattle.scope.specs.declared.Scope.{Scope}
-use Rattle.scope.specs.declared.ScopingMode.{ScopingMode}
-use Rattle.scope.specs.declared.ScopingMode.the-variants.{RespectParent, AllowShadowing}
 use Rattle.scope.specs.Scope.{marksOk}
+use Rattle.operation.specs.declared.numbers.OperationNumbers.{OperationNumbers}
+use Rattle.operation.specs.Numbers.{areListed}
 
 -- the first 128 marks, 0 past the lent ones
 abbrev pub marksOf : List ℕ → List ℕ
@@ -18,13 +18,14 @@ marksOf marks = tabulate (λ i. getD marks i 0) 0 128
 abbrev pub scopeOf : List ℕ → ℕ → Scope
 scopeOf marks scheduler = record { marks = marksOf marks; underscore = 0; scheduler = eqb scheduler 1 }
 
-abbrev pub scopingOf : ℕ → ScopingMode
-scopingOf scoping = cond (eqb scoping 2) AllowShadowing RespectParent
+abbrev pub numbersOf : ℕ → ℕ → ℕ → ℕ → ℕ → ℕ → OperationNumbers
+numbersOf operation scheduler scoping first second key =
+    record { number = operation; scheduler = scheduler; scoping = scoping; first = first; second = second; key = key }
 
--- scheduler 0 or 1, scoping 1 or 2
-unfoldable pub scopeListed : ℕ → ℕ → Bool
-scopeListed scheduler scoping = leb scheduler 1 && (leb 1 scoping && leb scoping 2)
+-- Run and the names report are of a pattern, whose operation is 1.
+abbrev pub patternNumbers : ℕ → ℕ → ℕ → OperationNumbers
+patternNumbers scheduler scoping pattern = numbersOf 1 scheduler scoping pattern 0 0
 
--- what a call tests before anything else: the marks that are read are at most 31, and the two numbers are listed
-abbrev pub scopeGiven : List ℕ → ℕ → ℕ → Bool
-scopeGiven marks scheduler scoping = marksOk (scopeOf marks scheduler) && scopeListed scheduler scoping
+-- the marks that are read are at most 31, and the numbers are listed
+abbrev pub wellGiven : List ℕ → OperationNumbers → Bool
+wellGiven marks o = marksOk (scopeOf marks (o .scheduler)) && areListed o

@@ -2,33 +2,17 @@
 ghost use Rattle.base.specs.Lent.{old, new};
 ghost use mathlib.Core.Path.{_≡_};
 ghost use lib.ListN.{set};
-ghost use Rattle.base.specs.Refusal.{line, refusalLine, layoutBroken};
+ghost use Rattle.base.specs.Refusal.{refusalLine, layoutBroken};
 ghost use Rattle.planner.specs.Short.{ShortLine};
 ghost use Rattle.run.specs.Answer.{resultOf};
 ghost use Rattle.report.specs.Answer.{reportLine};
 ghost use Rattle.c_calls.specs.Calls.{ranLine, Told};
-ghost use Rattle.c_calls.specs.code.Post.{rowLine};
+ghost use Rattle.operation.specs.Rows.{rowLine};
+use operation::row::Row;
+use operation::row::row_from;
 use report::ReportAnswer;
 use run::RunAnswer;
 use table::refusal_number;
-
-pub(crate) struct Row {
-    pub number: u64,
-    pub second: u64,
-    pub third: u64,
-    pub fourth: u64,
-}
-
-pub(crate) fn row_from(number: u64, second: u64, third: u64, fourth: u64) -> Row
-    ensures { λ r. ⌜ rowLine r ≡ line number second third fourth ⌝ }
-{
-    Row {
-        number,
-        second,
-        third,
-        fourth,
-    }
-}
 
 pub(crate) fn run_row(answer: RunAnswer) -> Row
     ensures { λ r. ⌜ rowLine r ≡ ranLine (resultOf answer) ⌝ }

@@ -1,12 +1,14 @@
-// What a C host gives beside the tables: marks as bytes, scheduler and scoping as numbers.
+// What a C host gives beside the tables: marks as bytes, the operation as numbers.
 ghost use Rattle.base.specs.Lent.{old};
 ghost use mathlib.Core.Path.{_≡_};
 ghost use mathlib.Core.Bool.{_&&_};
 ghost use lib.ListN.{getD};
 ghost use Rattle.scope.specs.Scope.{marksOk};
-ghost use Rattle.c_calls.specs.Given.{marksOf, scopeOf, scopingOf, scopeListed};
+ghost use Rattle.operation.specs.Numbers.{areListed};
+ghost use Rattle.c_calls.specs.Given.{marksOf, scopeOf, patternNumbers};
+use operation::numbers::OperationNumbers;
+use operation::numbers::are_listed;
 use scope::Scope;
-use scope::ScopingMode;
 
 fn mark_at(marks: &[u8], i: usize) -> u8
     ensures { λ r. ⌜ r ≡ getD (old marks) i 0 ⌝ }
@@ -40,34 +42,26 @@ pub(crate) fn scope_of(marks: &[u8], scheduler: u32) -> Scope
     }
 }
 
-pub(crate) fn scoping_of(scoping: u32) -> ScopingMode
-    ensures { λ r. ⌜ r ≡ scopingOf scoping ⌝ }
+// Run and the names report are of a pattern, whose operation is 1.
+pub(crate) fn pattern_numbers(scheduler: u32, scoping: u32, pattern: u32) -> OperationNumbers
+    ensures { λ r. ⌜ r ≡ patternNumbers scheduler scoping pattern ⌝ }
 {
-    if scoping == 2 {
-        return ScopingMode::AllowShadowing;
+    OperationNumbers {
+        number: 1,
+        scheduler,
+        scoping,
+        first: pattern,
+        second: 0,
+        key: 0,
     }
-    ScopingMode::RespectParent
 }
 
-// Scheduler 0 or 1, scoping 1 or 2.
-fn scope_listed(scheduler: u32, scoping: u32) -> bool
-    ensures { λ r. ⌜ r ≡ scopeListed scheduler scoping ⌝ }
-{
-    if 1 < scheduler {
-        return false;
-    }
-    if scoping < 1 {
-        return false;
-    }
-    scoping <= 2
-}
-
-// Are the marks and the two numbers as document 01 lists them?
-pub(crate) fn scope_given(scope: Scope, scheduler: u32, scoping: u32) -> bool
-    ensures { λ r. ⌜ r ≡ (marksOk scope && scopeListed scheduler scoping) ⌝ }
+// Are the marks at most 31 and the numbers listed?
+pub(crate) fn well_given(scope: Scope, numbers: OperationNumbers) -> bool
+    ensures { λ r. ⌜ r ≡ (marksOk scope && areListed numbers) ⌝ }
 {
     if scope.marks_ok() {
-        return scope_listed(scheduler, scoping);
+        return are_listed(numbers);
     }
     false
 }

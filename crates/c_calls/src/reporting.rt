@@ -1,12 +1,13 @@
 // The names report over lent tables.
 ghost use Rattle.table.specs.Lent.{lent};
-ghost use Rattle.c_calls.specs.Calls.{ReportedTablesIn};
+ghost use Rattle.c_calls.specs.Calls.{ReportCalledIn};
 use crate::answer::refuse;
 use crate::answer::report_row;
 use crate::answer::tell;
-use crate::given::scope_given;
+use crate::given::pattern_numbers;
 use crate::given::scope_of;
-use crate::given::scoping_of;
+use crate::given::well_given;
+use operation::numbers::scoping_of;
 use planner::buffer::clear;
 use report::names_report;
 
@@ -26,10 +27,10 @@ pub extern "C" fn teluddru_names_report(
     list: &mut [u32],
     answer: &mut [u32],
 ) -> u32
-    ensures { λ r. let T = lent nodes children numbers names strings text in ⌜ ReportedTablesIn list answer T marks scheduler scoping pattern r ⌝ }
+    ensures { λ r. let T = lent nodes children numbers names strings text in ⌜ ReportCalledIn list answer T marks scheduler scoping pattern r ⌝ }
 {
     let scope = scope_of(marks, scheduler);
-    if !scope_given(scope, scheduler, scoping) {
+    if !well_given(scope, pattern_numbers(scheduler, scoping, pattern)) {
         clear(list);
         return refuse(answer);
     }

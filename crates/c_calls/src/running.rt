@@ -1,12 +1,13 @@
 // Run over lent tables.
 ghost use Rattle.table.specs.Lent.{lent};
-ghost use Rattle.c_calls.specs.Calls.{RanTablesIn};
+ghost use Rattle.c_calls.specs.Calls.{RunCalledIn};
 use crate::answer::refuse;
 use crate::answer::run_row;
 use crate::answer::tell;
-use crate::given::scope_given;
+use crate::given::pattern_numbers;
 use crate::given::scope_of;
-use crate::given::scoping_of;
+use crate::given::well_given;
+use operation::numbers::scoping_of;
 use planner::buffer::clear;
 use run::run;
 
@@ -28,10 +29,10 @@ pub extern "C" fn teluddru_run(
     plan: &mut [u32],
     answer: &mut [u32],
 ) -> u32
-    ensures { λ r. let T = lent nodes children numbers names strings text in ⌜ RanTablesIn values plan answer T marks scheduler scoping pattern value r ⌝ }
+    ensures { λ r. let T = lent nodes children numbers names strings text in ⌜ RunCalledIn values plan answer T marks scheduler scoping pattern value r ⌝ }
 {
     let scope = scope_of(marks, scheduler);
-    if !scope_given(scope, scheduler, scoping) {
+    if !well_given(scope, pattern_numbers(scheduler, scoping, pattern)) {
         clear(plan);
         return refuse(answer);
     }

@@ -4,7 +4,7 @@ use Rattle.c_calls.proofs.answer.refuse.Statement.{statement}
 use Rattle.c_calls.proofs.answer.refuse.Tie as tie
 use Rattle.c_calls.proofs.answer.refuse.Reads as reads
 use Rattle.c_calls.proofs.answer.refuse.Lts as lts
-use Rattle.c_calls.proofs.answer.row_from.Reads as row-from-reads
+use Rattle.operation.proofs.row.row_from.Reads as row-from-reads
 use Rattle.c_calls.proofs.answer.tell.Reads as tell-reads
 
 -- src/answer.rt:87:18

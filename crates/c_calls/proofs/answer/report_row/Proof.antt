@@ -4,7 +4,7 @@ use Rattle.c_calls.proofs.answer.report_row.Statement.{statement}
 use Rattle.c_calls.proofs.answer.report_row.Tie as tie
 use Rattle.c_calls.proofs.answer.report_row.Reads as reads
 use Rattle.c_calls.proofs.answer.report_row.Lts as lts
-use Rattle.c_calls.proofs.answer.row_from.Reads as row-from-reads
+use Rattle.operation.proofs.row.row_from.Reads as row-from-reads
 use Rattle.table.proofs.refusal_number.Reads as refusal-number-reads
 
 -- src/answer.rt:53:35

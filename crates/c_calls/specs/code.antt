@@ -1,2 +1,0 @@
--- What only the code's proofs need.
-pub mod Post
