@@ -1,4 +1,16 @@
-/* Teluddru: plans how the patterns of joinery rules take values apart. One call: a sheet in, its listing out. */
+/*
+ * Teluddru: plans how the patterns of joinery rules take values apart. Three calls over tables that the
+ * host lends (planning, Run, the names report), and one over a sheet's text.
+ *
+ * What a call assumes. Of the words and bytes that it is lent: nothing. Whatever they are, a call
+ * returns; what breaks a rule is refused. It reads and writes only the ranges that it is given, and
+ * keeps nothing, so calls may run at the same time. Of the ranges it assumes what C can't say:
+ * - a pointer points to as many elements as the length behind it counts, aligned for their type;
+ * - a range that is written overlaps no other range of the same call; those that are only read may
+ *   overlap each other;
+ * - a pointer is not null, not even that of a range of length 0, of which nothing is read or written:
+ *   there it may point to any object of its type.
+ */
 #ifndef TELUDDRU_H
 #define TELUDDRU_H
 
@@ -17,7 +29,23 @@ extern "C" {
 #define TELUDDRU_LISTING_BYTES 38425
 #define TELUDDRU_PLAN_ENTRIES 1536
 
-/* Operations of line 2. */
+/* Words of a node, a number, a name, a plan's entry and an answer. */
+#define TELUDDRU_NODE_WORDS 5
+#define TELUDDRU_NUMBER_WORDS 2
+#define TELUDDRU_NAME_WORDS 2
+#define TELUDDRU_ENTRY_WORDS 4
+#define TELUDDRU_ANSWER_WORDS 4
+
+/* Limits of the tables. */
+#define TELUDDRU_MOST_NODES 512
+#define TELUDDRU_MOST_CHILDREN 512
+#define TELUDDRU_MOST_NUMBERS 256
+#define TELUDDRU_MOST_NAMES 128
+#define TELUDDRU_MOST_STRING_BYTES 8192
+#define TELUDDRU_MOST_TEXT_BYTES 16384
+#define TELUDDRU_MOST_DEPTH 32
+
+/* Operations. */
 enum teluddru_operation {
     TELUDDRU_PATTERN = 1,
     TELUDDRU_COLON_EQUALS = 2,
@@ -27,16 +55,53 @@ enum teluddru_operation {
     TELUDDRU_PARAMETER = 6
 };
 
-/* The first number of a listing. A refusal's line goes on with its place (a node or 0) and two counts. */
+/* The scope is that of a scheduler or not: under a scheduler a local name is unbound. */
+enum teluddru_scheduler {
+    TELUDDRU_NO_SCHEDULER = 0,
+    TELUDDRU_SCHEDULER = 1
+};
+
+enum teluddru_scoping {
+    TELUDDRU_RESPECT_PARENT = 1,
+    TELUDDRU_ALLOW_SHADOWING = 2
+};
+
+/* Marks of a name, summed. */
+enum teluddru_mark {
+    TELUDDRU_MARK_BOUND = 1,
+    TELUDDRU_MARK_BOUND_HERE = 2, /* in this scope */
+    TELUDDRU_MARK_UNBOUND = 4,
+    TELUDDRU_MARK_LOCAL = 8,
+    TELUDDRU_MARK_GLOBAL = 16
+};
+
+/* The kind of a node, its first word. Then come start and end in the rule text, first and count; an unused word is 0. */
+enum teluddru_node {
+    TELUDDRU_NODE_STRING = 1,     /* first, count: place and length in the strings */
+    TELUDDRU_NODE_RAW_STRING = 2, /* first, count: place and length in the text */
+    TELUDDRU_NODE_NUMBER = 3,     /* first: place in the numbers */
+    TELUDDRU_NODE_BOOL = 4,       /* first: 0 or 1 */
+    TELUDDRU_NODE_NULL = 5,
+    TELUDDRU_NODE_NAME = 6,       /* first: the name's number, from 1 */
+    TELUDDRU_NODE_ARRAY = 7,      /* first, count: place in the children, items */
+    TELUDDRU_NODE_SET = 8,        /* first, count: place in the children, items */
+    TELUDDRU_NODE_OBJECT = 9,     /* first, count: place in the children, fields (key, then value) */
+    TELUDDRU_NODE_OTHER = 10
+};
+
+/* The first number of an answer. A refusal's goes on with its place (a node or 0) and two counts, 0 where none is named. */
 enum teluddru_answer {
-    TELUDDRU_PLANNED = 0,
+    TELUDDRU_PLANNED = 0,                   /* then form, side, entries */
+    TELUDDRU_REPORTED = 0,
+    TELUDDRU_MATCH = 0,
+    TELUDDRU_NO_MATCH = 100,
     TELUDDRU_OVER_LIMIT = 1,
     TELUDDRU_BREAKS_RULES = 2,
     TELUDDRU_TOO_DEEP = 3,
     TELUDDRU_EQUAL_NAMES = 4,
     TELUDDRU_ROOT_OUTSIDE = 5,
     TELUDDRU_PLAN_TOO_LARGE = 6,            /* first count: entries needed */
-    TELUDDRU_LAYOUT_BROKEN = 7,
+    TELUDDRU_LAYOUT_BROKEN = 7,             /* a mark above 31, or a number that isn't listed, too */
     TELUDDRU_COLON_EQUALS_REQUIRES_BINDABLE_LEFT = 11, /* place: the left */
     TELUDDRU_ARRAY_SIZE_MISMATCH = 12,      /* the left array; both lengths */
     TELUDDRU_ARRAY_LENGTH_MISMATCH = 13,    /* the value array; expected, actual */
@@ -44,10 +109,34 @@ enum teluddru_answer {
     TELUDDRU_OBJECT_FIELD_COUNT_MISMATCH = 15, /* the left object; left distinct keys, right fields */
     TELUDDRU_OBJECT_KEY_NOT_FOUND = 16,     /* the right key */
     TELUDDRU_VARIABLE_ALREADY_DEFINED = 17, /* the name */
-    TELUDDRU_INCOMPATIBLE_DESTRUCTURING_PATTERNS = 18 /* the binding side, in pairs the left */
+    TELUDDRU_INCOMPATIBLE_DESTRUCTURING_PATTERNS = 18, /* the binding side, in pairs the left */
+    TELUDDRU_LIST_TOO_SHORT = 20,           /* the list is shorter than the names */
+    TELUDDRU_PATTERN_NOT_SIMPLE = 21,       /* it has a set, another expression, a computed or a repeated key */
+    TELUDDRU_NOT_A_VALUE = 22,              /* the value, or a listed node */
+    TELUDDRU_NAME_WITHOUT_VALUE = 23        /* a known name of the pattern */
 };
 
-/* The kind of an entry, its first number. */
+/* The form of a plan, its answer's second number: of an assignment, or of some-in with a key; else 0. */
+enum teluddru_form {
+    TELUDDRU_NO_FORM = 0,
+    TELUDDRU_FORM_COLON_EQUALS = 1,
+    TELUDDRU_FORM_SOME_IN_KEY = 1,
+    TELUDDRU_FORM_BIND_LEFT = 2,
+    TELUDDRU_FORM_BIND_RIGHT = 3,
+    TELUDDRU_FORM_PAIRS = 4,
+    TELUDDRU_FORM_EQUALITY_CHECK = 5,
+    TELUDDRU_FORM_WILDCARD = 6
+};
+
+/* Which side of an assignment of form 6 is `_`, its answer's third number; else 0. */
+enum teluddru_side {
+    TELUDDRU_NO_SIDE = 0,
+    TELUDDRU_SIDE_LEFT = 1,
+    TELUDDRU_SIDE_RIGHT = 2,
+    TELUDDRU_SIDE_BOTH = 3
+};
+
+/* The kind of an entry, its first word. Then come node, number of children, key node or 0. */
 enum teluddru_entry {
     TELUDDRU_BIND = 1,
     TELUDDRU_IGNORE = 2,
@@ -58,10 +147,79 @@ enum teluddru_entry {
     TELUDDRU_PAIR = 7
 };
 
+/* What the names report says of a name. */
+enum teluddru_reported {
+    TELUDDRU_NAME_NOT_MET = 0,
+    TELUDDRU_NAME_BOUND = 1, /* in the plan */
+    TELUDDRU_NAME_MET = 2    /* through arrays and object values, but not bound there */
+};
+
 /*
- * Plans the sheet and writes its listing to the output. Returns the bytes written, or 0 with the
- * output zeroed if the listing doesn't fit; the output past the listing is 0. The two ranges may not
- * overlap. Any bytes may be given as a sheet: what is none is answered with a refusal.
+ * The calls over tables. Each is lent the six tables (nodes of five words; children; numbers of two
+ * words, 1 for below zero or 0, then the size; names of two words, start and length in the text; the
+ * string bytes; the rule text) and a byte of marks for each name: at most 128 are read, and a name past
+ * them has none. A call with a mark above 31 among those read, or with an operation, scheduler or
+ * scoping that isn't listed above, is refused with TELUDDRU_LAYOUT_BROKEN before all else.
+ *
+ * The answer is four words, of which as many are written as there is space for; words past the fourth
+ * stay as they were. Its first number is also the result, whether or not there is space for it.
+ */
+
+/*
+ * Plans an operation. Roots: first (left, pattern or value pattern), second (right or collection),
+ * key (some-in's, 0 for none); those that the operation doesn't use are ignored. The plan's entries,
+ * then zeros, are written to the plan; if the call is refused, zeros. A pattern's, a loop index's or a
+ * parameter's plan has at most 512 entries.
+ */
+uint32_t teluddru_plan(const uint32_t *nodes, size_t nodes_length,
+                       const uint32_t *children, size_t children_length,
+                       const uint64_t *numbers, size_t numbers_length,
+                       const uint32_t *names, size_t names_length,
+                       const uint8_t *strings, size_t strings_length,
+                       const uint8_t *text, size_t text_length,
+                       const uint8_t *marks, size_t marks_length,
+                       uint32_t operation, uint32_t scheduler, uint32_t scoping,
+                       uint32_t first, uint32_t second, uint32_t key,
+                       uint32_t *plan, size_t plan_length,
+                       uint32_t *answer, size_t answer_length);
+
+/*
+ * Plans a pattern and carries the plan out on a value. The values have for each name number the node
+ * of its value, or 0; a match sets those of the pattern's names that aren't known, and nothing else
+ * changes any. The plan is written as by teluddru_plan. Answers TELUDDRU_MATCH, TELUDDRU_NO_MATCH or a
+ * refusal.
+ */
+uint32_t teluddru_run(const uint32_t *nodes, size_t nodes_length,
+                      const uint32_t *children, size_t children_length,
+                      const uint64_t *numbers, size_t numbers_length,
+                      const uint32_t *names, size_t names_length,
+                      const uint8_t *strings, size_t strings_length,
+                      const uint8_t *text, size_t text_length,
+                      const uint8_t *marks, size_t marks_length,
+                      uint32_t scheduler, uint32_t scoping, uint32_t pattern, uint32_t value,
+                      uint32_t *values, size_t values_length,
+                      uint32_t *plan, size_t plan_length,
+                      uint32_t *answer, size_t answer_length);
+
+/*
+ * Reports the names of a pattern: for each name a word of enum teluddru_reported in the list, then
+ * zeros; if the call is refused, zeros.
+ */
+uint32_t teluddru_names_report(const uint32_t *nodes, size_t nodes_length,
+                               const uint32_t *children, size_t children_length,
+                               const uint64_t *numbers, size_t numbers_length,
+                               const uint32_t *names, size_t names_length,
+                               const uint8_t *strings, size_t strings_length,
+                               const uint8_t *text, size_t text_length,
+                               const uint8_t *marks, size_t marks_length,
+                               uint32_t scheduler, uint32_t scoping, uint32_t pattern,
+                               uint32_t *list, size_t list_length,
+                               uint32_t *answer, size_t answer_length);
+
+/*
+ * Plans a sheet and writes its listing to the output. Returns the bytes written, or 0 with the output
+ * zeroed if the listing doesn't fit; the output past the listing is 0. What is no sheet is answered
+ * with a refusal.
  */
 size_t plan_sheet(const uint8_t *sheet, size_t sheet_length, uint8_t *output, size_t output_length);
 

@@ -1,4 +1,4 @@
-//! Links the static libraries of crates `sheet` and `run_entry` where PLAN_SHEET_LIBRARY and
+//! Links the static libraries of crates `sheet` and `c_calls` where PLAN_SHEET_LIBRARY and
 //! RUN_LIBRARY name them.
 
 use std::env;

@@ -1,3 +1,4 @@
 pub mod Cases
 pub mod NumberTests
 pub mod ShortOperation
+pub mod RowLaws

@@ -1,2 +1,3 @@
 pub mod Operation
 pub mod Numbers
+pub mod Rows

@@ -1,5 +1,6 @@
 // The planning call over the six operations.
 pub mod numbers;
+pub mod row;
 
 ghost use Rattle.table.specs.Lent.{lent};
 ghost use Rattle.planner.specs.Operations.{AnsweredIn};

@@ -34,7 +34,7 @@ pub fn are_listed(numbers: OperationNumbers) -> bool
 }
 
 // Meant for listed numbers: any but 2 is RespectParent.
-fn scoping_of(scoping: u32) -> ScopingMode
+pub fn scoping_of(scoping: u32) -> ScopingMode
     ensures { λ r. ⌜ r ≡ scopingOf scoping ⌝ }
 {
     if scoping == 2 {

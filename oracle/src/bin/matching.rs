@@ -1,4 +1,4 @@
-//! match [--exhaustive] [--seed SEED] [N]: holds the run of crate run_entry against a matcher that
+//! match [--exhaustive] [--seed SEED] [N]: holds the run of crate c_calls against a matcher that
 //! tries all fillings, on N generated cases (100,000) or on all small ones, and prints a tally.
 
 use oracle::matching::comparison::Comparison;

@@ -8,13 +8,14 @@ pub struct Case {
     pub draft: Draft,
     /// The scope's marks, of which 128 count.
     pub marks: Vec<u8>,
-    pub underscore: u32,
     pub scheduler: u32,
     pub scoping: u32,
     /// Value nodes by name number, 0 for none.
     pub values: Vec<u32>,
     /// The length of the plan buffer, in words.
     pub room: usize,
+    /// The number of words lent for the answer.
+    pub answer_room: usize,
     pub origin: Origin,
 }
 
@@ -38,11 +39,11 @@ impl Case {
     pub fn new(draft: Draft) -> Self {
         Self {
             marks: draft.names.iter().map(|name| name[2] as u8).collect(),
-            underscore: 0,
             scheduler: draft.scheduler,
             scoping: draft.scoping,
             values: vec![0; draft.names.len()],
             room: 4 * draft.nodes.len(),
+            answer_room: 4,
             origin: Origin::Unrelated,
             draft,
         }

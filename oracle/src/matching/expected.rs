@@ -12,8 +12,8 @@ const MARKS: usize = 128;
 
 #[derive(Debug)]
 pub enum Expected {
-    /// A refusal by its number.
-    Refused(u32),
+    /// A refusal: number, place and two counts.
+    Refused([u32; 4]),
     /// No match where there is no filling.
     Ran(Ran),
 }
@@ -36,26 +36,35 @@ pub fn expected(case: &Case) -> Expected {
     }
 }
 
-/// The refusals in the order of document 01, "What each operation turns back".
-fn run(case: &Case) -> Result<Ran, u32> {
-    let plan = checked_plan(case)?;
-    let refuse = |refused: bool, number: u32| if refused { Err(number) } else { Ok(()) };
+/// What the call refuses first, then the refusals in the order of document 01, "What each operation
+/// turns back".
+fn run(case: &Case) -> Result<Ran, [u32; 4]> {
+    let refuse = |refused: bool, number: u32| if refused { Err(alone(number)) } else { Ok(()) };
+    refuse(!is_listed(case), 7)?;
+    let plan = checked_plan(case).map_err(alone)?;
     refuse(!is_node(case, case.pattern()) || !is_node(case, case.value()), 5)?;
     refuse(case.values.len() < case.draft.names.len(), 20)?;
     let pattern = expr(case, case.pattern());
     refuse(!is_simple(&pattern), 21)?;
-    let value = value_at(case, case.value()).ok_or(22_u32)?;
+    let value = value_at(case, case.value()).ok_or(alone(22))?;
     let listed = &case.values[..case.draft.names.len()];
     refuse(listed.iter().any(|&node| node != 0 && value_at(case, node).is_none()), 22)?;
     let mut met = names(&pattern).0;
     met.retain(|name| !case.is_unbound(*name));
     refuse(met.iter().any(|name| listed[*name as usize - 1] == 0), 23)?;
-    refuse(case.room / 4 * 4 < plan.len(), 6)?;
+    if case.room / 4 * 4 < plan.len() {
+        return Err([6, 0, plan.len() as u32 / 4, 0]);
+    }
     let node = |name: u32| value_at(case, listed[name as usize - 1]).expect("it is a value");
     let known: BTreeMap<_, _> = met.into_iter().map(|name| (name, node(name))).collect();
     let blanks = Blanks::new(&pattern, known);
     let (fillings, planned) = (blanks.fillings(&value), blanks.unknown);
     Ok(Ran { pattern, planned, fillings, plan })
+}
+
+/// A refusal that has no place and no counts.
+fn alone(number: u32) -> [u32; 4] {
+    [number, 0, 0, 0]
 }
 
 /// The table check, and the words of the Rust's plan of the pattern; none if its root is outside.
@@ -65,29 +74,25 @@ fn checked_plan(case: &Case) -> Result<Vec<u32>, u32> {
     let names = case.draft.names.iter().zip(marks);
     let draft = Draft {
         operation: 1,
-        scheduler: (case.scheduler == 1).into(),
-        scoping: if case.scoping == 2 { 2 } else { 1 },
+        scheduler: case.scheduler,
+        scoping: case.scoping,
         roots: [pattern.unwrap_or(0), 0, 0],
-        names: names.map(|(name, marks)| [name[0], name[1], (marks % 32).into()]).collect(),
+        names: names.map(|(name, marks)| [name[0], name[1], marks.into()]).collect(),
         ..case.draft.clone()
     };
-    let outcome = answer(&draft.bytes()).outcome;
-    let over_a_limit = matches!(&outcome, Err(refusal) if refusal.number == 1);
-    if !over_a_limit && !scope_holds(case) {
-        return Err(2);
-    }
     let words = |entry: &Entry| [entry.kind, entry.node, entry.children, entry.key];
-    match outcome {
+    match answer(&draft.bytes()).outcome {
         Ok(plan) => Ok(plan.entries.iter().flat_map(words).collect()),
         Err(refusal) if refusal.number == 5 => Ok(Vec::new()),
         Err(refusal) => Err(refusal.number),
     }
 }
 
-/// No marks above 31, and for `_` its number or 0.
-fn scope_holds(case: &Case) -> bool {
+/// No marks above 31, and a scheduler and a scoping that document 01 lists.
+fn is_listed(case: &Case) -> bool {
     case.marks.iter().take(MARKS).all(|&marks| marks <= 31)
-        && (case.underscore == 0 || case.is_named(case.underscore, b"_"))
+        && case.scheduler <= 1
+        && (1..=2).contains(&case.scoping)
 }
 
 /// No set, other expression, computed or repeated key.
@@ -114,7 +119,7 @@ mod tests {
 
     fn number(case: &Case) -> u32 {
         match expected(case) {
-            Expected::Refused(number) => number,
+            Expected::Refused([number, ..]) => number,
             Expected::Ran(_) => 0,
         }
     }
@@ -136,9 +141,9 @@ mod tests {
         case.marks[x as usize - 1] = 1;
         case.room = 0;
         case.values.clear();
-        case.underscore = 9;
-        assert_eq!(number(&case), 2);
-        case.underscore = 0;
+        case.scoping = 3;
+        assert_eq!(number(&case), 7);
+        case.scoping = 1;
         let value = std::mem::replace(&mut case.draft.roots[1], 99);
         assert_eq!(number(&case), 5);
         case.draft.roots[1] = value;

@@ -55,7 +55,7 @@ pub struct Tally {
 impl Tally {
     pub fn add(&mut self, case: &Case, expected: &Expected) {
         let row = match expected {
-            Expected::Refused(number) => Row::Refusal(*number),
+            Expected::Refused([number, ..]) => Row::Refusal(*number),
             Expected::Ran(ran) if ran.fillings.is_empty() => Row::NoMatch,
             Expected::Ran(_) => Row::Match,
         };

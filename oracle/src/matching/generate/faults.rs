@@ -18,7 +18,7 @@ pub enum Fault {
     AnyRoot,
     PlanTooLarge,
     Marks,
-    Underscore,
+    Numbers,
     Tables,
     EqualNames,
     TooDeep,
@@ -38,7 +38,7 @@ const ALL: [(Fault, usize); 15] = [
     (AnyRoot, 10),
     (PlanTooLarge, 25),
     (Marks, 5),
-    (Underscore, 5),
+    (Numbers, 5),
     (Tables, 10),
     (EqualNames, 5),
     (TooDeep, 5),
@@ -103,7 +103,8 @@ impl Fault {
                 case.marks.resize(length.max(case.marks.len()), 0);
                 case.marks[length - 1] = *random.pick(&[31, 32, 64, 255]);
             }
-            Underscore => case.underscore = random.below(case.draft.names.len() + 2) as u32,
+            Numbers if random.chance(50) => case.scheduler = *random.pick(&[1, 2, u32::MAX]),
+            Numbers => case.scoping = *random.pick(&[0, 2, 3, u32::MAX]),
             Tables => damage::break_tables(random, &mut case.draft),
             EqualNames => damage::repeat_name(random, &mut case.draft),
             _ => {}

@@ -122,7 +122,7 @@ fn laid_out(random: &mut Random, origin: Origin, mut parts: Parts) -> Case {
     let mut case = Case { origin, ..Case::new(draft) };
     case.room = 4 * trees::entries(&parts.pattern) + random.weighted(&[30, 10, 10, 10, 20, 20]);
     if random.chance(50) {
-        case.underscore = case.name_number(b"_");
+        case.answer_room = random.below(7);
     }
     list(random, &parts, &mut case);
     add_unused(random, &mut case);
@@ -161,8 +161,7 @@ fn any_equal(random: &mut Random, case: &Case, node: u32) -> u32 {
     *random.pick(&nodes)
 }
 
-/// List words past the names, marks past the names and past 128, numbers that stand for no other
-/// scoping.
+/// List words past the names, marks past the names and past 128.
 fn add_unused(random: &mut Random, case: &mut Case) {
     for _ in 0..random.weighted(&[50, 20, 20, 10]) {
         case.values.push(*random.pick(&[0, 1, 999_999, u32::MAX]));
@@ -170,12 +169,6 @@ fn add_unused(random: &mut Random, case: &mut Case) {
     if random.chance(20) {
         case.marks.resize(128, 0);
         case.marks.extend([255, 1]);
-    }
-    if case.scoping == 1 && random.chance(10) {
-        case.scoping = *random.pick(&[0, 3, u32::MAX]);
-    }
-    if case.scheduler == 0 && random.chance(10) {
-        case.scheduler = *random.pick(&[2, u32::MAX]);
     }
 }
 
@@ -198,7 +191,7 @@ mod tests {
         for number in 0..20_000 {
             let case = case(1, number);
             let answer = match expected(&case) {
-                Expected::Refused(number) => number,
+                Expected::Refused([number, ..]) => number,
                 Expected::Ran(ran) if ran.fillings.is_empty() => 100,
                 Expected::Ran(_) => 0,
             };
@@ -207,7 +200,7 @@ mod tests {
         let count = |origin, answer| counts.get(&(origin, answer)).copied().unwrap_or(0);
         assert!(count(Origin::Filled, 0) > 5 * count(Origin::Filled, 100));
         assert!(count(Origin::Differing, 100) > 500 && count(Origin::Changed, 100) > 500);
-        let answers = [0, 100, 1, 2, 3, 4, 5, 6, 20, 21, 22, 23];
+        let answers = [0, 100, 1, 2, 3, 4, 5, 6, 7, 20, 21, 22, 23];
         assert!(answers.iter().all(|&answer| count(Origin::Faulty, answer) > 0), "{counts:?}");
         assert!(counts.keys().all(|(_, answer)| answers.contains(answer)));
     }

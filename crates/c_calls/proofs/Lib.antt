@@ -1,0 +1,4 @@
+pub mod Scopes
+pub mod Rows
+pub mod Shortness
+pub mod Called

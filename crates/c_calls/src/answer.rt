@@ -1,0 +1,72 @@
+// An answer's four numbers, and how they are told to a C host.
+ghost use Rattle.base.specs.Lent.{old, new};
+ghost use mathlib.Core.Path.{_≡_};
+ghost use lib.ListN.{set};
+ghost use Rattle.base.specs.Refusal.{refusalLine, layoutBroken};
+ghost use Rattle.planner.specs.Short.{ShortLine};
+ghost use Rattle.run.specs.Answer.{resultOf};
+ghost use Rattle.report.specs.Answer.{reportLine};
+ghost use Rattle.c_calls.specs.Calls.{ranLine, Told};
+ghost use Rattle.operation.specs.Rows.{rowLine};
+use operation::row::Row;
+use operation::row::row_from;
+use report::ReportAnswer;
+use run::RunAnswer;
+use table::refusal_number;
+
+pub(crate) fn run_row(answer: RunAnswer) -> Row
+    ensures { λ r. ⌜ rowLine r ≡ ranLine (resultOf answer) ⌝ }
+{
+    match answer {
+        RunAnswer::Match => row_from(0, 0, 0, 0),
+        RunAnswer::NoMatch => row_from(100, 0, 0, 0),
+        RunAnswer::TableRefused(refused) => row_from(refusal_number(refused) as u64, 0, 0, 0),
+        RunAnswer::RootOutside => row_from(5, 0, 0, 0),
+        RunAnswer::ListTooShort => row_from(20, 0, 0, 0),
+        RunAnswer::PatternNotSimple => row_from(21, 0, 0, 0),
+        RunAnswer::NotAValue => row_from(22, 0, 0, 0),
+        RunAnswer::NameWithoutValue => row_from(23, 0, 0, 0),
+        RunAnswer::PlanTooLarge { needed } => row_from(6, 0, needed as u64, 0),
+    }
+}
+
+pub(crate) fn report_row(answer: ReportAnswer) -> Row
+    ensures { λ r. ⌜ rowLine r ≡ reportLine answer ⌝ }
+{
+    match answer {
+        ReportAnswer::Reported => row_from(0, 0, 0, 0),
+        ReportAnswer::TableRefused(refused) => row_from(refusal_number(refused) as u64, 0, 0, 0),
+        ReportAnswer::RootOutside => row_from(5, 0, 0, 0),
+        ReportAnswer::ListTooShort => row_from(20, 0, 0, 0),
+    }
+}
+
+// A word, if there is a place for it.
+fn put_word(words: &mut [u32], i: usize, word: u32)
+    ensures { λ _. ⌜ new words ≡ set (old words) i word ⌝ }
+{
+    if words.len() <= i {
+        return;
+    }
+    words[i] = word;
+}
+
+// Puts the numbers into the lent words and returns the first.
+pub(crate) fn tell(answer: &mut [u32], row: Row) -> u32
+    requires { ⌜ ShortLine (rowLine row) ⌝ }
+    ensures { λ r. ⌜ Told (rowLine row) (old answer) (new answer) r ⌝ }
+{
+    let number = row.number as u32;
+    put_word(answer, 0, number);
+    put_word(answer, 1, row.second as u32);
+    put_word(answer, 2, row.third as u32);
+    put_word(answer, 3, row.fourth as u32);
+    number
+}
+
+// The refusal of marks or numbers that document 01 does not list.
+pub(crate) fn refuse(answer: &mut [u32]) -> u32
+    ensures { λ r. ⌜ Told (refusalLine layoutBroken) (old answer) (new answer) r ⌝ }
+{
+    tell(answer, row_from(7, 0, 0, 0))
+}

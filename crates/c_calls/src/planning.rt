@@ -1,0 +1,59 @@
+// The planning call over lent tables.
+ghost use Rattle.table.specs.Lent.{lent};
+ghost use Rattle.c_calls.specs.Calls.{PlanCalledIn};
+use crate::answer::refuse;
+use crate::answer::tell;
+use crate::given::scope_of;
+use crate::given::well_given;
+use operation::numbers::OperationNumbers;
+use operation::numbers::operation_of;
+use operation::row::row_of;
+use planner::buffer::clear;
+
+// Plans the operation into the buffer. Roots that it doesn't use are ignored.
+#[no_mangle]
+pub extern "C" fn teluddru_plan(
+    nodes: &[u32],
+    children: &[u32],
+    numbers: &[u64],
+    names: &[u32],
+    strings: &[u8],
+    text: &[u8],
+    marks: &[u8],
+    operation: u32,
+    scheduler: u32,
+    scoping: u32,
+    first: u32,
+    second: u32,
+    key: u32,
+    plan: &mut [u32],
+    answer: &mut [u32],
+) -> u32
+    ensures { λ r. let T = lent nodes children numbers names strings text in ⌜ PlanCalledIn plan answer T marks operation scheduler scoping first second key r ⌝ }
+{
+    let asked = OperationNumbers {
+        number: operation,
+        scheduler,
+        scoping,
+        first,
+        second,
+        key,
+    };
+    let scope = scope_of(marks, scheduler);
+    if !well_given(scope, asked) {
+        clear(plan);
+        return refuse(answer);
+    }
+    let planned = operation::plan(
+        nodes,
+        children,
+        numbers,
+        names,
+        strings,
+        text,
+        scope,
+        operation_of(asked),
+        plan,
+    );
+    tell(answer, row_of(planned))
+}
