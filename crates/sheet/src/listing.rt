@@ -3,17 +3,16 @@ ghost use Rattle.base.specs.Lent.{old, new};
 ghost use mathlib.Core.Path.{_≡_};
 ghost use Prim.Native.Nat.{_+_, _*_, _≤_};
 ghost use lib.ListN.{length, getD, replicate};
-ghost use Rattle.base.specs.Refusal.{line};
-ghost use Rattle.planner.specs.Answer.{lineOf};
 ghost use Rattle.planner.specs.Entries.{entryAt};
+ghost use Rattle.operation.specs.Rows.{rowLine};
 ghost use Rattle.columns.specs.Columns.{stored};
 ghost use Rattle.sheet.specs.Lines.{columnPlace, lineLength};
 ghost use Rattle.sheet.specs.Listing.{entryLine, lineBytes, linesBytes};
-ghost use Rattle.sheet.specs.code.Post.{rowLine, writePair, entriesIn, entryLines, answerLines, EntriesAsked, PrintedIn, refusalBytes};
+ghost use Rattle.sheet.specs.code.Post.{writePair, entriesIn, entryLines, answerLines, EntriesAsked, PrintedIn, refusalBytes};
 use crate::lines::COLUMN;
 use columns::write::write_column;
-use planner::PlanAnswer;
-use table::refusal_number;
+use operation::row::Row;
+use operation::row::row_from;
 
 // Two columns; where the LF stands in a line; a line.
 const PAIR: usize = 2 * COLUMN;
@@ -21,58 +20,6 @@ const PAIR: usize = 2 * COLUMN;
 const FEED: usize = 4 * COLUMN;
 
 const LINE: usize = FEED + 1;
-
-// The numbers of a line.
-pub(crate) struct Row {
-    pub number: u64,
-    pub second: u64,
-    pub third: u64,
-    pub fourth: u64,
-}
-
-fn row_from(number: u64, second: u64, third: u64, fourth: u64) -> Row
-    ensures { λ r. ⌜ rowLine r ≡ line number second third fourth ⌝ }
-{
-    Row {
-        number,
-        second,
-        third,
-        fourth,
-    }
-}
-
-pub(crate) fn row_of(answer: PlanAnswer) -> Row
-    ensures { λ r. ⌜ rowLine r ≡ lineOf answer ⌝ }
-{
-    match answer {
-        PlanAnswer::Planned {
-            form,
-            side,
-            entries,
-        } => row_from(0, form as u64, side as u64, entries as u64),
-        PlanAnswer::TableRefused(refused) => row_from(refusal_number(refused) as u64, 0, 0, 0),
-        PlanAnswer::RootOutside => row_from(5, 0, 0, 0),
-        PlanAnswer::PlanTooLarge { needed } => row_from(6, 0, needed as u64, 0),
-        PlanAnswer::ColonEqualsRequiresBindableLeft { left } => row_from(11, left as u64, 0, 0),
-        PlanAnswer::ArraySizeMismatch { left, size, other } => {
-            row_from(12, left as u64, size as u64, other as u64)
-        }
-        PlanAnswer::ArrayLengthMismatch {
-            value,
-            expected,
-            actual,
-        } => row_from(13, value as u64, expected as u64, actual as u64),
-        PlanAnswer::ObjectLiteralKeysMismatch { value, pattern } => {
-            row_from(14, value as u64, pattern as u64, 0)
-        }
-        PlanAnswer::ObjectFieldCountMismatch { left, keys, fields } => {
-            row_from(15, left as u64, keys as u64, fields as u64)
-        }
-        PlanAnswer::ObjectKeyNotFound { key } => row_from(16, key as u64, 0, 0),
-        PlanAnswer::VariableAlreadyDefined { name } => row_from(17, name as u64, 0, 0),
-        PlanAnswer::IncompatibleDestructuringPatterns { side } => row_from(18, side as u64, 0, 0),
-    }
-}
 
 // The entries that follow a line.
 fn entries_in(row: Row) -> usize

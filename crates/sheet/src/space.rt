@@ -14,12 +14,12 @@ use crate::header::MOST_CHILDREN;
 use crate::header::MOST_NAMES;
 use crate::header::MOST_NODES;
 use crate::header::MOST_NUMBERS;
-use crate::listing::Row;
 use crate::listing::refuse;
-use crate::listing::row_of;
 use crate::listing::write_lines;
 use crate::tables::read_tables;
 use operation::numbers::operation_of;
+use operation::row::Row;
+use operation::row::row_of;
 use scope::Scope;
 
 // A plan has four words an entry.

@@ -19,10 +19,11 @@ use Rattle.base.specs.Refusal.{Line, line, refusalLine}
 use Rattle.planner.specs.Answer.{lineOf}
 use Rattle.planner.specs.Entries.{entryAt, readEntries}
 use Rattle.planner.proofs.buffer.ReadBack.{length-read}
-use Rattle.sheet.specs.declared.listing.Row.{Row}
+use Rattle.operation.specs.declared.row.Row.{Row}
+use Rattle.operation.specs.Rows.{rowLine}
 use Rattle.sheet.specs.Lines.{lineLength}
 use Rattle.sheet.specs.Listing.{entryLine, lineBytes, linesBytes, printed, printedCount, Printed}
-use Rattle.sheet.specs.code.Post.{rowLine, writePair, entriesIn, entryLines, answerLines, EntriesAsked, refusalBytes}
+use Rattle.sheet.specs.code.Post.{writePair, entriesIn, entryLines, answerLines, EntriesAsked, refusalBytes}
 
 -- the numbers of a line
 pub row-is : (answer : PlanAnswer) {a : PlanAnswer} {l : Line} → answer ≡ a → l ≡ lineOf a → l ≡ lineOf answer

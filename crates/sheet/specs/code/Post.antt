@@ -16,7 +16,6 @@ use Rattle.sheet.specs.declared.header.Header.{Header}
 use Rattle.operation.specs.declared.numbers.OperationNumbers.{OperationNumbers}
 use Rattle.operation.specs.Operation.{operationOutcome}
 use Rattle.operation.specs.Numbers.{operationOf}
-use Rattle.sheet.specs.declared.listing.Row.{Row}
 use Rattle.sheet.specs.declared.space.Tried.{Tried}
 use Rattle.sheet.specs.declared.space.Tried.the-variants as Tried
 use Rattle.base.specs.Lent.{Slices}
@@ -103,9 +102,6 @@ pub record NamesRead (sheet : List ℕ) (at count : ℕ) (names before marks : L
   pub held : r ≡ true → NamesHeld sheet at count names before marks
 
 -- the listing of an answer and the plan's words
-abbrev pub rowLine : Row → Line
-rowLine r = line (r .number) (r .second) (r .third) (r .fourth)
-
 unfoldable pub writePair : ℕ → ℕ → List ℕ
 writePair left right = writeColumn left ++ writeColumn right
 
