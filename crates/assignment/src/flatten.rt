@@ -305,7 +305,7 @@ fn flatten_objects(
     requires { ⌜ ByKeyAsksIn scratch (given nodes children numbers names strings text) (now states) left right at ⌝ }
     ensures { λ r. ⌜ ObjectsFlattened states plan (lent nodes children numbers names strings text) left right at r × WorkingSpaces binders scratch ⌝ }
 {
-    let mut order = [0u32; 256];
+    let mut order = [0u8; 256];
     match match_keys(
         nodes,
         children,
@@ -349,7 +349,7 @@ fn flatten_fields(
     states: &mut [u8; 128],
     left: u32,
     right: u32,
-    order: &[u32; 256],
+    order: &[u8; 256],
     total: usize,
     binders: &mut [u32; 128],
     scratch: &mut [u32],

@@ -25,7 +25,7 @@ fn partner_of(
     strings: &[u8],
     text: &[u8],
     pattern: u32,
-    order: &[u32; 256],
+    order: &[u8; 256],
     literals: usize,
     key: u32,
 ) -> u32
@@ -164,7 +164,7 @@ fn check_object(
     requires { ⌜ ObjectsAsk (given nodes children numbers names strings text) pattern value ⌝ }
     ensures { λ r. let T = lent nodes children numbers names strings text in ⌜ r ≡ structure (expr T value) (expr T pattern) ⌝ }
 {
-    let mut order = [0u32; 256];
+    let mut order = [0u8; 256];
     let keys = compare_keys(
         nodes,
         children,
@@ -210,7 +210,7 @@ fn check_fields(
     text: &[u8],
     pattern: u32,
     value: u32,
-    order: &[u32; 256],
+    order: &[u8; 256],
     literals: usize,
     total: usize,
 ) -> LiteralStructureCheck
@@ -254,7 +254,7 @@ fn check_field(
     text: &[u8],
     pattern: u32,
     value: u32,
-    order: &[u32; 256],
+    order: &[u8; 256],
     literals: usize,
     i: usize,
 ) -> LiteralStructureCheck

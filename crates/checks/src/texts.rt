@@ -95,7 +95,7 @@ fn sort_ordered(
     strings: &[u8],
     text: &[u8],
     first: usize,
-    order: &[u32; 256],
+    order: &[u8; 256],
     total: usize,
     keys: &mut [u32; 256],
 ) -> usize
@@ -175,7 +175,7 @@ fn compare_texts(
     strings: &[u8],
     text: &[u8],
     first: usize,
-    order: &[u32; 256],
+    order: &[u8; 256],
     total: usize,
     from: usize,
     size: usize,
@@ -235,7 +235,7 @@ pub(crate) fn compare_keys(
     text: &[u8],
     pattern: u32,
     value: u32,
-    order: &mut [u32; 256],
+    order: &mut [u8; 256],
 ) -> Keys
     requires { ⌜ ObjectsAsk (given nodes children numbers names strings text) pattern value ⌝ }
     ensures { λ r. ⌜ KeysCompared (lent nodes children numbers names strings text) pattern value (new order) (r .literals) (r .total) (r .same) ⌝ }
