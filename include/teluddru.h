@@ -29,6 +29,12 @@ extern "C" {
 #define TELUDDRU_LISTING_BYTES 38425
 #define TELUDDRU_PLAN_ENTRIES 1536
 
+/*
+ * What a call needs at most of its thread's stack: measured on the worst sheets that were found (examples/stack),
+ * not proved. A call keeps nothing between calls, so calls from several threads are independent.
+ */
+#define TELUDDRU_STACK_BYTES 98304
+
 /* Words of a node, a number, a name, a plan's entry and an answer. */
 #define TELUDDRU_NODE_WORDS 5
 #define TELUDDRU_NUMBER_WORDS 2

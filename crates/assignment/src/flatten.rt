@@ -5,7 +5,8 @@ ghost use Prim.Native.Nat.{_≤_, _^_};
 ghost use Rattle.planner.specs.Entries.{readEntries};
 ghost use Rattle.planner.specs.Operations.{AnsweredIn};
 ghost use Rattle.assignment.specs.Assignment.{pairsOutcome};
-ghost use Rattle.assignment.specs.code.Previewing.{ReadAsks, GoodPairIn, WorkingSpaces};
+ghost use Rattle.assignment.specs.code.Previewing.{ReadAsks, GoodPairIn};
+ghost use Rattle.checks.specs.code.Post.{WorkingSpaces};
 ghost use Rattle.assignment.specs.code.Flattening.{Compared, Bound, SideAsksIn, FlattenAsksIn, ArraysAsksIn, ByKeyAsksIn, ItemsAsksIn, ObjectFieldsAsksIn, SideFlattened, NodesFlattened, ArraysFlattened, ItemsFlattened, ObjectsFlattened};
 use crate::judge::Judgement;
 use crate::judge::judge;
@@ -305,7 +306,7 @@ fn flatten_objects(
     requires { ⌜ ByKeyAsksIn scratch (given nodes children numbers names strings text) (now states) left right at ⌝ }
     ensures { λ r. ⌜ ObjectsFlattened states plan (lent nodes children numbers names strings text) left right at r × WorkingSpaces binders scratch ⌝ }
 {
-    let mut order = [0u32; 256];
+    let mut order = [0u8; 256];
     match match_keys(
         nodes,
         children,
@@ -349,7 +350,7 @@ fn flatten_fields(
     states: &mut [u8; 128],
     left: u32,
     right: u32,
-    order: &[u32; 256],
+    order: &[u8; 256],
     total: usize,
     binders: &mut [u32; 128],
     scratch: &mut [u32],

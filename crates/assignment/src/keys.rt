@@ -51,7 +51,7 @@ fn find_value(
     strings: &[u8],
     text: &[u8],
     object: u32,
-    order: &[u32; 256],
+    order: &[u8; 256],
     total: usize,
     key: u32,
 ) -> u32
@@ -85,7 +85,7 @@ fn first_missing(
     strings: &[u8],
     text: &[u8],
     object: u32,
-    order: &[u32; 256],
+    order: &[u8; 256],
     total: usize,
     from: usize,
     count: usize,
@@ -129,7 +129,7 @@ pub(crate) fn match_keys(
     text: &[u8],
     left: u32,
     right: u32,
-    order: &mut [u32; 256],
+    order: &mut [u8; 256],
 ) -> Keys
     requires { ⌜ KeysAsks (given nodes children numbers names strings text) left right ⌝ }
     ensures { λ r. ⌜ KeysMatched (lent nodes children numbers names strings text) left right (new order) r ⌝ }
@@ -186,7 +186,7 @@ pub(crate) fn field_sides(
     strings: &[u8],
     text: &[u8],
     left: u32,
-    order: &[u32; 256],
+    order: &[u8; 256],
     total: usize,
     place: usize,
 ) -> NodePair

@@ -4,7 +4,7 @@ ghost use mathlib.Core.Path.{_≡_};
 ghost use Rattle.table.specs.Decode.{expr, literalAt};
 ghost use Rattle.checks.specs.Structure.{held, structure, structureAll};
 ghost use Rattle.planner.specs.code.Post.{GoodPair};
-ghost use Rattle.checks.specs.code.Post.{itemsAt, ItemsAsk, ObjectsAsk, patternsOf, FieldsAsk, fieldsStructure, FieldAsks, fieldStructure, PartnerAsks, PartnerIs};
+ghost use Rattle.checks.specs.code.Post.{itemsAt, ItemsAsk, ObjectsAsk, WorkingSpaces, patternsOf, FieldsAsk, fieldsStructure, FieldAsks, fieldStructure, PartnerAsks, PartnerIs};
 use crate::LiteralStructureCheck;
 use crate::texts::compare_keys;
 use planner::fields::field_at;
@@ -25,7 +25,7 @@ fn partner_of(
     strings: &[u8],
     text: &[u8],
     pattern: u32,
-    order: &[u32; 256],
+    order: &[u8; 256],
     literals: usize,
     key: u32,
 ) -> u32
@@ -54,8 +54,8 @@ fn partner_of(
     0
 }
 
-// A pattern against a value: the first part that doesn't match decides.
-pub fn check_literal_structure(
+// A pattern against a value. The two arrays are for the objects' key nodes; all levels share them, which keeps the stack small.
+fn check_structure(
     nodes: &[u32],
     children: &[u32],
     numbers: &[u64],
@@ -64,9 +64,11 @@ pub fn check_literal_structure(
     text: &[u8],
     pattern: u32,
     value: u32,
+    keys: &mut [u32; 256],
+    others: &mut [u32; 256],
 ) -> LiteralStructureCheck
     requires { ⌜ GoodPair (given nodes children numbers names strings text) pattern value ⌝ }
-    ensures { λ r. let T = lent nodes children numbers names strings text in ⌜ r ≡ structure (expr T value) (expr T pattern) ⌝ }
+    ensures { λ r. let T = lent nodes children numbers names strings text in ⌜ (r ≡ structure (expr T value) (expr T pattern)) × WorkingSpaces keys others ⌝ }
 {
     let kind = kind_of(nodes, value);
     if kind_of(nodes, pattern) != kind {
@@ -95,6 +97,8 @@ pub fn check_literal_structure(
             at,
             place,
             actual as usize,
+            keys,
+            others,
         );
     }
     if kind == 9 {
@@ -107,6 +111,8 @@ pub fn check_literal_structure(
             text,
             pattern,
             value,
+            keys,
+            others,
         );
     }
     LiteralStructureCheck::Unknown
@@ -124,15 +130,17 @@ fn check_items(
     at: usize,
     place: usize,
     left: usize,
+    keys: &mut [u32; 256],
+    others: &mut [u32; 256],
 ) -> LiteralStructureCheck
     requires { ⌜ ItemsAsk (given nodes children numbers names strings text) value at place left ⌝ }
-    ensures { λ r. let T = lent nodes children numbers names strings text in ⌜ r ≡ structureAll (itemsAt T place left) (itemsAt T at left) ⌝ }
+    ensures { λ r. let T = lent nodes children numbers names strings text in ⌜ (r ≡ structureAll (itemsAt T place left) (itemsAt T at left)) × WorkingSpaces keys others ⌝ }
 {
     let mut i: usize = 0;
     while i < left {
         let pattern = child_at(children, at + i);
         let item = child_at(children, place + i);
-        let check = check_literal_structure(
+        let check = check_structure(
             nodes,
             children,
             numbers,
@@ -141,6 +149,8 @@ fn check_items(
             text,
             pattern,
             item,
+            keys,
+            others,
         );
         let LiteralStructureCheck::Match = check else {
             return check;
@@ -160,12 +170,14 @@ fn check_object(
     text: &[u8],
     pattern: u32,
     value: u32,
+    keys: &mut [u32; 256],
+    others: &mut [u32; 256],
 ) -> LiteralStructureCheck
     requires { ⌜ ObjectsAsk (given nodes children numbers names strings text) pattern value ⌝ }
-    ensures { λ r. let T = lent nodes children numbers names strings text in ⌜ r ≡ structure (expr T value) (expr T pattern) ⌝ }
+    ensures { λ r. let T = lent nodes children numbers names strings text in ⌜ (r ≡ structure (expr T value) (expr T pattern)) × WorkingSpaces keys others ⌝ }
 {
-    let mut order = [0u32; 256];
-    let keys = compare_keys(
+    let mut order = [0u8; 256];
+    let compared = compare_keys(
         nodes,
         children,
         numbers,
@@ -175,14 +187,16 @@ fn check_object(
         pattern,
         value,
         &mut order,
+        keys,
+        others,
     );
-    if keys.total == 0 {
+    if compared.total == 0 {
         return LiteralStructureCheck::Match;
     }
-    if keys.literals == 0 {
+    if compared.literals == 0 {
         return LiteralStructureCheck::Unknown;
     }
-    if keys.same {
+    if compared.same {
         return check_fields(
             nodes,
             children,
@@ -193,8 +207,10 @@ fn check_object(
             pattern,
             value,
             &order,
-            keys.literals,
-            keys.total,
+            compared.literals,
+            compared.total,
+            keys,
+            others,
         );
     }
     LiteralStructureCheck::ObjectMismatch { value, pattern }
@@ -210,12 +226,14 @@ fn check_fields(
     text: &[u8],
     pattern: u32,
     value: u32,
-    order: &[u32; 256],
+    order: &[u8; 256],
     literals: usize,
     total: usize,
+    keys: &mut [u32; 256],
+    others: &mut [u32; 256],
 ) -> LiteralStructureCheck
     requires { ⌜ FieldsAsk (given nodes children numbers names strings text) pattern value (now order) literals total ⌝ }
-    ensures { λ r. ⌜ r ≡ fieldsStructure (lent nodes children numbers names strings text) pattern value ⌝ }
+    ensures { λ r. ⌜ (r ≡ fieldsStructure (lent nodes children numbers names strings text) pattern value) × WorkingSpaces keys others ⌝ }
 {
     let count = count_of(nodes, value) as usize;
     let mut i: usize = 0;
@@ -232,6 +250,8 @@ fn check_fields(
             order,
             literals,
             i,
+            keys,
+            others,
         );
         let LiteralStructureCheck::Match = check else {
             return check;
@@ -254,12 +274,14 @@ fn check_field(
     text: &[u8],
     pattern: u32,
     value: u32,
-    order: &[u32; 256],
+    order: &[u8; 256],
     literals: usize,
     i: usize,
+    keys: &mut [u32; 256],
+    others: &mut [u32; 256],
 ) -> LiteralStructureCheck
     requires { ⌜ FieldAsks (given nodes children numbers names strings text) pattern value (now order) literals i ⌝ }
-    ensures { λ r. ⌜ r ≡ fieldStructure (lent nodes children numbers names strings text) pattern value i ⌝ }
+    ensures { λ r. ⌜ (r ≡ fieldStructure (lent nodes children numbers names strings text) pattern value i) × WorkingSpaces keys others ⌝ }
 {
     let place = first_of(nodes, value) as usize + i * 2;
     let key = child_at(children, place);
@@ -279,5 +301,46 @@ fn check_field(
         return LiteralStructureCheck::Match;
     }
     let child = child_at(children, place + 1);
-    check_literal_structure(nodes, children, numbers, names, strings, text, other, child)
+    check_structure(
+        nodes,
+        children,
+        numbers,
+        names,
+        strings,
+        text,
+        other,
+        child,
+        keys,
+        others,
+    )
+}
+
+// A pattern against a value: the first part that doesn't match decides.
+pub fn check_literal_structure(
+    nodes: &[u32],
+    children: &[u32],
+    numbers: &[u64],
+    names: &[u32],
+    strings: &[u8],
+    text: &[u8],
+    pattern: u32,
+    value: u32,
+) -> LiteralStructureCheck
+    requires { ⌜ GoodPair (given nodes children numbers names strings text) pattern value ⌝ }
+    ensures { λ r. let T = lent nodes children numbers names strings text in ⌜ r ≡ structure (expr T value) (expr T pattern) ⌝ }
+{
+    let mut keys = [0u32; 256];
+    let mut others = [0u32; 256];
+    check_structure(
+        nodes,
+        children,
+        numbers,
+        names,
+        strings,
+        text,
+        pattern,
+        value,
+        &mut keys,
+        &mut others,
+    )
 }

@@ -7,8 +7,8 @@ ghost use Rattle.literal.specs.Text.{textsCompared};
 ghost use Rattle.table.specs.Decode.{literalNode};
 ghost use Rattle.planner.specs.code.Passes.{fieldKey};
 ghost use Rattle.planner.specs.code.Post.{OrderAsks};
-ghost use Rattle.checks.specs.code.Texts.{isGreater, TextAsks, TextPlace, AddKeyAsks, KeyAdded, SortedKeys, orderedKey, OrderedAsks, textsAgree, BothAsk, TextsCompared};
-ghost use Rattle.checks.specs.code.Post.{ObjectsAsk, KeysCompared};
+ghost use Rattle.checks.specs.code.Texts.{isGreater, TextAsks, TextPlace, AddKeyAsks, KeyAdded, SortedKeys, orderedKey, OrderedAsks, textsAgree, BothAsk, TextsComparedBy};
+ghost use Rattle.checks.specs.code.Post.{WorkingSpaces, ObjectsAsk, KeysComparedBy};
 use base::words::insert_at;
 use literal::Comparison;
 use planner::fields::field_at;
@@ -95,7 +95,7 @@ fn sort_ordered(
     strings: &[u8],
     text: &[u8],
     first: usize,
-    order: &[u32; 256],
+    order: &[u8; 256],
     total: usize,
     keys: &mut [u32; 256],
 ) -> usize
@@ -175,15 +175,16 @@ fn compare_texts(
     strings: &[u8],
     text: &[u8],
     first: usize,
-    order: &[u32; 256],
+    order: &[u8; 256],
     total: usize,
     from: usize,
     size: usize,
+    keys: &mut [u32; 256],
+    others: &mut [u32; 256],
 ) -> Keys
     requires { ⌜ BothAsk (given nodes children numbers names strings text) first (now order) total from size ⌝ }
-    ensures { λ r. ⌜ TextsCompared (lent nodes children numbers names strings text) first (old order) total from size (r .literals) (r .total) (r .same) ⌝ }
+    ensures { λ r. ⌜ TextsComparedBy (lent nodes children numbers names strings text) first (old order) total from size r × WorkingSpaces keys others ⌝ }
 {
-    let mut expected = [0u32; 256];
     let literals = sort_ordered(
         nodes,
         children,
@@ -194,10 +195,9 @@ fn compare_texts(
         first,
         order,
         total,
-        &mut expected,
+        keys,
     );
-    let mut actual = [0u32; 256];
-    let others = sort_written(
+    let count = sort_written(
         nodes,
         children,
         numbers,
@@ -206,18 +206,9 @@ fn compare_texts(
         text,
         from,
         size,
-        &mut actual,
-    );
-    let same = same_texts(
-        nodes,
-        numbers,
-        strings,
-        text,
-        &expected,
-        literals,
-        &actual,
         others,
     );
+    let same = same_texts(nodes, numbers, strings, text, keys, literals, others, count);
     Keys {
         literals,
         total,
@@ -235,10 +226,12 @@ pub(crate) fn compare_keys(
     text: &[u8],
     pattern: u32,
     value: u32,
-    order: &mut [u32; 256],
+    order: &mut [u8; 256],
+    keys: &mut [u32; 256],
+    others: &mut [u32; 256],
 ) -> Keys
     requires { ⌜ ObjectsAsk (given nodes children numbers names strings text) pattern value ⌝ }
-    ensures { λ r. ⌜ KeysCompared (lent nodes children numbers names strings text) pattern value (new order) (r .literals) (r .total) (r .same) ⌝ }
+    ensures { λ r. ⌜ KeysComparedBy (lent nodes children numbers names strings text) pattern value (new order) r × WorkingSpaces keys others ⌝ }
 {
     let first = first_of(nodes, pattern) as usize;
     let count = count_of(nodes, pattern) as usize;
@@ -267,5 +260,7 @@ pub(crate) fn compare_keys(
         total,
         from,
         size,
+        keys,
+        others,
     )
 }

@@ -27,13 +27,6 @@ pub record Roomy (T : Tables) (scratch : List ℕ) : Type 0 where
 abbrev pub GoodPairIn : Slice → Tables → ℕ → ℕ → Type 0
 GoodPairIn scratch T left right = GoodPair T left right × Roomy T (scratch .now)
 
--- a buffer to work in: nothing is said of its words at exit
-abbrev pub WorkingSpace : Slices → Type 0
-WorkingSpace x = Unit {0}
-
-abbrev pub WorkingSpaces : Slices → Slices → Type 0
-WorkingSpaces x y = WorkingSpace x × WorkingSpace y
-
 -- `states` calls the names unbound that the scope does and that are not planned so far, and tells `_`
 pub record Scoped (T : Tables) (unbound : ℕ → Bool) (seen states : List ℕ) : Type 0 where
   pub wild : States T states

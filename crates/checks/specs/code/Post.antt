@@ -4,17 +4,26 @@ use mathlib.Core.Path.{_≡_}
 use mathlib.Core.Bool.{Bool}
 use mathlib.Core.List.{List}
 use mathlib.Core.Option.{Option, none, some}
+use Rattle.base.specs.Lent.{Slices}
 use Rattle.table.specs.Tables.{Tables, kindOf, firstOf, countOf, childAt}
 use Rattle.table.specs.Expr.{Expr, Exprs}
 use Rattle.table.specs.Decode.{expr, items, literalAt, fieldsOf}
 use Rattle.table.specs.code.Sound.{Node, WellFormed}
 use Rattle.checks.specs.declared.LiteralStructureCheck.{LiteralStructureCheck}
+use Rattle.checks.specs.declared.texts.Keys.{Keys}
 use Rattle.planner.specs.Layout.{FieldOrder, noFields}
 use Rattle.planner.specs.code.Passes.{keyNode, valueNode, orderOf}
 use Rattle.planner.specs.code.Ordering.{FieldsIn}
 use Rattle.planner.specs.code.Post.{GoodPair}
 use Rattle.planner.specs.Held.{valueOrder}
 use Rattle.checks.specs.Structure.{andThen, sameKeys, computedKeys, held, partner, structure, structureFields}
+
+-- a buffer to work in: nothing is said of its words at exit
+abbrev pub WorkingSpace : Slices → Type 0
+WorkingSpace x = Unit {0}
+
+abbrev pub WorkingSpaces : Slices → Slices → Type 0
+WorkingSpaces x y = WorkingSpace x × WorkingSpace y
 
 -- `left` items from child entry `at` on
 abbrev pub itemsAt : Tables → ℕ → ℕ → Exprs
@@ -45,6 +54,9 @@ pub record KeysCompared (T : Tables) (pattern value : ℕ) (order : List ℕ) (l
   pub ordered : FieldsIn T (firstOf (T .nodes) pattern) (countOf (T .nodes) pattern) order literals total
   pub few : total ≤ 256
   pub same-texts : same ≡ sameKeys (orderOfNode T pattern .literals) (fieldsOf T value)
+
+abbrev pub KeysComparedBy : Tables → ℕ → ℕ → List ℕ → Keys → Type 0
+KeysComparedBy T pattern value order r = KeysCompared T pattern value order (r .literals) (r .total) (r .same)
 
 pub record FieldsAsk (T : Tables) (pattern value : ℕ) (order : List ℕ) (literals total : ℕ) : Type 0 where
   pub objects : ObjectsAsk T pattern value

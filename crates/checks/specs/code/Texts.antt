@@ -16,6 +16,7 @@ use Rattle.table.specs.Tables.{Tables, kindOf}
 use Rattle.table.specs.Decode.{literalNode}
 use Rattle.planner.specs.code.Passes.{fieldKey}
 use Rattle.planner.specs.code.Post.{OrderAsks, OrderedBy}
+use Rattle.checks.specs.declared.texts.Keys.{Keys}
 use Rattle.checks.specs.Structure.{textOr, insertText, sortTexts, sameTexts}
 
 abbrev pub isGreater : Comparison → Bool
@@ -115,3 +116,6 @@ pub record TextsCompared (T : Tables) (first : ℕ) (order : List ℕ) (total fr
   pub ordered : all ≡ total
   pub counted : literals ≡ length (textsFrom (orderedKey T first order) 0 total)
   pub same-texts : same ≡ sameTexts (sortTexts (textsFrom (orderedKey T first order) 0 total)) (sortTexts (textsFrom (fieldKey T from) 0 size))
+
+abbrev pub TextsComparedBy : Tables → ℕ → List ℕ → ℕ → ℕ → ℕ → Keys → Type 0
+TextsComparedBy T first order total from size r = TextsCompared T first order total from size (r .literals) (r .total) (r .same)

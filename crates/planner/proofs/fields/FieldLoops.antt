@@ -218,9 +218,6 @@ module _ {T : Tables} {first i : ℕ} {order : List ℕ} {m total : ℕ} (a : Ad
         let f = add-few a in
         omega (arith, p .0)
 
-    pub place-fits : equal ≡ true → Fits w64 (place * 4)
-    place-fits e = let p = found-place e in record { fits = omega arith }
-
 -- the pass over the fields
 
 pub record Arranging (T : Tables) (first count i : ℕ) (before order : List ℕ) (m total : ℕ) : Type 0 where

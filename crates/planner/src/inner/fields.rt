@@ -8,7 +8,7 @@ ghost use Rattle.table.specs.Tables.{childAt};
 ghost use Rattle.planner.specs.code.Post.{OrderAsks, Arranged};
 ghost use Rattle.planner.specs.code.Ordering.{FieldAdded, FindAsks, FoundIn, AddAsks};
 use crate::fields::wide;
-use base::words::insert_at;
+use base::bytes::insert_at;
 use literal::Comparison;
 use table::Key;
 use table::reading::child_at;
@@ -54,7 +54,7 @@ pub fn find_field(
     strings: &[u8],
     text: &[u8],
     first: usize,
-    order: &[u32; 256],
+    order: &[u8; 256],
     literals: usize,
     key: u32,
 ) -> Found
@@ -93,8 +93,8 @@ fn add_field(
     strings: &[u8],
     text: &[u8],
     first: usize,
-    field: u32,
-    order: &mut [u32; 256],
+    field: u8,
+    order: &mut [u8; 256],
     sizes: Sizes,
 ) -> Sizes
     requires { ⌜ AddAsks (given nodes children numbers names strings text) first field (now order) (sizes .literals) (sizes .total) ⌝ }
@@ -145,7 +145,7 @@ pub fn order_fields(
     text: &[u8],
     first: usize,
     count: usize,
-    order: &mut [u32; 256],
+    order: &mut [u8; 256],
 ) -> u32
     requires { ⌜ OrderAsks (given nodes children numbers names strings text) first count ⌝ }
     ensures { λ r. ⌜ Arranged (lent nodes children numbers names strings text) first count (old order) (new order) r ⌝ }
@@ -164,7 +164,7 @@ pub fn order_fields(
             strings,
             text,
             first,
-            i as u32,
+            i as u8,
             order,
             sizes,
         );

@@ -166,7 +166,7 @@ fn lay_object(
 {
     let first = first_of(nodes, node) as usize;
     let count = count_of(nodes, node) as usize;
-    let mut order = [0u32; 256];
+    let mut order = [0u8; 256];
     let total = order_fields(
         nodes,
         children,
@@ -209,7 +209,7 @@ fn lay_fields(
     binders: &[u32; 128],
     parent: u32,
     first: usize,
-    order: &[u32; 256],
+    order: &[u8; 256],
     total: usize,
     plan: &mut [u32],
     at: usize,

@@ -75,7 +75,7 @@ fn keys_differ(
     requires { ⌜ KeysAsks (given nodes children numbers names strings text) first count ⌝ }
     ensures { λ r. let T = lent nodes children numbers names strings text in ⌜ r ≡ differing (keysOf (fields (expr T) (T .children) first count)) ⌝ }
 {
-    let mut order = [0u32; 256];
+    let mut order = [0u8; 256];
     let total = order_fields(
         nodes,
         children,

@@ -42,13 +42,14 @@ cast-size c = search needs
 
 compare-texts-requires : tie.Need-compare-texts-requires
 compare-texts-requires c κs =
-    let s = c .before .before .before in
+    let lent = c .before .before in
+    let s = lent .before .before .before in
     let words = s .before .before in
     let start = words .before .before .before .before .before .before .before .before in
-    ask-both (start .pre) (words .before .first-of .ensures) (words .count-of .ensures) (arranged-first (s .order-fields .ensures)) (c .before .before .first-of2 .ensures) (c .before .count-of2 .ensures)
+    ask-both (start .pre) (words .before .first-of .ensures) (words .count-of .ensures) (arranged-first (s .order-fields .ensures)) (lent .before .before .first-of2 .ensures) (lent .before .count-of2 .ensures)
 
 returns : tie.Need-returns
-returns c = search (keys-compared, arranged-first, needs)
+returns c = (search (keys-compared, arranged-first, needs), (tt, tt))
 
 pub compare-keys-spec : {M : Type 1} → statement M
 compare-keys-spec =

@@ -1,11 +1,11 @@
-use Rattle.planner.proofs.fields.FieldLoops.{total-fits, literals-fit, ask-find, found-place, place-fits, added-computed, added-equal, added-new}
+use Rattle.planner.proofs.fields.FieldLoops.{total-fits, literals-fit, ask-find, found-place, added-computed, added-equal, added-new}
 use borrow.Author.Needs.{needs}
 use Rattle.planner.proofs.inner.fields.add_field.Statement.{statement}
 use Rattle.planner.proofs.inner.fields.add_field.Tie as tie
 use Rattle.planner.proofs.inner.fields.add_field.Reads as reads
 use Rattle.planner.proofs.inner.fields.add_field.Lts as lts
 use Rattle.planner.proofs.inner.fields.find_field.Reads as find-field-reads
-use Rattle.base.proofs.words.insert_at.Reads as insert-at-reads
+use Rattle.base.proofs.bytes.insert_at.Reads as insert-at-reads
 use Rattle.table.proofs.reading.child_at.Reads as child-at-reads
 use Rattle.table.proofs.reading.extract_literal_key.Reads as extract-literal-key-reads
 
@@ -39,9 +39,6 @@ returns c = search (added-computed, needs)
 find-field-requires : tie.Need-find-field-requires
 find-field-requires c κs = search (ask-find, needs)
 
-mul-order : tie.Need-mul-order
-mul-order c = search (place-fits, needs)
-
 element-write-order : tie.Need-element-write-order
 element-write-order c = search (found-place, needs)
 
@@ -74,7 +71,6 @@ add-field-spec =
     add-t23
     returns
     find-field-requires
-    mul-order
     element-write-order
     returns-2
     insert-at-requires-2

@@ -24,9 +24,6 @@ sub-middle c = search needs
 add-middle : tie.Need-add-middle Inv-loop μ-loop
 add-middle c = search needs
 
-mul-wide : tie.Need-mul-wide Inv-loop μ-loop
-mul-wide c = search needs
-
 element-copy-out-wide : tie.Need-element-copy-out-wide Inv-loop μ-loop
 element-copy-out-wide c = search needs
 
@@ -72,7 +69,6 @@ find-field-spec =
     loop-holds
     sub-middle
     add-middle
-    mul-wide
     element-copy-out-wide
     wide-requires
     compare-keys-requires

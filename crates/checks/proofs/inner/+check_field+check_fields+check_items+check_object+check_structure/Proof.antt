@@ -6,114 +6,114 @@ use borrow.Fn.Kinds.{In}
 use borrow.Fn.PlainCycle.{Measures, is, falls, and}
 use Rattle.checks.proofs.inner.check_field.Reads as check-field
 use Rattle.checks.proofs.inner.check_field.Kinds as check-field-kinds
-use Rattle.checks.proofs.inner.+check_field+check_fields+check_items+check_literal_structure+check_object.Lts-check_field as check-field-lts
+use Rattle.checks.proofs.inner.+check_field+check_fields+check_items+check_object+check_structure.Lts-check_field as check-field-lts
 use Rattle.checks.proofs.inner.check_fields.Reads as check-fields
 use Rattle.checks.proofs.inner.check_fields.Kinds as check-fields-kinds
-use Rattle.checks.proofs.inner.+check_field+check_fields+check_items+check_literal_structure+check_object.Lts-check_fields as check-fields-lts
+use Rattle.checks.proofs.inner.+check_field+check_fields+check_items+check_object+check_structure.Lts-check_fields as check-fields-lts
 use Rattle.checks.proofs.inner.check_items.Reads as check-items
 use Rattle.checks.proofs.inner.check_items.Kinds as check-items-kinds
-use Rattle.checks.proofs.inner.+check_field+check_fields+check_items+check_literal_structure+check_object.Lts-check_items as check-items-lts
-use Rattle.checks.proofs.inner.check_literal_structure.Reads as check-literal-structure
-use Rattle.checks.proofs.inner.check_literal_structure.Kinds as check-literal-structure-kinds
-use Rattle.checks.proofs.inner.+check_field+check_fields+check_items+check_literal_structure+check_object.Lts-check_literal_structure as check-literal-structure-lts
+use Rattle.checks.proofs.inner.+check_field+check_fields+check_items+check_object+check_structure.Lts-check_items as check-items-lts
 use Rattle.checks.proofs.inner.check_object.Reads as check-object
 use Rattle.checks.proofs.inner.check_object.Kinds as check-object-kinds
-use Rattle.checks.proofs.inner.+check_field+check_fields+check_items+check_literal_structure+check_object.Lts-check_object as check-object-lts
-use Rattle.checks.proofs.texts.compare_keys.Reads as compare-keys-reads
+use Rattle.checks.proofs.inner.+check_field+check_fields+check_items+check_object+check_structure.Lts-check_object as check-object-lts
+use Rattle.checks.proofs.inner.check_structure.Reads as check-structure
+use Rattle.checks.proofs.inner.check_structure.Kinds as check-structure-kinds
+use Rattle.checks.proofs.inner.+check_field+check_fields+check_items+check_object+check_structure.Lts-check_structure as check-structure-lts
 use Rattle.checks.proofs.inner.partner_of.Reads as partner-of-reads
+use Rattle.checks.proofs.texts.compare_keys.Reads as compare-keys-reads
 use Rattle.table.proofs.reading.child_at.Reads as child-at-reads
 use Rattle.table.proofs.reading.count_of.Reads as count-of-reads
 use Rattle.table.proofs.reading.first_of.Reads as first-of-reads
 use Rattle.table.proofs.reading.kind_of.Reads as kind-of-reads
-use Rattle.checks.proofs.inner.+check_field+check_fields+check_items+check_literal_structure+check_object.{
+use Rattle.checks.proofs.inner.+check_field+check_fields+check_items+check_object+check_structure.{
   statement,
 }
-use Rattle.checks.proofs.inner.+check_field+check_fields+check_items+check_literal_structure+check_object.Tie.{
+use Rattle.checks.proofs.inner.+check_field+check_fields+check_items+check_object+check_structure.Tie.{
   close,
 }
 
-abbrev μ-check-field : Measures 7 check-field-kinds.ps ℕ
+abbrev μ-check-field : Measures 9 check-field-kinds.ps ℕ
 μ-check-field κs a = 4 * a .1 .1 .1 .1 .1 .1 .1 .0 - 3
 
-abbrev μ-check-fields : Measures 7 check-fields-kinds.ps ℕ
+abbrev μ-check-fields : Measures 9 check-fields-kinds.ps ℕ
 μ-check-fields κs a = 4 * a .1 .1 .1 .1 .1 .1 .1 .0 - 2
 
-abbrev μ-check-items : Measures 6 check-items-kinds.ps ℕ
+abbrev μ-check-items : Measures 8 check-items-kinds.ps ℕ
 μ-check-items κs a = 4 * a .1 .1 .1 .1 .1 .1 .0 - 2
 
-abbrev μ-check-literal-structure : Measures 6 check-literal-structure-kinds.ps ℕ
-μ-check-literal-structure κs a = 4 * a .1 .1 .1 .1 .1 .1 .1 .0
-
-abbrev μ-check-object : Measures 6 check-object-kinds.ps ℕ
+abbrev μ-check-object : Measures 8 check-object-kinds.ps ℕ
 μ-check-object κs a = 4 * a .1 .1 .1 .1 .1 .1 .1 .0 - 1
 
-abbrev check-field-at : ℕ → In 7 check-field-kinds.ps
+abbrev μ-check-structure : Measures 8 check-structure-kinds.ps ℕ
+μ-check-structure κs a = 4 * a .1 .1 .1 .1 .1 .1 .1 .0
+
+abbrev check-field-at : ℕ → In 9 check-field-kinds.ps
 check-field-at t =
-    and 7 check-field-kinds.ps (is 7 check-field-kinds.ps μ-check-field t) check-field.Pre
+    and 9 check-field-kinds.ps (is 9 check-field-kinds.ps μ-check-field t) check-field.Pre
 
-abbrev check-field-below : ℕ → In 7 check-field-kinds.ps
+abbrev check-field-below : ℕ → In 9 check-field-kinds.ps
 check-field-below t =
-    and 7 check-field-kinds.ps (falls 7 check-field-kinds.ps _<_ μ-check-field t) check-field.Pre
+    and 9 check-field-kinds.ps (falls 9 check-field-kinds.ps _<_ μ-check-field t) check-field.Pre
 
-abbrev check-fields-at : ℕ → In 7 check-fields-kinds.ps
+abbrev check-fields-at : ℕ → In 9 check-fields-kinds.ps
 check-fields-at t =
-    and 7 check-fields-kinds.ps (is 7 check-fields-kinds.ps μ-check-fields t) check-fields.Pre
+    and 9 check-fields-kinds.ps (is 9 check-fields-kinds.ps μ-check-fields t) check-fields.Pre
 
-abbrev check-fields-below : ℕ → In 7 check-fields-kinds.ps
+abbrev check-fields-below : ℕ → In 9 check-fields-kinds.ps
 check-fields-below t =
     and
-    7
+    9
     check-fields-kinds.ps
-    (falls 7 check-fields-kinds.ps _<_ μ-check-fields t)
+    (falls 9 check-fields-kinds.ps _<_ μ-check-fields t)
     check-fields.Pre
 
-abbrev check-items-at : ℕ → In 6 check-items-kinds.ps
+abbrev check-items-at : ℕ → In 8 check-items-kinds.ps
 check-items-at t =
-    and 6 check-items-kinds.ps (is 6 check-items-kinds.ps μ-check-items t) check-items.Pre
+    and 8 check-items-kinds.ps (is 8 check-items-kinds.ps μ-check-items t) check-items.Pre
 
-abbrev check-items-below : ℕ → In 6 check-items-kinds.ps
+abbrev check-items-below : ℕ → In 8 check-items-kinds.ps
 check-items-below t =
-    and 6 check-items-kinds.ps (falls 6 check-items-kinds.ps _<_ μ-check-items t) check-items.Pre
+    and 8 check-items-kinds.ps (falls 8 check-items-kinds.ps _<_ μ-check-items t) check-items.Pre
 
-abbrev check-literal-structure-at : ℕ → In 6 check-literal-structure-kinds.ps
-check-literal-structure-at t =
-    and
-    6
-    check-literal-structure-kinds.ps
-    (is 6 check-literal-structure-kinds.ps μ-check-literal-structure t)
-    check-literal-structure.Pre
-
-abbrev check-literal-structure-below : ℕ → In 6 check-literal-structure-kinds.ps
-check-literal-structure-below t =
-    and
-    6
-    check-literal-structure-kinds.ps
-    (falls 6 check-literal-structure-kinds.ps _<_ μ-check-literal-structure t)
-    check-literal-structure.Pre
-
-abbrev check-object-at : ℕ → In 6 check-object-kinds.ps
+abbrev check-object-at : ℕ → In 8 check-object-kinds.ps
 check-object-at t =
-    and 6 check-object-kinds.ps (is 6 check-object-kinds.ps μ-check-object t) check-object.Pre
+    and 8 check-object-kinds.ps (is 8 check-object-kinds.ps μ-check-object t) check-object.Pre
 
-abbrev check-object-below : ℕ → In 6 check-object-kinds.ps
+abbrev check-object-below : ℕ → In 8 check-object-kinds.ps
 check-object-below t =
     and
-    6
+    8
     check-object-kinds.ps
-    (falls 6 check-object-kinds.ps _<_ μ-check-object t)
+    (falls 8 check-object-kinds.ps _<_ μ-check-object t)
     check-object.Pre
 
+abbrev check-structure-at : ℕ → In 8 check-structure-kinds.ps
+check-structure-at t =
+    and
+    8
+    check-structure-kinds.ps
+    (is 8 check-structure-kinds.ps μ-check-structure t)
+    check-structure.Pre
+
+abbrev check-structure-below : ℕ → In 8 check-structure-kinds.ps
+check-structure-below t =
+    and
+    8
+    check-structure-kinds.ps
+    (falls 8 check-structure-kinds.ps _<_ μ-check-structure t)
+    check-structure.Pre
+
 abbrev check-field-calls : ℕ → check-field-lts.Claims
-check-field-calls t = (first-of-reads.Asked, first-of-reads.Learnt, child-at-reads.Asked, child-at-reads.Learnt, partner-of-reads.Asked, partner-of-reads.Learnt, check-literal-structure-below t, check-literal-structure.Post)
+check-field-calls t = (first-of-reads.Asked, first-of-reads.Learnt, child-at-reads.Asked, child-at-reads.Learnt, partner-of-reads.Asked, partner-of-reads.Learnt, check-structure-below t, check-structure.Post)
 
 abbrev check-fields-calls : ℕ → check-fields-lts.Claims
 check-fields-calls t = (count-of-reads.Asked, count-of-reads.Learnt, check-field-below t, check-field.Post)
 
 abbrev check-items-calls : ℕ → check-items-lts.Claims
-check-items-calls t = (child-at-reads.Asked, child-at-reads.Learnt, check-literal-structure-below t, check-literal-structure.Post)
+check-items-calls t = (child-at-reads.Asked, child-at-reads.Learnt, check-structure-below t, check-structure.Post)
 
-abbrev check-literal-structure-calls : ℕ → check-literal-structure-lts.Claims
-check-literal-structure-calls t = (kind-of-reads.Asked, kind-of-reads.Learnt, count-of-reads.Asked, count-of-reads.Learnt, first-of-reads.Asked, first-of-reads.Learnt, check-items-below t, check-items.Post, check-object-below t, check-object.Post)
+abbrev check-structure-calls : ℕ → check-structure-lts.Claims
+check-structure-calls t = (kind-of-reads.Asked, kind-of-reads.Learnt, count-of-reads.Asked, count-of-reads.Learnt, first-of-reads.Asked, first-of-reads.Learnt, check-items-below t, check-items.Post, check-object-below t, check-object.Post)
 
 abbrev check-object-calls : ℕ → check-object-lts.Claims
 check-object-calls t = (compare-keys-reads.Asked, compare-keys-reads.Learnt, check-fields-below t, check-fields.Post)
@@ -137,7 +137,7 @@ check-field-partner-of-requires : (t : ℕ) → check-field-lts.Need-partner-of-
 check-field-partner-of-requires t c κs = search (ask-partner, needs)
 
 check-field-returns : (t : ℕ) → check-field-lts.Need-returns (check-field-calls t) (check-field-at t) check-field.Post
-check-field-returns t c = search (field-alone, needs)
+check-field-returns t c = (search (field-alone, needs), (tt, tt))
 
 check-field-add-child-at : (t : ℕ) → check-field-lts.Need-add-child-at (check-field-calls t) (check-field-at t) check-field.Post
 check-field-add-child-at t c = search (field-next, needs)
@@ -145,22 +145,23 @@ check-field-add-child-at t c = search (field-next, needs)
 check-field-child-at-requires-2 : (t : ℕ) → check-field-lts.Need-child-at-requires-2 (check-field-calls t) (check-field-at t) check-field.Post
 check-field-child-at-requires-2 t c κs = search needs
 
-check-field-check-literal-structure-requires : (t : ℕ) → check-field-lts.Need-check-literal-structure-requires (check-field-calls t) (check-field-at t) check-field.Post
-check-field-check-literal-structure-requires t c κs =
-    let words = c .before .before .before .before in
+check-field-check-structure-requires : (t : ℕ) → check-field-lts.Need-check-structure-requires (check-field-calls t) (check-field-at t) check-field.Post
+check-field-check-structure-requires t c κs =
+    let lent = c .before .before in
+    let words = lent .before .before .before .before in
     let start = words .before .before .before .before .before .before .before in (
-      search (child-falls, field-below, needs),
-      field-pair (start .pre .1) (words .first-of .ensures) (c .before .before .before .child-at .ensures) (c .before .before .partner-of .ensures) (c .before .if1 .left) (c .child-at2 .ensures),
+      child-falls (field-below (start .pre .1) (words .first-of .ensures) (lent .before .before .before .child-at .ensures) (lent .before .before .partner-of .ensures) (lent .before .if1 .left) (lent .child-at2 .ensures)) (start .pre .0),
+      field-pair (start .pre .1) (words .first-of .ensures) (lent .before .before .before .child-at .ensures) (lent .before .before .partner-of .ensures) (lent .before .if1 .left) (lent .child-at2 .ensures),
     )
 
 check-field-returns-2 : (t : ℕ) → check-field-lts.Need-returns-2 (check-field-calls t) (check-field-at t) check-field.Post
-check-field-returns-2 t c = search (field-done, needs)
+check-field-returns-2 t c = (search (field-done, needs), (tt, tt))
 
 abbrev check-fields-Inv-loop : check-fields-lts.InvT-loop
-check-fields-Inv-loop nodes children numbers names strings text pattern value order literals total count i₀ i = CheckingFields (tables nodes children numbers names strings text) pattern value order literals total count i
+check-fields-Inv-loop nodes children numbers names strings text pattern value order literals total keys₀ others₀ count i₀ keys others i = CheckingFields (tables nodes children numbers names strings text) pattern value order literals total count i
 
 abbrev check-fields-μ-loop : check-fields-lts.MeasureT-loop
-check-fields-μ-loop nodes children numbers names strings text pattern value order literals total count i₀ i = count - i
+check-fields-μ-loop nodes children numbers names strings text pattern value order literals total keys₀ others₀ count i₀ keys others i = count - i
 
 check-fields-count-of-requires : (t : ℕ) → check-fields-lts.Need-count-of-requires (check-fields-calls t) (check-fields-at t) check-fields.Post check-fields-Inv-loop check-fields-μ-loop
 check-fields-count-of-requires t c κs = search needs
@@ -172,13 +173,15 @@ check-fields-loop-holds : (t : ℕ) → check-fields-lts.Need-loop-holds (check-
 check-fields-loop-holds t c = search (fields-start, needs)
 
 check-fields-check-field-requires : (t : ℕ) → check-fields-lts.Need-check-field-requires (check-fields-calls t) (check-fields-at t) check-fields.Post check-fields-Inv-loop check-fields-μ-loop
-check-fields-check-field-requires t c κs = (search (field-falls, needs), fields-field (c .before .loop .inv) (c .loop-test .taken))
+check-fields-check-field-requires t c κs =
+    let lent = c .before .before in
+    (search (field-falls, needs), fields-field (lent .before .loop .inv) (lent .loop-test .taken))
 
 check-fields-enum-told : (t : ℕ) → check-fields-lts.Need-enum-told (check-fields-calls t) (check-fields-at t) check-fields.Post check-fields-Inv-loop check-fields-μ-loop
 check-fields-enum-told t c = search needs
 
 check-fields-returns : (t : ℕ) → check-fields-lts.Need-returns (check-fields-calls t) (check-fields-at t) check-fields.Post check-fields-Inv-loop check-fields-μ-loop
-check-fields-returns t c = search (fields-stop, needs)
+check-fields-returns t c = (search (fields-stop, needs), (tt, tt))
 
 check-fields-add-i : (t : ℕ) → check-fields-lts.Need-add-i (check-fields-calls t) (check-fields-at t) check-fields.Post check-fields-Inv-loop check-fields-μ-loop
 check-fields-add-i t c = search needs
@@ -190,16 +193,16 @@ check-fields-loop-again : (t : ℕ) → check-fields-lts.Need-loop-again (check-
 check-fields-loop-again t c = search (fields-on, needs)
 
 check-fields-returns-2 : (t : ℕ) → check-fields-lts.Need-returns-2 (check-fields-calls t) (check-fields-at t) check-fields.Post check-fields-Inv-loop check-fields-μ-loop
-check-fields-returns-2 t c = search (fields-unknown, needs)
+check-fields-returns-2 t c = (search (fields-unknown, needs), (tt, tt))
 
 check-fields-returns-3 : (t : ℕ) → check-fields-lts.Need-returns-3 (check-fields-calls t) (check-fields-at t) check-fields.Post check-fields-Inv-loop check-fields-μ-loop
-check-fields-returns-3 t c = search (fields-match, needs)
+check-fields-returns-3 t c = (search (fields-match, needs), (tt, tt))
 
 abbrev check-items-Inv-loop : check-items-lts.InvT-loop
-check-items-Inv-loop nodes children numbers names strings text value at place left i₀ i = CheckingItems (tables nodes children numbers names strings text) value at place left i
+check-items-Inv-loop nodes children numbers names strings text value at place left keys₀ others₀ i₀ keys others i = CheckingItems (tables nodes children numbers names strings text) value at place left i
 
 abbrev check-items-μ-loop : check-items-lts.MeasureT-loop
-check-items-μ-loop nodes children numbers names strings text value at place left i₀ i = left - i
+check-items-μ-loop nodes children numbers names strings text value at place left keys₀ others₀ i₀ keys others i = left - i
 
 check-items-loop-holds : (t : ℕ) → check-items-lts.Need-loop-holds (check-items-calls t) (check-items-at t) check-items.Post check-items-Inv-loop check-items-μ-loop
 check-items-loop-holds t c = search (items-start, needs)
@@ -216,14 +219,14 @@ check-items-add-child-at-2 t c = search (items-value-fits, needs)
 check-items-child-at-requires-2 : (t : ℕ) → check-items-lts.Need-child-at-requires-2 (check-items-calls t) (check-items-at t) check-items.Post check-items-Inv-loop check-items-μ-loop
 check-items-child-at-requires-2 t c κs = search needs
 
-check-items-check-literal-structure-requires : (t : ℕ) → check-items-lts.Need-check-literal-structure-requires (check-items-calls t) (check-items-at t) check-items.Post check-items-Inv-loop check-items-μ-loop
-check-items-check-literal-structure-requires t c κs = (search (item-falls, items-below, needs), search (items-pair, needs))
+check-items-check-structure-requires : (t : ℕ) → check-items-lts.Need-check-structure-requires (check-items-calls t) (check-items-at t) check-items.Post check-items-Inv-loop check-items-μ-loop
+check-items-check-structure-requires t c κs = (search (item-falls, items-below, needs), search (items-pair, needs))
 
 check-items-enum-told : (t : ℕ) → check-items-lts.Need-enum-told (check-items-calls t) (check-items-at t) check-items.Post check-items-Inv-loop check-items-μ-loop
 check-items-enum-told t c = search needs
 
 check-items-returns : (t : ℕ) → check-items-lts.Need-returns (check-items-calls t) (check-items-at t) check-items.Post check-items-Inv-loop check-items-μ-loop
-check-items-returns t c = search (items-stop, needs)
+check-items-returns t c = (search (items-stop, needs), (tt, tt))
 
 check-items-add-i : (t : ℕ) → check-items-lts.Need-add-i (check-items-calls t) (check-items-at t) check-items.Post check-items-Inv-loop check-items-μ-loop
 check-items-add-i t c = search (items-next, needs)
@@ -235,93 +238,102 @@ check-items-loop-again : (t : ℕ) → check-items-lts.Need-loop-again (check-it
 check-items-loop-again t c = search (items-on, needs)
 
 check-items-returns-2 : (t : ℕ) → check-items-lts.Need-returns-2 (check-items-calls t) (check-items-at t) check-items.Post check-items-Inv-loop check-items-μ-loop
-check-items-returns-2 t c = search (items-done, needs)
+check-items-returns-2 t c = (search (items-done, needs), (tt, tt))
 
-check-literal-structure-kind-of-requires : (t : ℕ) → check-literal-structure-lts.Need-kind-of-requires (check-literal-structure-calls t) (check-literal-structure-at t) check-literal-structure.Post
-check-literal-structure-kind-of-requires t c κs = search needs
+check-structure-kind-of-requires : (t : ℕ) → check-structure-lts.Need-kind-of-requires (check-structure-calls t) (check-structure-at t) check-structure.Post
+check-structure-kind-of-requires t c κs = search needs
 
-check-literal-structure-kind-of-requires-2 : (t : ℕ) → check-literal-structure-lts.Need-kind-of-requires-2 (check-literal-structure-calls t) (check-literal-structure-at t) check-literal-structure.Post
-check-literal-structure-kind-of-requires-2 t c κs = search needs
+check-structure-kind-of-requires-2 : (t : ℕ) → check-structure-lts.Need-kind-of-requires-2 (check-structure-calls t) (check-structure-at t) check-structure.Post
+check-structure-kind-of-requires-2 t c κs = search needs
 
-check-literal-structure-returns : (t : ℕ) → check-literal-structure-lts.Need-returns (check-literal-structure-calls t) (check-literal-structure-at t) check-literal-structure.Post
-check-literal-structure-returns t c = search (kinds-differ, needs)
+check-structure-returns : (t : ℕ) → check-structure-lts.Need-returns (check-structure-calls t) (check-structure-at t) check-structure.Post
+check-structure-returns t c = (search (kinds-differ, needs), (tt, tt))
 
-check-literal-structure-count-of-requires : (t : ℕ) → check-literal-structure-lts.Need-count-of-requires (check-literal-structure-calls t) (check-literal-structure-at t) check-literal-structure.Post
-check-literal-structure-count-of-requires t c κs = search needs
+check-structure-count-of-requires : (t : ℕ) → check-structure-lts.Need-count-of-requires (check-structure-calls t) (check-structure-at t) check-structure.Post
+check-structure-count-of-requires t c κs = search needs
 
-check-literal-structure-count-of-requires-2 : (t : ℕ) → check-literal-structure-lts.Need-count-of-requires-2 (check-literal-structure-calls t) (check-literal-structure-at t) check-literal-structure.Post
-check-literal-structure-count-of-requires-2 t c κs = search needs
+check-structure-count-of-requires-2 : (t : ℕ) → check-structure-lts.Need-count-of-requires-2 (check-structure-calls t) (check-structure-at t) check-structure.Post
+check-structure-count-of-requires-2 t c κs = search needs
 
-check-literal-structure-returns-2 : (t : ℕ) → check-literal-structure-lts.Need-returns-2 (check-literal-structure-calls t) (check-literal-structure-at t) check-literal-structure.Post
-check-literal-structure-returns-2 t c = search (arrays-mismatch, needs)
+check-structure-returns-2 : (t : ℕ) → check-structure-lts.Need-returns-2 (check-structure-calls t) (check-structure-at t) check-structure.Post
+check-structure-returns-2 t c = (search (arrays-mismatch, needs), (tt, tt))
 
-check-literal-structure-first-of-requires : (t : ℕ) → check-literal-structure-lts.Need-first-of-requires (check-literal-structure-calls t) (check-literal-structure-at t) check-literal-structure.Post
-check-literal-structure-first-of-requires t c κs = search needs
+check-structure-first-of-requires : (t : ℕ) → check-structure-lts.Need-first-of-requires (check-structure-calls t) (check-structure-at t) check-structure.Post
+check-structure-first-of-requires t c κs = search needs
 
-check-literal-structure-cast-at : (t : ℕ) → check-literal-structure-lts.Need-cast-at (check-literal-structure-calls t) (check-literal-structure-at t) check-literal-structure.Post
-check-literal-structure-cast-at t c = search needs
+check-structure-cast-at : (t : ℕ) → check-structure-lts.Need-cast-at (check-structure-calls t) (check-structure-at t) check-structure.Post
+check-structure-cast-at t c = search needs
 
-check-literal-structure-first-of-requires-2 : (t : ℕ) → check-literal-structure-lts.Need-first-of-requires-2 (check-literal-structure-calls t) (check-literal-structure-at t) check-literal-structure.Post
-check-literal-structure-first-of-requires-2 t c κs = search needs
+check-structure-first-of-requires-2 : (t : ℕ) → check-structure-lts.Need-first-of-requires-2 (check-structure-calls t) (check-structure-at t) check-structure.Post
+check-structure-first-of-requires-2 t c κs = search needs
 
-check-literal-structure-cast-place : (t : ℕ) → check-literal-structure-lts.Need-cast-place (check-literal-structure-calls t) (check-literal-structure-at t) check-literal-structure.Post
-check-literal-structure-cast-place t c = search needs
+check-structure-cast-place : (t : ℕ) → check-structure-lts.Need-cast-place (check-structure-calls t) (check-structure-at t) check-structure.Post
+check-structure-cast-place t c = search needs
 
-check-literal-structure-cast-check-items : (t : ℕ) → check-literal-structure-lts.Need-cast-check-items (check-literal-structure-calls t) (check-literal-structure-at t) check-literal-structure.Post
-check-literal-structure-cast-check-items t c = search needs
+check-structure-cast-check-items : (t : ℕ) → check-structure-lts.Need-cast-check-items (check-structure-calls t) (check-structure-at t) check-structure.Post
+check-structure-cast-check-items t c = search needs
 
-check-literal-structure-check-items-requires : (t : ℕ) → check-literal-structure-lts.Need-check-items-requires (check-literal-structure-calls t) (check-literal-structure-at t) check-literal-structure.Post
-check-literal-structure-check-items-requires t c κs =
-    let sizes = c .before .before .before in
+check-structure-check-items-requires : (t : ℕ) → check-structure-lts.Need-check-items-requires (check-structure-calls t) (check-structure-at t) check-structure.Post
+check-structure-check-items-requires t c κs =
+    let lent = c .before .before in
+    let sizes = lent .before .before .before in
     let kinds = sizes .before .before .before .before in
     let start = kinds .before .before .before .before .before .before .before .before in (
       search (items-fall, needs),
       ask-items (start .pre .1) (kinds .before .kind-of .ensures) (kinds .kind-of2 .ensures) (sizes .before .before .before .if1 .left) (sizes .before .before .if2 .taken)
-          (sizes .before .count-of .ensures) (sizes .count-of2 .ensures) (c .before .before .if3 .left) (c .before .first-of .ensures) (c .first-of2 .ensures),
+          (sizes .before .count-of .ensures) (sizes .count-of2 .ensures) (lent .before .before .if3 .left) (lent .before .first-of .ensures) (lent .first-of2 .ensures),
     )
 
-check-literal-structure-returns-3 : (t : ℕ) → check-literal-structure-lts.Need-returns-3 (check-literal-structure-calls t) (check-literal-structure-at t) check-literal-structure.Post
-check-literal-structure-returns-3 t c = search (arrays-done, needs)
+check-structure-returns-3 : (t : ℕ) → check-structure-lts.Need-returns-3 (check-structure-calls t) (check-structure-at t) check-structure.Post
+check-structure-returns-3 t c = (search (arrays-done, needs), (tt, tt))
 
-check-literal-structure-check-object-requires : (t : ℕ) → check-literal-structure-lts.Need-check-object-requires (check-literal-structure-calls t) (check-literal-structure-at t) check-literal-structure.Post
-check-literal-structure-check-object-requires t c κs =
-    let kinds = c .before .before .before in
+check-structure-check-object-requires : (t : ℕ) → check-structure-lts.Need-check-object-requires (check-structure-calls t) (check-structure-at t) check-structure.Post
+check-structure-check-object-requires t c κs =
+    let lent = c .before .before in
+    let kinds = lent .before .before .before in
     let start = kinds .before .before .before .before .before .before .before .before in
-    (search (object-falls, needs), ask-objects (start .pre .1) (kinds .before .kind-of .ensures) (kinds .kind-of2 .ensures) (c .before .before .if1 .left) (c .if4 .taken))
+    (search (object-falls, needs), ask-objects (start .pre .1) (kinds .before .kind-of .ensures) (kinds .kind-of2 .ensures) (lent .before .before .if1 .left) (lent .if4 .taken))
 
-check-literal-structure-returns-4 : (t : ℕ) → check-literal-structure-lts.Need-returns-4 (check-literal-structure-calls t) (check-literal-structure-at t) check-literal-structure.Post
-check-literal-structure-returns-4 t c = search needs
+check-structure-returns-4 : (t : ℕ) → check-structure-lts.Need-returns-4 (check-structure-calls t) (check-structure-at t) check-structure.Post
+check-structure-returns-4 t c = (search needs, (tt, tt))
 
-check-literal-structure-returns-5 : (t : ℕ) → check-literal-structure-lts.Need-returns-5 (check-literal-structure-calls t) (check-literal-structure-at t) check-literal-structure.Post
-check-literal-structure-returns-5 t c = search (kinds-plain, needs)
+check-structure-returns-5 : (t : ℕ) → check-structure-lts.Need-returns-5 (check-structure-calls t) (check-structure-at t) check-structure.Post
+check-structure-returns-5 t c = (search (kinds-plain, needs), (tt, tt))
 
 check-object-compare-keys-requires : (t : ℕ) → check-object-lts.Need-compare-keys-requires (check-object-calls t) (check-object-at t) check-object.Post
 check-object-compare-keys-requires t c κs = search needs
 
 check-object-returns : (t : ℕ) → check-object-lts.Need-returns (check-object-calls t) (check-object-at t) check-object.Post
-check-object-returns t c = search (objects-empty, needs)
+check-object-returns t c = (search (objects-empty, needs), (tt, tt))
 
 check-object-returns-2 : (t : ℕ) → check-object-lts.Need-returns-2 (check-object-calls t) (check-object-at t) check-object.Post
-check-object-returns-2 t c = search (objects-unknown, needs)
+check-object-returns-2 t c = (search (objects-unknown, needs), (tt, tt))
 
 check-object-check-fields-requires : (t : ℕ) → check-object-lts.Need-check-fields-requires (check-object-calls t) (check-object-at t) check-object.Post
-check-object-check-fields-requires t c κs = (search (fields-fall, needs), search (ask-fields, needs))
+check-object-check-fields-requires t c κs =
+    let compared = c .before .before .before .before .before .before .before .before in
+    let start = compared .before .before .before .before .before .before .before .before .before .before in
+    (search (fields-fall, needs), ask-fields (start .pre .1) (compared .compare-keys .ensures .0))
 
 check-object-returns-3 : (t : ℕ) → check-object-lts.Need-returns-3 (check-object-calls t) (check-object-at t) check-object.Post
-check-object-returns-3 t c = search (objects-fields, needs)
+check-object-returns-3 t c =
+    let tests = c .before .before .before .before in
+    let compared = tests .before .before .before .before .before in
+    let start = compared .before .before .before .before .before .before .before .before .before .before in
+    (objects-fields (start .pre .1) (compared .compare-keys .ensures .0) (tests .before .if2 .left) (tests .if3 .taken) (c .check-fields .ensures .0), (tt, tt))
 
 check-object-returns-4 : (t : ℕ) → check-object-lts.Need-returns-4 (check-object-calls t) (check-object-at t) check-object.Post
-check-object-returns-4 t c = search (objects-differ, needs)
+check-object-returns-4 t c = (search (objects-differ, needs), (tt, tt))
 
-pub +check-field+check-fields+check-items+check-literal-structure+check-object-spec :
+pub +check-field+check-fields+check-items+check-object+check-structure-spec :
     {M : Type 1} → statement M
-+check-field+check-fields+check-items+check-literal-structure+check-object-spec =
++check-field+check-fields+check-items+check-object+check-structure-spec =
     close
     μ-check-field
     μ-check-fields
     μ-check-items
-    μ-check-literal-structure
     μ-check-object
+    μ-check-structure
     (λ t. check-field-lts.spec (
       first-of-reads.Asked,
       first-of-reads.Learnt,
@@ -329,8 +341,8 @@ pub +check-field+check-fields+check-items+check-literal-structure+check-object-s
       child-at-reads.Learnt,
       partner-of-reads.Asked,
       partner-of-reads.Learnt,
-      check-literal-structure-below t,
-      check-literal-structure.Post,
+      check-structure-below t,
+      check-structure.Post,
     )
     (check-field-at t)
     check-field.Post
@@ -343,7 +355,7 @@ pub +check-field+check-fields+check-items+check-literal-structure+check-object-s
     (check-field-returns t)
     (check-field-add-child-at t)
     (check-field-child-at-requires-2 t)
-    (check-field-check-literal-structure-requires t)
+    (check-field-check-structure-requires t)
     (check-field-returns-2 t))
     (λ t. check-fields-lts.spec (
       count-of-reads.Asked,
@@ -369,8 +381,8 @@ pub +check-field+check-fields+check-items+check-literal-structure+check-object-s
     (λ t. check-items-lts.spec (
       child-at-reads.Asked,
       child-at-reads.Learnt,
-      check-literal-structure-below t,
-      check-literal-structure.Post,
+      check-structure-below t,
+      check-structure.Post,
     )
     (check-items-at t)
     check-items.Post
@@ -381,14 +393,28 @@ pub +check-field+check-fields+check-items+check-literal-structure+check-object-s
     (check-items-child-at-requires t)
     (check-items-add-child-at-2 t)
     (check-items-child-at-requires-2 t)
-    (check-items-check-literal-structure-requires t)
+    (check-items-check-structure-requires t)
     (check-items-enum-told t)
     (check-items-returns t)
     (check-items-add-i t)
     (check-items-loop-less t)
     (check-items-loop-again t)
     (check-items-returns-2 t))
-    (λ t. check-literal-structure-lts.spec (
+    (λ t. check-object-lts.spec (
+      compare-keys-reads.Asked,
+      compare-keys-reads.Learnt,
+      check-fields-below t,
+      check-fields.Post,
+    )
+    (check-object-at t)
+    check-object.Post
+    (check-object-compare-keys-requires t)
+    (check-object-returns t)
+    (check-object-returns-2 t)
+    (check-object-check-fields-requires t)
+    (check-object-returns-3 t)
+    (check-object-returns-4 t))
+    λ t. check-structure-lts.spec (
       kind-of-reads.Asked,
       kind-of-reads.Learnt,
       count-of-reads.Asked,
@@ -400,31 +426,21 @@ pub +check-field+check-fields+check-items+check-literal-structure+check-object-s
       check-object-below t,
       check-object.Post,
     )
-    (check-literal-structure-at t)
-    check-literal-structure.Post
-    (check-literal-structure-kind-of-requires t)
-    (check-literal-structure-kind-of-requires-2 t)
-    (check-literal-structure-returns t)
-    (check-literal-structure-count-of-requires t)
-    (check-literal-structure-count-of-requires-2 t)
-    (check-literal-structure-returns-2 t)
-    (check-literal-structure-first-of-requires t)
-    (check-literal-structure-cast-at t)
-    (check-literal-structure-first-of-requires-2 t)
-    (check-literal-structure-cast-place t)
-    (check-literal-structure-cast-check-items t)
-    (check-literal-structure-check-items-requires t)
-    (check-literal-structure-returns-3 t)
-    (check-literal-structure-check-object-requires t)
-    (check-literal-structure-returns-4 t)
-    (check-literal-structure-returns-5 t))
-    λ t. check-object-lts.spec
-    (compare-keys-reads.Asked, compare-keys-reads.Learnt, check-fields-below t, check-fields.Post)
-    (check-object-at t)
-    check-object.Post
-    (check-object-compare-keys-requires t)
-    (check-object-returns t)
-    (check-object-returns-2 t)
-    (check-object-check-fields-requires t)
-    (check-object-returns-3 t)
-    (check-object-returns-4 t)
+    (check-structure-at t)
+    check-structure.Post
+    (check-structure-kind-of-requires t)
+    (check-structure-kind-of-requires-2 t)
+    (check-structure-returns t)
+    (check-structure-count-of-requires t)
+    (check-structure-count-of-requires-2 t)
+    (check-structure-returns-2 t)
+    (check-structure-first-of-requires t)
+    (check-structure-cast-at t)
+    (check-structure-first-of-requires-2 t)
+    (check-structure-cast-place t)
+    (check-structure-cast-check-items t)
+    (check-structure-check-items-requires t)
+    (check-structure-returns-3 t)
+    (check-structure-check-object-requires t)
+    (check-structure-returns-4 t)
+    (check-structure-returns-5 t)
