@@ -62,11 +62,12 @@ RULES: dict[str, tuple[Operation, Callable[[Side], str]]] = {
     "equals-literal-right": (Operation.EQUALS, lambda side: f"{side(name)} = {side(literal)}"),
     "equals-literal-left": (Operation.EQUALS, lambda side: f"{side(literal)} = {side(name)}"),
     "equals-pairs": (Operation.EQUALS, lambda side: f"{side(left_of_pair)} = {side(right_of_pair)}"),
+    "repeated-name": (Operation.COLON_EQUALS, lambda side: f"[x, x] := [{side(literal)}, {side(literal)}]"),
     "some-in": (Operation.SOME_IN, lambda side: f"some k, {side(name)} in f(v)"),
     "some-in-literal": (Operation.SOME_IN, lambda side: f"some k, {side(name)} in [{side(literal)}]"),
 }
 # The rules whose literal stands one level deeper.
-DEEPER = {"some-in-literal"}
+DEEPER = {"repeated-name", "some-in-literal"}
 
 
 def shapes(around: int) -> Iterator[tuple[str, Shape]]:
