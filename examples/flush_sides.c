@@ -65,6 +65,16 @@ static int plan_rule(void) {
     return 0;
 }
 
+/* With the two panels as its right side, the rule is an `=`; the left side binds. */
+static int plan_equals(void) {
+    uint32_t told = teluddru_plan(TABLES, TELUDDRU_EQUALS, TELUDDRU_NO_SCHEDULER, TELUDDRU_RESPECT_PARENT, RULE, DIFFERENT, 0, LENT(plan), LENT(answer));
+    print_node(RULE);
+    printf(" = ");
+    print_node(DIFFERENT);
+    printf(": %s\n", answer[1] == TELUDDRU_FORM_BIND_LEFT ? "bind left" : "another form");
+    return told != TELUDDRU_PLANNED;
+}
+
 static int report_names(void) {
     uint32_t told = teluddru_names_report(TABLES, TELUDDRU_NO_SCHEDULER, TELUDDRU_RESPECT_PARENT, RULE, LENT(values), LENT(answer));
     printf("w is %s\n", values[W - 1] == TELUDDRU_NAME_BOUND ? "bound" : "not bound");
@@ -93,5 +103,5 @@ static int ask_unlisted(void) {
 }
 
 int main(void) {
-    return plan_rule() || report_names() || run_rule(DIFFERENT) || run_rule(EQUAL) || ask_unlisted();
+    return plan_rule() || plan_equals() || report_names() || run_rule(DIFFERENT) || run_rule(EQUAL) || ask_unlisted();
 }

@@ -4,7 +4,7 @@ use mathlib.Core.Path.{_≡_, refl, ap, sym, _∙_, subst}
 use mathlib.Core.Bool.{Bool, true, false, not, _&&_}
 use mathlib.Core.List.{List}
 use lib.ListN.{length, replicate}
-use Rattle.base.specs.Refusal.{Line, refusalLine, layoutBroken}
+use Rattle.base.specs.Refusal.{refusalLine, layoutBroken}
 use Rattle.scope.specs.declared.Scope.{Scope}
 use Rattle.scope.specs.declared.ScopingMode.{ScopingMode}
 use Rattle.scope.specs.Scope.{known, marksOk}
@@ -17,10 +17,10 @@ use Rattle.planner.specs.Operations.{answered, written, Answered}
 use Rattle.planner.specs.Short.{ShortLine}
 use Rattle.run.specs.declared.RunAnswer.{RunAnswer}
 use Rattle.run.specs.Answer.{resultOf}
-use Rattle.run.specs.Operations.{RunOutcome, runOutcome, runAnswer, planAfter, plannedName, valuesAfter, Ran}
+use Rattle.run.specs.Operations.{runOutcome, runAnswer, planAfter, plannedName, valuesAfter, Ran}
 use Rattle.report.specs.declared.ReportAnswer.{ReportAnswer}
 use Rattle.report.specs.Answer.{reportLine}
-use Rattle.report.specs.Report.{reportOutcome, reportAnswer, reportList, ReportedBy}
+use Rattle.report.specs.Report.{ReportedBy}
 use Rattle.operation.specs.declared.Operation.{Operation}
 use Rattle.operation.specs.declared.numbers.OperationNumbers.{OperationNumbers}
 use Rattle.operation.specs.declared.row.Row.{Row}
@@ -28,7 +28,7 @@ use Rattle.operation.specs.Numbers.{areListed, scopingOf, operationOf}
 use Rattle.operation.specs.Operation.{operationOutcome}
 use Rattle.operation.specs.Rows.{rowLine}
 use Rattle.c_calls.specs.Given.{scopeOf, patternNumbers, wellGiven}
-use Rattle.c_calls.specs.Calls.{Told, planCall, PlanCalled, ranLine, runCall, namesSet, RunCalled, reportCall, listAfter, ReportCalled}
+use Rattle.c_calls.specs.Calls.{Told, planCall, PlanCalled, ranLine, runCall, namesSet, RunCalled, ReportCalled}
 use Rattle.c_calls.proofs.Shortness.{plan-short, run-short, report-short}
 
 -- what is told fits in the words

@@ -1,13 +1,13 @@
 -- Every number that a call tells fits in its word.
-use Prim.Native.Nat.{ℕ, _≤_, _<_}
-use mathlib.Core.Path.{_≡_, refl, subst, ap}
+use Prim.Native.Nat.{ℕ, _≤_}
+use mathlib.Core.Path.{_≡_, refl}
 use mathlib.Core.Bool.{Bool, true, false, cond, _&&_}
 use mathlib.Core.List.{List, [], _∷_}
 use native.Mathlib.Omega.{arith}
 use lib.Dec.{leb}
 use lib.ListN.{length}
 use Rattle.base.specs.Refusal as Refusal
-use Rattle.base.specs.Refusal.{Refusal, Tested, Line, line, refusalLine, rootOutside, listTooShort, patternNotSimple, notAValue, nameWithoutValue, planTooLarge, requireOr, testedOr}
+use Rattle.base.specs.Refusal.{Refusal, Tested, line, refusalLine, rootOutside, listTooShort, patternNotSimple, notAValue, nameWithoutValue, planTooLarge, requireOr, testedOr}
 use Rattle.scope.specs.declared.Scope.{Scope}
 use Rattle.scope.specs.declared.ScopingMode.{ScopingMode}
 use Rattle.scope.specs.Scope.{known}
@@ -17,10 +17,9 @@ use Rattle.table.specs.Check.{checked, checkedOr, allNodes}
 use Rattle.table.specs.code.Sound.{WellFormed}
 use Rattle.table.proofs.trees.Facts.{sound-table}
 use Rattle.table.proofs.tests.Bools.{and-true}
-use Rattle.planner.specs.Layout.{Entry, entries}
 use Rattle.planner.specs.Operations as Plan
 use Rattle.planner.specs.Operations.{Outcome, planned, fits, answered}
-use Rattle.planner.specs.Short.{Short, ShortLine, ShortRefusal, ShortOutcome}
+use Rattle.planner.specs.Short.{ShortLine, ShortRefusal, ShortOutcome}
 use Rattle.planner.specs.Simple.{simple}
 use Rattle.planner.proofs.laws.ShortOutcomes.{short, refusal-short, planned-short, checked-short, root-small, entries-few}
 use Rattle.operation.specs.declared.Operation.{Operation}
@@ -28,7 +27,7 @@ use Rattle.operation.specs.Operation.{operationOutcome}
 use Rattle.operation.proofs.ShortOperation.{operation-short}
 use Rattle.value.specs.Value.{isValue}
 use Rattle.matching.specs.Matching as Matching
-use Rattle.run.specs.Answer.{RunResult, turnedBack, aMatch, noMatch}
+use Rattle.run.specs.Answer.{turnedBack}
 use Rattle.run.specs.Operations as Run
 use Rattle.run.specs.Operations.{RunOutcome, carriedOut, carriedResult, valuesListed, knownListed, runOutcome, runAnswer}
 use Rattle.report.specs.Report as Report
