@@ -11,17 +11,18 @@ use lib.Dec.{leb}
 use lib.ListN.{length, getD, length-map}
 use mir.Syntax.{w64}
 use mir.Val.{Fits}
-use denote.Enum.Declared.{tagOf}
 use Rattle.literal.specs.Literal.{Literal}
+use Rattle.literal.specs.declared.LiteralRef.{LiteralRef}
 use Rattle.literal.specs.Order.{less, same, more, keyOrder}
 use Rattle.literal.proofs.Orders.{key-order}
 use Rattle.table.specs.Names.{isSame}
 use Rattle.table.specs.declared.Key.{Key}
+use Rattle.table.specs.declared.Key.the-variants as Key
 use Rattle.table.specs.declared.Key.the-variants.{Computed}
-use Rattle.table.proofs.Key.{the-type as the-key}
+use Rattle.table.proofs.tests.Bytes.{node-refers}
 use Rattle.table.specs.Tables.{Tables, kindOf, firstOf, countOf, width, childAt}
 use Rattle.table.specs.Expr.{Expr}
-use Rattle.table.specs.Decode.{expr, fields, literalNode, literalAt, refOf}
+use Rattle.table.specs.Decode.{expr, fields, literalNode, literalAt, referred, refOf}
 use Rattle.table.specs.code.Sound.{Node, WellFormed}
 use Rattle.table.proofs.trees.Trees.{width-object, child-node}
 use Rattle.planner.specs.Layout.{Slot, FieldOrder, noFields, addField}
@@ -29,7 +30,7 @@ use Rattle.planner.specs.code.Passes.{keyNode, valueNode, fieldKey, orderFrom, 
 use Rattle.planner.specs.code.Post.{OrderAsks, OrderedBy}
 use Rattle.planner.specs.code.Ordering.{KeyBetween, FindAsks, FoundBy}
 use Rattle.planner.proofs.fields.FieldOrder.{mapSlot, mapOrder, add-map, blank, Ordered, place-held, to-slot, same-before, literals-first, ordered-first}
-use Rattle.planner.proofs.fields.FieldLoops.{ref-above}
+use Rattle.planner.proofs.fields.FieldLoops.{ref-above, never-computed}
 use Rattle.planner.proofs.fields.Objects.{key-literal}
 use Rattle.checks.specs.Structure.{slotText, held}
 use Rattle.planner.specs.Held.{valueOrder, heldUnder}
@@ -159,17 +160,21 @@ module _ {T : Tables} {pattern : ℕ} {order : List ℕ} {m key : ℕ} (a : Part
         let n : literalAt T key ≡ Option.none = rw r in
         record { absent = λ z. ap (λ (o : Option Literal). held o (patternsOf T pattern .literals)) n; there = λ d. absurd (d refl) }
 
-    own : tagOf the-key ref ≡ 0 → (l : Literal) × (literalAt T key ≡ Option.some l)
-    own tag = go (leb (kindOf (T .nodes) key) 5) refl
-      where
-        go : (b : Bool) → leb (kindOf (T .nodes) key) 5 ≡ b → (l : Literal) × (literalAt T key ≡ Option.some l)
-        go true h = w .literals key (a .node) (leb-true _ _ h)
-        go false h = let z = ap (tagOf the-key) (is-ref ∙ ref-above (T .nodes) key (leb-false _ _ h)) in absurd (omega arith)
+    module _ {sought : LiteralRef} (is-sought : ref ≡ Key.Literal sought) where
+      refers : referred T sought ≡ literalAt T key
+      refers = node-refers (T .nodes) (T .numbers) (T .strings) (T .text) key is-ref is-sought
 
-    module _ (tag : tagOf the-key ref ≡ 0) {first : ℕ} (is-first : first ≡ firstOf (T .nodes) pattern) where
-      pub partner-find : FindAsks T first order m key
+      own : (l : Literal) × (literalAt T key ≡ Option.some l)
+      own = go (leb (kindOf (T .nodes) key) 5) refl
+        where
+          go : (b : Bool) → leb (kindOf (T .nodes) key) 5 ≡ b → (l : Literal) × (literalAt T key ≡ Option.some l)
+          go true h = w .literals key (a .node) (leb-true _ _ h)
+          go false h = absurd (never-computed (sym is-sought ∙ (is-ref ∙ ref-above (T .nodes) key (leb-false _ _ h))))
+
+    module _ {sought : LiteralRef} (is-sought : ref ≡ Key.Literal sought) {first : ℕ} (is-first : first ≡ firstOf (T .nodes) pattern) where
+      pub partner-find : FindAsks T first order m sought
       partner-find =
-          let l = own tag in
+          let l = own is-sought in
           let f = object-few T w pattern (a .asks .objects .pair .first) (a .asks .objects .pattern-object) in
           record {
             fields = countOf (T .nodes) pattern;
@@ -178,15 +183,15 @@ module _ {T : Tables} {pattern : ℕ} {order : List ℕ} {m key : ℕ} (a : Part
             few = few-literals;
             small = omega arith;
             own = l .0;
-            literal = l .1;
+            literal = refers is-sought ∙ l .1;
           }
 
-      module _ {place : ℕ} {equal : Bool} (found : FoundBy (fieldKey T first) (literalAt T key) order m place equal) where
+      module _ {place : ℕ} {equal : Bool} (found : FoundBy (fieldKey T first) (referred T sought) order m place equal) where
         pub partner-absent : equal ≡ false → PartnerIs T (held (literalAt T key) (patternsOf T pattern .literals)) 0
         unfolding first₀
         partner-absent e =
-            let l = own tag in
-            let b = rw is-first at (found .new e) in
+            let l = own is-sought in
+            let b = rw (refers is-sought, is-first) at (found .new e) in
             let k = in-order .counted in
             let none : heldUnder (l .0) (patternsOf T pattern .literals) ≡ Option.none =
             ap (heldUnder (l .0)) slots ∙ held-absent (patternAt T first₀) (l .0) (orderOfNode T pattern .literals) (λ q lt. go (l .0) (l .1) b q (omega arith) (leb place q) refl) in
@@ -227,8 +232,8 @@ module _ {T : Tables} {pattern : ℕ} {order : List ℕ} {m key : ℕ} (a : Part
             pub partner-found : {r : ℕ} → r ≡ childAt (T .children) (first + j * 2 + 1) → PartnerIs T (held (literalAt T key) (patternsOf T pattern .literals)) r
             unfolding first₀
             partner-found {r} is-r =
-                let l = own tag in
-                let p = rw is-first at (found .old e) in
+                let l = own is-sought in
+                let p = rw (refers is-sought, is-first) at (found .old e) in
                 let k = in-order .counted in
                 let lt : place < length (orderOfNode T pattern .literals) = omega (arith, p .0) in
                 let here : keyOrder (l .0) (getD (orderOfNode T pattern .literals) place blank .at) ≡ same = to-slot in-order (l .1) same place (p .0) (p .1) in

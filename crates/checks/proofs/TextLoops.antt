@@ -12,14 +12,16 @@ use lib.ListN.{length, getD, take, drop}
 use lib.Seq.{drop-drop}
 use mir.Syntax.{w64}
 use mir.Val.{Fits}
-use denote.Enum.Declared.{tagOf}
 use Rattle.literal.specs.Literal.{Literal}
 use Rattle.literal.specs.declared.Comparison.{Comparison}
 use Rattle.literal.specs.declared.Comparison.the-variants.{Less, Equal, Greater, NoLiteral}
 use Rattle.literal.specs.Text.{keyText, textsCompared}
+use Rattle.literal.specs.Reading.{literalOf}
+use Rattle.literal.specs.declared.LiteralRef.{LiteralRef}
 use Rattle.table.specs.declared.Key.{Key}
+use Rattle.table.specs.declared.Key.the-variants as Key
 use Rattle.table.specs.declared.Key.the-variants.{Computed}
-use Rattle.table.proofs.Key.{the-type as the-key}
+use Rattle.table.proofs.tests.Bytes.{node-refers}
 use Rattle.table.specs.Tables.{Tables, tables, kindOf, childAt}
 use Rattle.table.specs.Decode.{literalNode, refOf}
 use Rattle.table.specs.code.Sound.{Node, WellFormed}
@@ -28,7 +30,7 @@ use Rattle.base.specs.code.Insertion.{moved}
 use Rattle.planner.specs.code.Post.{OrderAsks}
 use Rattle.base.proofs.Moving.{moved-take, moved-drop}
 use Rattle.base.proofs.Search.{between-start, between-up, between-down, between-ends}
-use Rattle.planner.proofs.fields.FieldLoops.{ref-above}
+use Rattle.planner.proofs.fields.FieldLoops.{ref-above, never-computed}
 use Rattle.checks.specs.Structure.{sortTexts}
 use Rattle.checks.specs.code.Texts.{isGreater, isEqual, literalsOf, KeysOf, textAt, TextAsks, TextBetween, TextPlace, AddKeyAsks, insertOr, KeyAdded, textsFrom, SortedKeys, orderedKey, OrderedAsks, agreeFrom, textsAgree, BothAsk, TextsCompared}
 use Rattle.checks.proofs.TextOrder.{after, sort-ascending, after-before, after-behind, blankText, keys-length, compared-at, put-key, texts-agree}
@@ -49,15 +51,15 @@ module _ (x y : Option Literal) {way : Comparison} (is : way ≡ textsCompared x
   after-none e = sym (ap isGreater (sym is ∙ e))
 
 -- the search for a text's place
-pub record Seeking (lit : ℕ → Option Literal) (keys : List ℕ) (size key low high : ℕ) : Type 0 where
+pub record Seeking (lit : ℕ → Option Literal) (keys : List ℕ) (size : ℕ) (key : Option Literal) (low high : ℕ) : Type 0 where
   pub asks : TextAsks lit keys size key
   pub few : size ≤ 256
   pub between : TextBetween lit keys key size low high
 
-pub seeking-start : {lit : ℕ → Option Literal} {keys : List ℕ} {size key : ℕ} → TextAsks lit keys size key → Seeking lit keys size key 0 size
+pub seeking-start : {lit : ℕ → Option Literal} {keys : List ℕ} {size : ℕ} {key : Option Literal} → TextAsks lit keys size key → Seeking lit keys size key 0 size
 seeking-start {size = size} a = record { asks = a; few = a .few; between = between-start _ _ size }
 
-module _ {lit : ℕ → Option Literal} {keys : List ℕ} {size key low high : ℕ} (s : Seeking lit keys size key low high) where
+module _ {lit : ℕ → Option Literal} {keys : List ℕ} {size : ℕ} {key : Option Literal} {low high : ℕ} (s : Seeking lit keys size key low high) where
   texts : List (List ℕ)
   texts = sortTexts (s .asks .texts)
 
@@ -113,31 +115,37 @@ module _ (nodes numbers strings text : List ℕ) {node : ℕ} {keys : List ℕ} 
           behind = refl;
         }
 
-    found : tagOf the-key key ≡ 0 → (l : Literal) × (literalNode nodes numbers strings text node ≡ Option.some l)
-    found tag = go (leb (kindOf nodes node) 5) refl
-      where
-        go : (b : Bool) → leb (kindOf nodes node) 5 ≡ b → (l : Literal) × (literalNode nodes numbers strings text node ≡ Option.some l)
-        go true h = a .sound (leb-true _ _ h)
-        go false h = let z = ap (tagOf the-key) (is-key ∙ ref-above nodes node (leb-false _ _ h)) in absurd (omega arith)
+    -- the literal of the node
+    module _ {l : LiteralRef} (is-l : key ≡ Key.Literal l) where
+      refers : literalOf numbers strings text l ≡ literalNode nodes numbers strings text node
+      refers = node-refers nodes numbers strings text node is-key is-l
 
-    pub ask-text : tagOf the-key key ≡ 0 → TextAsks (literalNode nodes numbers strings text) keys size node
-    ask-text tag =
-        let l = found tag in
-        let f = a .few in
-        record { texts = a .texts; sorted = a .sorted; few = omega arith; own = l .0; literal = l .1 }
+      found : (x : Literal) × (literalNode nodes numbers strings text node ≡ Option.some x)
+      found = go (leb (kindOf nodes node) 5) refl
+        where
+          go : (b : Bool) → leb (kindOf nodes node) 5 ≡ b → (x : Literal) × (literalNode nodes numbers strings text node ≡ Option.some x)
+          go true h = a .sound (leb-true _ _ h)
+          go false h = absurd (never-computed (sym is-l ∙ (is-key ∙ ref-above nodes node (leb-false _ _ h))))
 
-    module _ (tag : tagOf the-key key ≡ 0) {place : ℕ} (p : TextPlace (literalNode nodes numbers strings text) keys size node place) where
-      pub added-key : length keys ≡ 256 → {later : List ℕ} → later ≡ moved keys place size node → KeyAdded (literalNode nodes numbers strings text) node keys size later (size + 1)
-      added-key long {later} is =
-          let l = found tag in
+      pub ask-text : TextAsks (literalNode nodes numbers strings text) keys size (literalOf numbers strings text l)
+      ask-text =
+          let x = found in
           let f = a .few in
+          record { texts = a .texts; sorted = a .sorted; few = omega arith; own = x .0; literal = refers ∙ x .1 }
+
+      pub added-key : {place : ℕ} → TextPlace (literalNode nodes numbers strings text) keys size (literalOf numbers strings text l) place
+          → length keys ≡ 256 → {later : List ℕ} → later ≡ moved keys place size node → KeyAdded (literalNode nodes numbers strings text) node keys size later (size + 1)
+      added-key {place} found-there long {later} is =
+          let x = found in
+          let f = a .few in
+          let p = rw refers at (found-there .place) in
           record {
-            added = λ ts k. subst (λ (o : Option Literal). KeysOf (literalNode nodes numbers strings text) later (size + 1) (insertOr o ts)) (sym (l .1))
-                (put-key k (l .1) place (p .place .inside) (p .place .before) (λ lt. p .place .behind place (omega arith) lt) later
-                (ap (take (size + 1)) is ∙ moved-take keys place size node (p .place .inside) (omega arith)));
+            added = λ ts k. subst (λ (o : Option Literal). KeysOf (literalNode nodes numbers strings text) later (size + 1) (insertOr o ts)) (sym (x .1))
+                (put-key k (x .1) place (p .inside) (p .before) (λ lt. p .behind place (omega arith) lt) later
+                (ap (take (size + 1)) is ∙ moved-take keys place size node (p .inside) (omega arith)));
             more = omega arith;
             few = omega arith;
-            behind = ap (drop (size + 1)) is ∙ moved-drop keys place size node (p .place .inside) (omega arith);
+            behind = ap (drop (size + 1)) is ∙ moved-drop keys place size node (p .inside) (omega arith);
           }
 
 -- sorting from the last key to the first
@@ -300,7 +308,7 @@ agreeing-start lit a m b n e few =
     record { inside = omega arith; few = few; same = simp (z, eq-eqb m n e) }
 
 module _ {lit : ℕ → Option Literal} {a : List ℕ} {m : ℕ} {b : List ℕ} {n q : ℕ} (s : Agreeing lit a m b n q) where
-  module _ (lt : q < m) {way : Comparison} (is-way : way ≡ textAt lit (getD a q 0) b q) where
+  module _ (lt : q < m) {way : Comparison} (is-way : way ≡ textAt lit (lit (getD a q 0)) b q) where
     step : isEqual way && agreeFrom lit a b (q + 1) (m - (q + 1)) ≡ textsAgree lit a m b n
     unfolding agreeFrom
     step =

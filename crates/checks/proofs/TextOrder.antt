@@ -156,14 +156,14 @@ module _ {lit : ℕ → Option Literal} {keys : List ℕ} {size : ℕ} {ts : Lis
   text-at : (q : ℕ) → q < size → getD ts q blankText ≡ keyText (getD (k .own) q null)
   text-at q lt = sym (ap (λ (r : List (List ℕ)). getD r q blankText) (k .texts)) ∙ List·getD-map keyText (k .own) q null
 
-  pub compared-at : {key : ℕ} {l : Literal} → lit key ≡ some l → (q : ℕ) → q < size → textAt lit key keys q ≡ told (bytesOrder (keyText l) (getD ts q blankText))
+  pub compared-at : {key : Option Literal} {l : Literal} → key ≡ some l → (q : ℕ) → q < size → textAt lit key keys q ≡ told (bytesOrder (keyText l) (getD ts q blankText))
   unfolding textsCompared textCompared
   compared-at own q lt = rw (own, own-at q lt, text-at q lt)
 
 -- one key node put in at a place
 module _ {lit : ℕ → Option Literal} {keys : List ℕ} {size : ℕ} {ts : List (List ℕ)} (k : KeysOf lit keys size ts) {key : ℕ} {l : Literal} (own : lit key ≡ some l)
     (p : ℕ) (le : p ≤ size) where
-  pub put-key : ((q : ℕ) → q < p → isGreater (textAt lit key keys q) ≡ true) → (p < size → isGreater (textAt lit key keys p) ≡ false)
+  pub put-key : ((q : ℕ) → q < p → isGreater (textAt lit (lit key) keys q) ≡ true) → (p < size → isGreater (textAt lit (lit key) keys p) ≡ false)
       → (later : List ℕ) → take (size + 1) later ≡ take p keys ++ (key ∷ take (size - p) (drop p keys))
       → KeysOf lit later (size + 1) (insertText (keyText l) ts)
   put-key front here later moved = record {
@@ -220,7 +220,7 @@ same-lengths (t ∷ ts) (u ∷ us) n = go (sameBytes t u) (same-lengths ts us (�
     go false h = refl
 
 module _ {lit : ℕ → Option Literal} {a b : List ℕ} {m n : ℕ} {ts us : List (List ℕ)} (ka : KeysOf lit a m ts) (kb : KeysOf lit b n us) where
-  agree-at : (q : ℕ) → q < m → q < n → isEqual (textAt lit (getD a q 0) b q) ≡ sameBytes (getD ts q blankText) (getD us q blankText)
+  agree-at : (q : ℕ) → q < m → q < n → isEqual (textAt lit (lit (getD a q 0)) b q) ≡ sameBytes (getD ts q blankText) (getD us q blankText)
   unfolding sameBytes
   agree-at q lt lt′ =
       ap isEqual (compared-at kb (own-at ka q lt) q lt′)

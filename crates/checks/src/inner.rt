@@ -32,7 +32,7 @@ fn partner_of(
     requires { ⌜ PartnerAsks (given nodes children numbers names strings text) pattern (now order) literals key ⌝ }
     ensures { λ r. let T = lent nodes children numbers names strings text in ⌜ PartnerIs T (held (literalAt T key) (patternsOf T pattern .literals)) r ⌝ }
 {
-    let Key::Literal(_) = extract_literal_key(nodes, key) else {
+    let Key::Literal(literal) = extract_literal_key(nodes, key) else {
         return 0;
     };
     let first = first_of(nodes, pattern) as usize;
@@ -46,7 +46,7 @@ fn partner_of(
         first,
         order,
         literals,
-        key,
+        literal,
     );
     if found.equal {
         return child_at(children, first + field_at(order, found.place) * 2 + 1);

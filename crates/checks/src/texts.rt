@@ -1,8 +1,9 @@
 // The literal keys of two objects, by their texts.
 ghost use Rattle.base.specs.Lent.{old, new};
-ghost use Rattle.table.specs.Lent.{given, lent};
+ghost use Rattle.table.specs.Lent.{given, lent, lentLiteral, lentReferred};
 ghost use mathlib.Core.Path.{_≡_};
 ghost use Prim.Native.Nat.{_≤_};
+ghost use Rattle.literal.specs.Reading.{literalOf};
 ghost use Rattle.literal.specs.Text.{textsCompared};
 ghost use Rattle.table.specs.Decode.{literalNode};
 ghost use Rattle.planner.specs.code.Passes.{fieldKey};
@@ -11,10 +12,12 @@ ghost use Rattle.checks.specs.code.Texts.{isGreater, TextAsks, TextPlace
 ghost use Rattle.checks.specs.code.Post.{WorkingSpaces, ObjectsAsk, KeysComparedBy};
 use base::words::insert_at;
 use literal::Comparison;
+use literal::LiteralRef;
 use planner::fields::field_at;
 use planner::inner::fields::order_fields;
 use table::Key;
 use table::reading::child_at;
+use table::reading::compare_key_text_to_node;
 use table::reading::compare_key_texts;
 use table::reading::count_of;
 use table::reading::extract_literal_key;
@@ -27,11 +30,18 @@ pub struct Keys {
     pub same: bool,
 }
 
-// Does the text of one key come after that of another?
-fn comes_after(nodes: &[u32], numbers: &[u64], strings: &[u8], text: &[u8], a: u32, b: u32) -> bool
-    ensures { λ r. let literal = literalNode (old nodes) (old numbers) (old strings) (old text) in ⌜ r ≡ isGreater (textsCompared (literal a) (literal b)) ⌝ }
+// Does the text of a literal come after that of a node's?
+fn comes_after(
+    nodes: &[u32],
+    numbers: &[u64],
+    strings: &[u8],
+    text: &[u8],
+    a: LiteralRef,
+    b: u32,
+) -> bool
+    ensures { λ r. ⌜ r ≡ isGreater (textsCompared (lentReferred numbers strings text a) (lentLiteral nodes numbers strings text b)) ⌝ }
 {
-    match compare_key_texts(nodes, numbers, strings, text, a, b) {
+    match compare_key_text_to_node(nodes, numbers, strings, text, a, b) {
         Comparison::Greater => true,
         Comparison::Less => false,
         Comparison::Equal => false,
@@ -39,7 +49,7 @@ fn comes_after(nodes: &[u32], numbers: &[u64], strings: &[u8], text: &[u8], a: u
     }
 }
 
-// The place of a key among `size` others in the order of texts, by binary search.
+// The place of a literal among `size` keys in the order of texts, by binary search.
 fn find_text(
     nodes: &[u32],
     numbers: &[u64],
@@ -47,10 +57,10 @@ fn find_text(
     text: &[u8],
     keys: &[u32; 256],
     size: usize,
-    key: u32,
+    key: LiteralRef,
 ) -> usize
-    requires { ⌜ TextAsks (literalNode (now nodes) (now numbers) (now strings) (now text)) (now keys) size key ⌝ }
-    ensures { λ r. ⌜ TextPlace (literalNode (old nodes) (old numbers) (old strings) (old text)) (old keys) size key r ⌝ }
+    requires { ⌜ TextAsks (literalNode (now nodes) (now numbers) (now strings) (now text)) (now keys) size (literalOf (now numbers) (now strings) (now text) key) ⌝ }
+    ensures { λ r. ⌜ TextPlace (lentLiteral nodes numbers strings text) (old keys) size (lentReferred numbers strings text key) r ⌝ }
 {
     let mut low: usize = 0;
     let mut high = size;
@@ -78,10 +88,10 @@ fn add_key(
     requires { ⌜ AddKeyAsks (now nodes) (literalNode (now nodes) (now numbers) (now strings) (now text)) key (now keys) size ⌝ }
     ensures { λ r. ⌜ KeyAdded (literalNode (old nodes) (old numbers) (old strings) (old text)) key (old keys) size (new keys) r ⌝ }
 {
-    let Key::Literal(_) = extract_literal_key(nodes, key) else {
+    let Key::Literal(literal) = extract_literal_key(nodes, key) else {
         return size;
     };
-    let place = find_text(nodes, numbers, strings, text, keys, size, key);
+    let place = find_text(nodes, numbers, strings, text, keys, size, literal);
     insert_at(keys, place, size, key);
     size + 1
 }

@@ -7,4 +7,3 @@ pub mod Chunks
 pub mod Texts
 pub mod Answers
 mod TextOrder
-mod Ranges

@@ -26,7 +26,7 @@ fn plain_key(rank: u8) -> Key
     }
 }
 
-pub(crate) fn has_range(length: usize, start: usize, count: usize) -> bool
+fn has_range(length: usize, start: usize, count: usize) -> bool
     ensures { λ r. ⌜ r ≡ leb (start + count) length ⌝ }
 {
     if start <= length {

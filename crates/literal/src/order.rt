@@ -1,7 +1,6 @@
 // The order of keys.
 use super::Comparison;
 use super::LiteralRef;
-use super::key::has_range;
 use super::key::key_of;
 use super::key::part;
 ghost use Rattle.base.specs.Lent.{old};
@@ -9,7 +8,7 @@ ghost use mathlib.Core.Path.{_≡_};
 ghost use Prim.Native.Nat.{_+_, _^_, _<_, _≤_, min};
 ghost use lib.ListN.{length};
 ghost use Rattle.literal.specs.Order.{natOrder, numberOrder, bytesOrder, told, compared};
-ghost use Rattle.literal.specs.Reading.{literalOf, bytesOf, stringAt};
+ghost use Rattle.literal.specs.Reading.{literalOf, bytesOf};
 ghost use Rattle.literal.specs.code.Chunks.{Prefix, sameFrom, Said};
 
 pub(crate) fn compare_sizes(a: u64, b: u64) -> Comparison
@@ -202,23 +201,4 @@ pub fn compare(
         return compare_strings(strings, text, a, b);
     }
     Comparison::Equal
-}
-
-// Two strings of one store, by their ranges.
-pub fn compare_ranges(
-    bytes: &[u8],
-    a_start: usize,
-    a_count: usize,
-    b_start: usize,
-    b_count: usize,
-) -> Comparison
-    ensures { λ r. ⌜ r ≡ compared (stringAt (old bytes) «a_start» «a_count») (stringAt (old bytes) «b_start» «b_count») ⌝ }
-{
-    if !has_range(bytes.len(), a_start, a_count) {
-        return Comparison::NoLiteral;
-    }
-    if !has_range(bytes.len(), b_start, b_count) {
-        return Comparison::NoLiteral;
-    }
-    compare_bytes(part(bytes, a_start, a_count), part(bytes, b_start, b_count))
 }

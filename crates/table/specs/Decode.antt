@@ -6,7 +6,8 @@ use mathlib.Core.Option.{Option}
 use mathlib.Core.Option as Option
 use lib.Dec.{eqb}
 use Rattle.literal.specs.Literal.{Literal}
-use Rattle.literal.specs.Reading.{literalOf, stringAt}
+use Rattle.literal.specs.Reading.{literalOf}
+use Rattle.literal.specs.declared.LiteralRef.{LiteralRef}
 use Rattle.literal.specs.declared.LiteralRef.the-variants.{Null, False, True, Number, String, RawString}
 use Rattle.table.specs.declared.Key.{Key}
 use Rattle.table.specs.declared.Key.the-variants as Key
@@ -35,12 +36,12 @@ literalIn numbers strings text (Key.Literal l) = literalOf numbers strings text 
 unfoldable pub literalNode : List ℕ → List ℕ → List ℕ → List ℕ → ℕ → Option Literal
 literalNode nodes numbers strings text n = literalIn numbers strings text (refOf nodes n)
 
--- the string of a node of kind 1
-abbrev pub stringOf : List ℕ → List ℕ → ℕ → Option Literal
-stringOf nodes strings n = stringAt strings (firstOf nodes n) (countOf nodes n)
-
 abbrev pub literalAt : Tables → ℕ → Option Literal
 literalAt T n = literalNode (T .nodes) (T .numbers) (T .strings) (T .text) n
+
+-- the literal of a reference
+abbrev pub referred : Tables → LiteralRef → Option Literal
+referred T l = literalOf (T .numbers) (T .strings) (T .text) l
 
 unfoldable pub items : (ℕ → Expr) → List ℕ → ℕ → ℕ → Exprs
 items g children at zero = none

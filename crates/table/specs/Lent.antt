@@ -3,6 +3,8 @@ use Prim.Native.Nat.{ℕ}
 use mathlib.Core.Option.{Option}
 use Rattle.base.specs.Lent.{Slice, Slices}
 use Rattle.literal.specs.Literal.{Literal}
+use Rattle.literal.specs.Reading.{literalOf}
+use Rattle.literal.specs.declared.LiteralRef.{LiteralRef}
 use Rattle.table.specs.Tables.{Tables, tables}
 use Rattle.table.specs.Decode.{literalNode}
 
@@ -16,3 +18,7 @@ lent nodes children numbers names strings text =
 -- the literal of a node, if it is one
 abbrev pub lentLiteral : Slices → Slices → Slices → Slices → ℕ → Option Literal
 lentLiteral nodes numbers strings text n = literalNode (nodes .entry .now) (numbers .entry .now) (strings .entry .now) (text .entry .now) n
+
+-- the literal of a reference
+abbrev pub lentReferred : Slices → Slices → Slices → LiteralRef → Option Literal
+lentReferred numbers strings text l = literalOf (numbers .entry .now) (strings .entry .now) (text .entry .now) l

@@ -1,15 +1,13 @@
 // The words of the tables, 0 where there is none.
 ghost use Rattle.base.specs.Lent.{old};
-ghost use Rattle.table.specs.Lent.{lentLiteral};
+ghost use Rattle.table.specs.Lent.{lentLiteral, lentReferred};
 ghost use mathlib.Core.Path.{_≡_};
 ghost use mathlib.Core.List.{[]};
-ghost use mathlib.Core.Bool.{_&&_};
 ghost use Prim.Native.Nat.{_+_, _-_, _/_, _<_, _≤_, _^_};
-ghost use lib.Dec.{eqb};
 ghost use lib.ListN.{length};
 ghost use Rattle.table.specs.Tables.{tables, isNode, recordWord, kindOf, startOf, endOf, firstOf, countOf, widthOf, width, childAt, nameStart, nameLength, nameBytes};
 ghost use Rattle.base.specs.Lists.{part};
-ghost use Rattle.table.specs.Decode.{stringOf, refOf};
+ghost use Rattle.table.specs.Decode.{refOf};
 ghost use Rattle.table.specs.Names.{sameBytes, classOf};
 ghost use Rattle.literal.specs.Order.{compared};
 ghost use Rattle.literal.specs.Text.{textsCompared};
@@ -19,7 +17,6 @@ use literal::Comparison;
 use literal::LiteralRef;
 use literal::order::compare;
 use literal::order::compare_bytes;
-use literal::order::compare_ranges;
 use literal::text;
 
 // Word k of record n, of `size` words each.
@@ -235,33 +232,21 @@ pub fn name_class(names: &[u32], text: &[u8], name: u32) -> NameClass
     NameClass::Ordinary
 }
 
-fn is_string(nodes: &[u32], node: u32) -> bool
-    ensures { λ r. ⌜ r ≡ eqb (kindOf (old nodes) node) 1 ⌝ }
+// A literal with that of a node, in the order of keys.
+pub fn compare_literal_to_node(
+    nodes: &[u32],
+    numbers: &[u64],
+    strings: &[u8],
+    text: &[u8],
+    a: LiteralRef,
+    b: u32,
+) -> Comparison
+    ensures { λ r. ⌜ r ≡ compared (lentReferred numbers strings text a) (lentLiteral nodes numbers strings text b) ⌝ }
 {
-    kind_of(nodes, node) == 1
-}
-
-// Are two nodes both strings of the string store?
-fn both_strings(nodes: &[u32], a: u32, b: u32) -> bool
-    ensures { λ r. ⌜ r ≡ (eqb (kindOf (old nodes) a) 1 && eqb (kindOf (old nodes) b) 1) ⌝ }
-{
-    if is_string(nodes, a) {
-        return is_string(nodes, b);
-    }
-    false
-}
-
-// Two strings of the string store.
-fn compare_strings(nodes: &[u32], strings: &[u8], a: u32, b: u32) -> Comparison
-    ensures { λ r. ⌜ r ≡ compared (stringOf (old nodes) (old strings) a) (stringOf (old nodes) (old strings) b) ⌝ }
-{
-    compare_ranges(
-        strings,
-        first_of(nodes, a) as usize,
-        count_of(nodes, a) as usize,
-        first_of(nodes, b) as usize,
-        count_of(nodes, b) as usize,
-    )
+    let Key::Literal(literal) = extract_literal_key(nodes, b) else {
+        return Comparison::NoLiteral;
+    };
+    compare(numbers, strings, text, a, literal)
 }
 
 // The literals of two nodes, in the order of keys.
@@ -275,16 +260,27 @@ pub fn compare_literals(
 ) -> Comparison
     ensures { λ r. ⌜ r ≡ compared (lentLiteral nodes numbers strings text a) (lentLiteral nodes numbers strings text b) ⌝ }
 {
-    if both_strings(nodes, a, b) {
-        return compare_strings(nodes, strings, a, b);
-    }
-    let Key::Literal(x) = extract_literal_key(nodes, a) else {
+    let Key::Literal(literal) = extract_literal_key(nodes, a) else {
         return Comparison::NoLiteral;
     };
-    let Key::Literal(y) = extract_literal_key(nodes, b) else {
+    compare_literal_to_node(nodes, numbers, strings, text, literal, b)
+}
+
+// The text of a key with that of a node, by their bytes.
+pub fn compare_key_text_to_node(
+    nodes: &[u32],
+    numbers: &[u64],
+    strings: &[u8],
+    text: &[u8],
+    a: LiteralRef,
+    b: u32,
+) -> Comparison
+    ensures { λ r. ⌜ r ≡ textsCompared (lentReferred numbers strings text a) (lentLiteral nodes numbers strings text b) ⌝ }
+{
+    let Key::Literal(literal) = extract_literal_key(nodes, b) else {
         return Comparison::NoLiteral;
     };
-    compare(numbers, strings, text, x, y)
+    text::compare_key_texts(numbers, strings, text, a, literal)
 }
 
 // The key texts of two nodes, by their bytes.
@@ -298,14 +294,8 @@ pub fn compare_key_texts(
 ) -> Comparison
     ensures { λ r. ⌜ r ≡ textsCompared (lentLiteral nodes numbers strings text a) (lentLiteral nodes numbers strings text b) ⌝ }
 {
-    if both_strings(nodes, a, b) {
-        return compare_strings(nodes, strings, a, b);
-    }
-    let Key::Literal(x) = extract_literal_key(nodes, a) else {
+    let Key::Literal(literal) = extract_literal_key(nodes, a) else {
         return Comparison::NoLiteral;
     };
-    let Key::Literal(y) = extract_literal_key(nodes, b) else {
-        return Comparison::NoLiteral;
-    };
-    text::compare_key_texts(numbers, strings, text, x, y)
+    compare_key_text_to_node(nodes, numbers, strings, text, literal, b)
 }

@@ -42,23 +42,23 @@ pub record KeysOf (lit : ℕ → Option Literal) (keys : List ℕ) (size : ℕ) 
   pub listed : map lit (take size keys) ≡ map some own
   pub texts : map keyText own ≡ ts
 
--- a key node's text with the one at place q
-abbrev pub textAt : (ℕ → Option Literal) → ℕ → List ℕ → ℕ → Comparison
-textAt lit key keys q = textsCompared (lit key) (lit (getD keys q 0))
+-- a literal's text with that of the key node at place q
+abbrev pub textAt : (ℕ → Option Literal) → Option Literal → List ℕ → ℕ → Comparison
+textAt lit key keys q = textsCompared key (lit (getD keys q 0))
 
--- a literal's node, whose place among texts in order is looked for
-pub record TextAsks (lit : ℕ → Option Literal) (keys : List ℕ) (size key : ℕ) : Type 0 where
+-- a literal, whose place among texts in order is looked for
+pub record TextAsks (lit : ℕ → Option Literal) (keys : List ℕ) (size : ℕ) (key : Option Literal) : Type 0 where
   pub texts : List (List ℕ)
   pub sorted : KeysOf lit keys size (sortTexts texts)
   pub few : size ≤ 256
   pub own : Literal
-  pub literal : lit key ≡ some own
+  pub literal : key ≡ some own
 
 -- the first place, from low to high, whose text does not come before the key's
-abbrev pub TextBetween : (ℕ → Option Literal) → List ℕ → ℕ → ℕ → ℕ → ℕ → Type 0
+abbrev pub TextBetween : (ℕ → Option Literal) → List ℕ → Option Literal → ℕ → ℕ → ℕ → Type 0
 TextBetween lit keys key = Between (λ (q : ℕ). isGreater (textAt lit key keys q) ≡ true) (λ (q : ℕ). isGreater (textAt lit key keys q) ≡ false)
 
-pub record TextPlace (lit : ℕ → Option Literal) (keys : List ℕ) (size key found : ℕ) : Type 0 where
+pub record TextPlace (lit : ℕ → Option Literal) (keys : List ℕ) (size : ℕ) (key : Option Literal) (found : ℕ) : Type 0 where
   pub place : TextBetween lit keys key size found found
 
 -- one key node more
@@ -102,7 +102,7 @@ pub record OrderedAsks (T : Tables) (first : ℕ) (order : List ℕ) (total : �
 -- k texts of two arrays from place q on
 unfoldable pub agreeFrom : (ℕ → Option Literal) → List ℕ → List ℕ → ℕ → ℕ → Bool
 agreeFrom lit a b q zero = true
-agreeFrom lit a b q (suc k) = isEqual (textAt lit (getD a q 0) b q) && agreeFrom lit a b (q + 1) k
+agreeFrom lit a b q (suc k) = isEqual (textAt lit (lit (getD a q 0)) b q) && agreeFrom lit a b (q + 1) k
 
 abbrev pub textsAgree : (ℕ → Option Literal) → List ℕ → ℕ → List ℕ → ℕ → Bool
 textsAgree lit a m b n = eqb m n && agreeFrom lit a b 0 m

@@ -21,15 +21,18 @@ use Rattle.base.proofs.Search.{between-start, between-ends}
 use Rattle.literal.specs.Literal.{Literal}
 use Rattle.literal.specs.Order.{compared}
 use Rattle.literal.specs.declared.Comparison.{Comparison}
+use Rattle.literal.specs.declared.LiteralRef.{LiteralRef}
 use Rattle.literal.specs.declared.Comparison.the-variants.{Less, Equal}
 use Rattle.literal.proofs.Comparison.{the-type}
 use Rattle.literal.proofs.Orders.{key-order}
 use Rattle.table.specs.declared.Key.{Key}
+use Rattle.table.specs.declared.Key.the-variants as Key
 use Rattle.table.specs.declared.Key.the-variants.{Computed}
 use Rattle.table.specs.Tables.{Tables, kindOf, childAt}
-use Rattle.table.specs.Decode.{literalNode, literalAt, refOf}
+use Rattle.table.specs.Decode.{literalNode, referred, refOf}
 use Rattle.table.proofs.Key.{the-type as the-key}
 use Rattle.table.proofs.trees.Words.{ref-none}
+use Rattle.table.proofs.tests.Bytes.{node-refers}
 use Rattle.planner.specs.Layout.{FieldOrder, noFields, addField, inOrder}
 use Rattle.planner.specs.code.Passes.{keyNode, fieldKey, orderFrom, orderOf}
 use Rattle.planner.specs.code.Post.{OrderAsks, OrderedBy, Arranged}
@@ -76,10 +79,9 @@ module _ {T : Tables} {first i : ℕ} {order : List ℕ} {m total : ℕ} (a : Ad
 
 -- the search
 
-pub compared-keys : (nodes children numbers strings text : List ℕ) (first a j : ℕ) {b : ℕ} {r : Comparison} → b ≡ childAt children (first + j * 2)
-    → r ≡ compared (literalNode nodes numbers strings text a) (literalNode nodes numbers strings text b)
-    → r ≡ compared (literalNode nodes numbers strings text a) (literalNode nodes numbers strings text (childAt children (first + j * 2)))
-compared-keys nodes children numbers strings text first a j is-b is-r = rw (← is-b) is-r
+pub compared-keys : (nodes children numbers strings text : List ℕ) (own : Option Literal) (first j : ℕ) {b : ℕ} {r : Comparison} → b ≡ childAt children (first + j * 2)
+    → r ≡ compared own (literalNode nodes numbers strings text b) → r ≡ compared own (literalNode nodes numbers strings text (childAt children (first + j * 2)))
+compared-keys nodes children numbers strings text own first j is-b is-r = rw (← is-b) is-r
 
 -- neither less nor equal
 abbrev pub Otherwise : Comparison → Type 0
@@ -89,27 +91,27 @@ not-first : (tag : ℕ) → tag ≤ 1 → OneOf (2 ∷ 3 ∷ []) tag → ⊥
 not-first tag le (inl e) = omega arith
 not-first tag le (inr e) = omega arith
 
-pub record Finding (T : Tables) (first : ℕ) (order : List ℕ) (m node low high : ℕ) : Type 0 where
-  pub asks : FindAsks T first order m node
-  pub between : KeyBetween (fieldKey T first) (literalAt T node) order m low high
+pub record Finding (T : Tables) (first : ℕ) (order : List ℕ) (m : ℕ) (key : LiteralRef) (low high : ℕ) : Type 0 where
+  pub asks : FindAsks T first order m key
+  pub between : KeyBetween (fieldKey T first) (referred T key) order m low high
   pub few : m ≤ 256
   pub small : first ≤ 512
 
-pub finding-start : {T : Tables} {first : ℕ} {order : List ℕ} {m node : ℕ} → FindAsks T first order m node → Finding T first order m node 0 m
-finding-start {T} {first} {order} {m} {node} a =
+pub finding-start : {T : Tables} {first : ℕ} {order : List ℕ} {m : ℕ} {key : LiteralRef} → FindAsks T first order m key → Finding T first order m key 0 m
+finding-start {T} {first} {order} {m} {key} a =
     record { asks = a; between = between-start _ _ m; few = a .few; small = a .small }
 
-module _ {T : Tables} {first : ℕ} {order : List ℕ} {m node low high : ℕ} (f : Finding T first order m node low high) where
-  module _ {q other : ℕ} {way : Comparison} (lt : low < high) (is-q : q ≡ low + (high - low) / 2) (is-other : other ≡ getD order q 0) (is-way : way ≡ compared (literalAt T node) (fieldKey T first other)) where
-    way-at : way ≡ compared (literalAt T node) (fieldKey T first (getD order q 0))
+module _ {T : Tables} {first : ℕ} {order : List ℕ} {m : ℕ} {key : LiteralRef} {low high : ℕ} (f : Finding T first order m key low high) where
+  module _ {q other : ℕ} {way : Comparison} (lt : low < high) (is-q : q ≡ low + (high - low) / 2) (is-other : other ≡ getD order q 0) (is-way : way ≡ compared (referred T key) (fieldKey T first other)) where
+    way-at : way ≡ compared (referred T key) (fieldKey T first (getD order q 0))
     way-at = rw is-other at is-way
 
-    pub finding-equal : way ≡ Equal → FoundBy (fieldKey T first) (literalAt T node) order m q true
+    pub finding-equal : way ≡ Equal → FoundBy (fieldKey T first) (referred T key) order m q true
     finding-equal e =
         let n = f .between .inside in
         record { old = λ t. (omega arith, sym way-at ∙ e); new = λ x. let z : _≡_ {A = ℕ} 0 1 = cc in absurd (omega arith) }
 
-    pub finding-down : way ≡ Less → Finding T first order m node low q
+    pub finding-down : way ≡ Less → Finding T first order m key low q
     finding-down e = record {
       asks = f .asks;
       between = keys-down key-order (in-order (f .asks .so-far)) (f .asks .literal) (f .between) q (omega arith) (omega arith) (sym way-at ∙ e);
@@ -117,7 +119,7 @@ module _ {T : Tables} {first : ℕ} {order : List ℕ} {m node low high : ℕ} (
       small = f .small;
     }
 
-    pub finding-up : Otherwise way → Finding T first order m node (q + 1) high
+    pub finding-up : Otherwise way → Finding T first order m key (q + 1) high
     finding-up otherwise =
         let n = f .between .inside in
         record {
@@ -128,7 +130,7 @@ module _ {T : Tables} {first : ℕ} {order : List ℕ} {m node low high : ℕ} (
           small = f .small;
         }
 
-  pub finding-ends : high ≤ low → FoundBy (fieldKey T first) (literalAt T node) order m low false
+  pub finding-ends : high ≤ low → FoundBy (fieldKey T first) (referred T key) order m low false
   finding-ends le =
       record { old = λ x. let z : _≡_ {A = ℕ} 0 1 = cc in absurd (omega arith); new = λ t. between-ends (f .between) le }
 
@@ -137,6 +139,10 @@ module _ {T : Tables} {first : ℕ} {order : List ℕ} {m node low high : ℕ} (
 -- a node that is above kind 5 is no literal
 pub ref-above : (nodes : List ℕ) (n : ℕ) → 5 < kindOf nodes n → refOf nodes n ≡ Computed
 ref-above nodes n h = sym (ref-none nodes n refl refl refl (λ e. omega arith) (λ e. omega arith) (λ e. omega arith) (λ e. omega arith) (λ e. omega arith))
+
+-- a literal is not computed
+pub never-computed : {l : LiteralRef} → Key.Literal l ≡ Computed → ⊥
+never-computed e = let z = ap (tagOf the-key) e in omega arith
 
 module _ {T : Tables} {first i : ℕ} {order : List ℕ} {m total : ℕ} (a : AddAsks T first i order m total) where
   pub total-fits : Fits w64 (total + 1)
@@ -153,24 +159,6 @@ module _ {T : Tables} {first i : ℕ} {order : List ℕ} {m total : ℕ} (a : Ad
     unfolding literalNode
     key-computed e = rw (ref-is, e)
 
-    key-found : tagOf the-key key ≡ 0 → (l : Literal) × (fieldKey T first i ≡ Option.some l)
-    key-found tag = go (leb (kindOf (T .nodes) (keyNode T first i)) 5) refl
-      where
-        no-tag : key ≡ Computed → ⊥
-        no-tag e = let z = ap (tagOf the-key) e in omega arith
-
-        go : (b : Bool) → leb (kindOf (T .nodes) (keyNode T first i)) 5 ≡ b → (l : Literal) × (fieldKey T first i ≡ Option.some l)
-        go true h = a .asks .table .literals (keyNode T first i) (a .asks .keys i (omega arith)) (leb-true _ _ h)
-        go false h = absurd (no-tag (sym ref-is ∙ ref-above (T .nodes) (keyNode T first i) (leb-false _ _ h)))
-
-    pub ask-find : tagOf the-key key ≡ 0 → FindAsks T first order m node
-    ask-find tag =
-        let l = key-found tag in
-        let k = literals-few (a .so-far) in
-        let f = add-few a in
-        let p = add-place a in
-        record { fields = i; total = total; so-far = a .so-far; few = omega arith; small = omega arith; own = l .0; literal = ap (literalAt T) is-node ∙ l .1 }
-
     -- a computed field goes to the end
     pub added-computed : key ≡ Computed → length order ≡ 256 → {later : List ℕ} → later ≡ moved order total total i → FieldAdded T first i order total later m (total + 1)
     added-computed e long {later} is =
@@ -184,31 +172,51 @@ module _ {T : Tables} {first i : ℕ} {order : List ℕ} {m total : ℕ} (a : Ad
           behind = ap (drop (total + 1)) is ∙ moved-drop order total total i (omega arith) (omega arith);
         }
 
-    module _ (tag : tagOf the-key key ≡ 0) {place : ℕ} {equal : Bool} (found : FoundBy (fieldKey T first) (literalAt T node) order m place equal) where
-      pub added-equal : equal ≡ true → FieldAdded T first i order total (set order place i) m total
-      added-equal e =
-          let l = key-found tag in
-          let p = rw is-node at (found .old e) in
-          let k = literals-few (a .so-far) in
-          record {
-            fields = in-next (a .so-far) (ordered-replace key-order (in-order (a .so-far)) i (set order place i) (l .0) (l .1) place (p .0) (p .1) refl);
-            grows = omega arith;
-            behind = drop-set-lt total order place i (omega (arith, p .0));
-          }
+    -- the literal of its key
+    module _ {l : LiteralRef} (is-l : key ≡ Key.Literal l) where
+      key-is : referred T l ≡ fieldKey T first i
+      key-is = node-refers (T .nodes) (T .numbers) (T .strings) (T .text) (keyNode T first i) (sym ref-is) is-l
 
-      pub added-new : equal ≡ false → length order ≡ 256 → {later : List ℕ} → later ≡ moved order place total i → FieldAdded T first i order total later (m + 1) (total + 1)
-      added-new e long {later} is =
-          let l = key-found tag in
-          let b = rw is-node at (found .new e) in
-          let n = b .inside in
+      key-found : (x : Literal) × (fieldKey T first i ≡ Option.some x)
+      key-found = go (leb (kindOf (T .nodes) (keyNode T first i)) 5) refl
+        where
+          go : (b : Bool) → leb (kindOf (T .nodes) (keyNode T first i)) 5 ≡ b → (x : Literal) × (fieldKey T first i ≡ Option.some x)
+          go true h = a .asks .table .literals (keyNode T first i) (a .asks .keys i (omega arith)) (leb-true _ _ h)
+          go false h = absurd (never-computed (sym is-l ∙ (sym ref-is ∙ ref-above (T .nodes) (keyNode T first i) (leb-false _ _ h))))
+
+      pub ask-find : FindAsks T first order m l
+      ask-find =
+          let x = key-found in
           let k = literals-few (a .so-far) in
           let f = add-few a in
-          record {
-            fields = in-next (a .so-far) (between-insert key-order (in-order (a .so-far)) (l .1) b (omega arith) later
-                (ap (λ (r : List ℕ). take (total + 1) r) is ∙ moved-take order place total i (omega arith) (omega arith)));
-            grows = omega arith;
-            behind = ap (drop (total + 1)) is ∙ moved-drop order place total i (omega arith) (omega arith);
-          }
+          let p = add-place a in
+          record { fields = i; total = total; so-far = a .so-far; few = omega arith; small = omega arith; own = x .0; literal = key-is ∙ x .1 }
+
+      module _ {place : ℕ} {equal : Bool} (found : FoundBy (fieldKey T first) (referred T l) order m place equal) where
+        pub added-equal : equal ≡ true → FieldAdded T first i order total (set order place i) m total
+        added-equal e =
+            let x = key-found in
+            let p = rw key-is at (found .old e) in
+            let k = literals-few (a .so-far) in
+            record {
+              fields = in-next (a .so-far) (ordered-replace key-order (in-order (a .so-far)) i (set order place i) (x .0) (x .1) place (p .0) (p .1) refl);
+              grows = omega arith;
+              behind = drop-set-lt total order place i (omega (arith, p .0));
+            }
+
+        pub added-new : equal ≡ false → length order ≡ 256 → {later : List ℕ} → later ≡ moved order place total i → FieldAdded T first i order total later (m + 1) (total + 1)
+        added-new e long {later} is =
+            let x = key-found in
+            let b = rw key-is at (found .new e) in
+            let n = b .inside in
+            let k = literals-few (a .so-far) in
+            let f = add-few a in
+            record {
+              fields = in-next (a .so-far) (between-insert key-order (in-order (a .so-far)) (x .1) b (omega arith) later
+                  (ap (λ (r : List ℕ). take (total + 1) r) is ∙ moved-take order place total i (omega arith) (omega arith)));
+              grows = omega arith;
+              behind = ap (drop (total + 1)) is ∙ moved-drop order place total i (omega arith) (omega arith);
+            }
 
   module _ {own : Option Literal} {place : ℕ} {equal : Bool} (found : FoundBy (fieldKey T first) own order m place equal) where
     pub found-place : equal ≡ true → place < 256

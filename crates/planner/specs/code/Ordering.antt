@@ -7,9 +7,10 @@ use mathlib.Core.Option.{Option, some}
 use lib.ListN.{length, getD, take, drop}
 use Rattle.base.specs.code.Search.{Between}
 use Rattle.literal.specs.Literal.{Literal}
+use Rattle.literal.specs.declared.LiteralRef.{LiteralRef}
 use Rattle.literal.specs.Order.{Order, less, same, more, compared, told}
 use Rattle.table.specs.Tables.{Tables}
-use Rattle.table.specs.Decode.{literalAt}
+use Rattle.table.specs.Decode.{referred}
 use Rattle.planner.specs.Layout.{inOrder}
 use Rattle.planner.specs.code.Passes.{fieldKey, orderOf}
 use Rattle.planner.specs.code.Post.{OrderAsks}
@@ -39,21 +40,21 @@ pub record FieldAdded (T : Tables) (first i : ℕ) (before : List ℕ) (from : �
   pub grows : from ≤ total
   pub behind : drop total order ≡ drop total before
 
--- a literal's node, whose key is looked for among the first fields in order
-pub record FindAsks (T : Tables) (first : ℕ) (order : List ℕ) (m node : ℕ) : Type 0 where
+-- a literal, which is looked for among the keys of the first fields in order
+pub record FindAsks (T : Tables) (first : ℕ) (order : List ℕ) (m : ℕ) (key : LiteralRef) : Type 0 where
   pub fields : ℕ
   pub total : ℕ
   pub so-far : FieldsIn T first fields order m total
   pub few : m ≤ 256
   pub small : first ≤ 512
   pub own : Literal
-  pub literal : literalAt T node ≡ some own
+  pub literal : referred T key ≡ some own
 
 -- either a literal field has an equal key, or the key goes in before `place`
 pub record FoundBy (key : ℕ → Option Literal) (own : Option Literal) (order : List ℕ) (m place : ℕ) (equal : Bool) : Type 0 where
   pub old : equal ≡ true → (place < m) × At same key own order place
   pub new : equal ≡ false → KeyBetween key own order m place place
 
--- the key of a literal's node, among an object's fields
-abbrev pub FoundIn : Tables → ℕ → ℕ → List ℕ → ℕ → ℕ → Bool → Type 0
-FoundIn T first node order m place equal = FoundBy (fieldKey T first) (literalAt T node) order m place equal
+-- a literal among the keys of an object's fields
+abbrev pub FoundIn : Tables → ℕ → LiteralRef → List ℕ → ℕ → ℕ → Bool → Type 0
+FoundIn T first key order m place equal = FoundBy (fieldKey T first) (referred T key) order m place equal

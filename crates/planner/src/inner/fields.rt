@@ -1,6 +1,6 @@
 // The fields of a checked table's object in plan order: literal keys in key order, the last of a repeated key, then computed ones as written.
 ghost use Rattle.base.specs.Lent.{old, new};
-ghost use Rattle.table.specs.Lent.{given, lent, lentLiteral};
+ghost use Rattle.table.specs.Lent.{given, lent, lentLiteral, lentReferred};
 ghost use mathlib.Core.Path.{_≡_};
 ghost use Prim.Native.Nat.{_+_, _*_, _<_, _^_};
 ghost use Rattle.literal.specs.Order.{compared};
@@ -10,9 +10,10 @@ ghost use Rattle.planner.specs.code.Ordering.{FieldAdded, FindAsks, Foun
 use crate::fields::wide;
 use base::bytes::insert_at;
 use literal::Comparison;
+use literal::LiteralRef;
 use table::Key;
 use table::reading::child_at;
-use table::reading::compare_literals;
+use table::reading::compare_literal_to_node;
 use table::reading::extract_literal_key;
 
 // How many of the fields in order have literal keys, and how many there are.
@@ -27,7 +28,7 @@ pub struct Found {
     pub equal: bool,
 }
 
-// A key node with the key of a field.
+// A literal with the key of a field.
 fn compare_keys(
     nodes: &[u32],
     children: &[u32],
@@ -35,17 +36,17 @@ fn compare_keys(
     strings: &[u8],
     text: &[u8],
     first: usize,
-    key: u32,
+    key: LiteralRef,
     j: usize,
 ) -> Comparison
     requires { ⌜ first + j * 2 < 2 ^ 64 ⌝ }
-    ensures { λ r. let at = lentLiteral nodes numbers strings text in ⌜ r ≡ compared (at key) (at (childAt (old children) (first + j * 2))) ⌝ }
+    ensures { λ r. let at = lentLiteral nodes numbers strings text in ⌜ r ≡ compared (lentReferred numbers strings text key) (at (childAt (old children) (first + j * 2))) ⌝ }
 {
     let other = child_at(children, first + j * 2);
-    compare_literals(nodes, numbers, strings, text, key, other)
+    compare_literal_to_node(nodes, numbers, strings, text, key, other)
 }
 
-// The place of a literal's node among the fields with literal keys, by binary search.
+// The place of a literal among the keys of the fields, by binary search.
 pub fn find_field(
     nodes: &[u32],
     children: &[u32],
@@ -56,7 +57,7 @@ pub fn find_field(
     first: usize,
     order: &[u8; 256],
     literals: usize,
-    key: u32,
+    key: LiteralRef,
 ) -> Found
     requires { ⌜ FindAsks (given nodes children numbers names strings text) first (now order) literals key ⌝ }
     ensures { λ r. ⌜ FoundIn (lent nodes children numbers names strings text) first key (old order) literals (r .place) (r .equal) ⌝ }
@@ -103,8 +104,8 @@ fn add_field(
     let total = sizes.total;
     let literals = sizes.literals;
     let at = field as usize;
-    let key = child_at(children, first + at * 2);
-    let Key::Literal(_) = extract_literal_key(nodes, key) else {
+    let node = child_at(children, first + at * 2);
+    let Key::Literal(key) = extract_literal_key(nodes, node) else {
         insert_at(order, total, total, field);
         return Sizes {
             literals,

@@ -1,16 +1,14 @@
 -- Bytes and literals, as the comparisons of crate literal tell of them.
-use Prim.Native.Nat.{ℕ, _+_}
+use Prim.Native.Nat.{ℕ}
 use mathlib.Core.Path.{_≡_, refl, sym, ap, _∙_}
 use mathlib.Core.List.{List}
-use mathlib.Core.Bool.{Bool, true, false, false≢true, _&&_}
+use mathlib.Core.Bool.{Bool, true, false, false≢true}
 use mathlib.Core.Option.{Option, none, some}
-use borrow.Author.Tests.{eq-eqb, eqb-true}
-use lib.Dec.{eqb, leb}
 use lib.ListN.{length}
 use Rattle.literal.specs.Literal.{Literal}
-use Rattle.literal.specs.Order.{Order, less, same, more, bytesOrder, keyOrder, told, compared}
-use Rattle.literal.specs.Text.{keyText, textCompared, textsCompared}
-use Rattle.literal.specs.Reading.{literalOf, stringAt}
+use Rattle.literal.specs.Order.{Order, less, same, more, bytesOrder, told, compared}
+use Rattle.literal.specs.Text.{textCompared, textsCompared}
+use Rattle.literal.specs.Reading.{literalOf}
 use Rattle.literal.specs.declared.LiteralRef.{LiteralRef}
 use Rattle.literal.specs.declared.Comparison.{Comparison}
 use Rattle.literal.specs.declared.Comparison.the-variants.{Less, Equal, Greater, NoLiteral}
@@ -19,10 +17,10 @@ use Rattle.table.specs.declared.Key.{Key}
 use Rattle.table.specs.declared.Key.the-variants as Key
 use Rattle.table.specs.declared.Key.the-variants.{Computed}
 use Rattle.table.specs.declared.NameClass.the-variants.{Underscore, InputOrData, Ordinary}
-use Rattle.table.specs.Tables.{kindOf, firstOf, countOf, nameBytes}
+use Rattle.table.specs.Tables.{nameBytes}
 use Rattle.table.specs.Decode.{refOf, literalNode}
 use Rattle.table.specs.Names.{isSame, sameBytes, underscoreBytes, inputBytes, dataBytes, classOf}
-use Rattle.table.proofs.tests.Bools.{never, and-true}
+use Rattle.table.proofs.tests.Bools.{never}
 
 is-same : (o : Order) → isSame o ≡ true → o ≡ same
 is-same less e = absurd (false≢true e)
@@ -117,57 +115,26 @@ by-text = record { left = λ b. refl; right = go }
     go none = refl
     go (some l) = refl
 
-module _ {f : Option Literal → Option Literal → Comparison} (by : Compares f) (nodes numbers strings text : List ℕ) (a b : ℕ) {k : Key} (is : k ≡ refOf nodes a) where
-  pub literals-none : k ≡ Computed → NoLiteral ≡ f (literalNode nodes numbers strings text a) (literalNode nodes numbers strings text b)
-  unfolding literalNode
-  literals-none e = rw (← is, e) (sym (by .left _))
+-- a node that refers to a literal
+pub node-refers : (nodes numbers strings text : List ℕ) (n : ℕ) {k : Key} {l : LiteralRef} → k ≡ refOf nodes n → k ≡ Key.Literal l → literalOf numbers strings text l ≡ literalNode nodes numbers strings text n
+unfolding literalNode
+node-refers nodes numbers strings text n is e = rw (← is, e)
 
-  module _ {x : LiteralRef} (e : k ≡ Key.Literal x) {j : Key} (is₂ : j ≡ refOf nodes b) where
-    pub literals-other : j ≡ Computed → NoLiteral ≡ f (literalNode nodes numbers strings text a) (literalNode nodes numbers strings text b)
-    unfolding literalNode
-    literals-other g = rw (← is₂, g) (sym (by .right _))
+node-computed : (nodes numbers strings text : List ℕ) (n : ℕ) {k : Key} → k ≡ refOf nodes n → k ≡ Computed → literalNode nodes numbers strings text n ≡ none
+unfolding literalNode
+node-computed nodes numbers strings text n is e = rw (← is, e)
 
-    pub literals-both : {y : LiteralRef} {r : Comparison} → j ≡ Key.Literal y → r ≡ f (literalOf numbers strings text x) (literalOf numbers strings text y)
-        → r ≡ f (literalNode nodes numbers strings text a) (literalNode nodes numbers strings text b)
-    unfolding literalNode
-    literals-both g h = rw (← is, e, ← is₂, g) h
+module _ {f : Option Literal → Option Literal → Comparison} (by : Compares f) (nodes numbers strings text : List ℕ) {k : Key} where
+  module _ (x : Option Literal) (n : ℕ) (is : k ≡ refOf nodes n) where
+    pub right-none : k ≡ Computed → NoLiteral ≡ f x (literalNode nodes numbers strings text n)
+    right-none e = rw (node-computed nodes numbers strings text n is e) (sym (by .right x))
 
-text-of-strings : (bytes : List ℕ) (a n b m : ℕ) → compared (stringAt bytes a n) (stringAt bytes b m) ≡ textsCompared (stringAt bytes a n) (stringAt bytes b m)
-unfolding compared textsCompared textCompared keyText keyOrder
-text-of-strings bytes a n b m = go (leb (a + n) (length bytes)) (leb (b + m) (length bytes)) refl refl
-  where
-    go : (p q : Bool) → leb (a + n) (length bytes) ≡ p → leb (b + m) (length bytes) ≡ q → compared (stringAt bytes a n) (stringAt bytes b m) ≡ textsCompared (stringAt bytes a n) (stringAt bytes b m)
-    go true true e f = simp (e, f)
-    go true false e f = simp (e, f)
-    go false q e f = simp e
+    pub right-literal : {l : LiteralRef} {r : Comparison} → k ≡ Key.Literal l → r ≡ f x (literalOf numbers strings text l) → r ≡ f x (literalNode nodes numbers strings text n)
+    right-literal e h = rw (← node-refers nodes numbers strings text n is e) h
 
--- both tests, by the first
-pub both-second : {x y : Bool} (a b : Bool) → x ≡ a → x ≡ true → y ≡ b → y ≡ (a && b)
-both-second a b e t f = let g = sym e ∙ t in rw g f
+  module _ (n : ℕ) (y : Option Literal) (is : k ≡ refOf nodes n) where
+    pub left-none : k ≡ Computed → NoLiteral ≡ f (literalNode nodes numbers strings text n) y
+    left-none e = rw (node-computed nodes numbers strings text n is e) (sym (by .left y))
 
-pub both-not : {x : Bool} (a b : Bool) → x ≡ a → x ≡ false → false ≡ (a && b)
-both-not a b e t = let g = sym e ∙ t in rw g refl
-
-pub test-read : {r : Bool} {x y : ℕ} (k : ℕ) → x ≡ y → r ≡ eqb x k → r ≡ eqb y k
-test-read k e t = t ∙ ap (λ z. eqb z k) e
-
-pub ranges-read : {r : Comparison} {f c g d : ℕ} (bytes : List ℕ) (a n b m : ℕ) → f ≡ a → c ≡ n → g ≡ b → d ≡ m → r ≡ compared (stringAt bytes f c) (stringAt bytes g d) → r ≡ compared (stringAt bytes a n) (stringAt bytes b m)
-ranges-read bytes a n b m e₁ e₂ e₃ e₄ is = rw (e₁, e₂, e₃, e₄) at is
-
--- two strings of the string store: their literals and their key texts compare as their bytes do
-module _ (nodes numbers strings text : List ℕ) where
-  string-node : (n : ℕ) → kindOf nodes n ≡ 1 → literalNode nodes numbers strings text n ≡ stringAt strings (firstOf nodes n) (countOf nodes n)
-  unfolding literalNode refOf literalOf
-  string-node n e = simp (eq-eqb (kindOf nodes n) 1 e)
-
-  module _ (a b : ℕ) {both : Bool} (is : both ≡ (eqb (kindOf nodes a) 1 && eqb (kindOf nodes b) 1)) (yes : both ≡ true) where
-    strings-are : (literalNode nodes numbers strings text a ≡ stringAt strings (firstOf nodes a) (countOf nodes a)) × (literalNode nodes numbers strings text b ≡ stringAt strings (firstOf nodes b) (countOf nodes b))
-    strings-are =
-        let parts = and-true (eqb (kindOf nodes a) 1) (eqb (kindOf nodes b) 1) (sym is ∙ yes) in
-        (string-node a (eqb-true (kindOf nodes a) 1 (parts .0)), string-node b (eqb-true (kindOf nodes b) 1 (parts .1)))
-
-    pub strings-compared : {r : Comparison} → r ≡ compared (stringAt strings (firstOf nodes a) (countOf nodes a)) (stringAt strings (firstOf nodes b) (countOf nodes b)) → r ≡ compared (literalNode nodes numbers strings text a) (literalNode nodes numbers strings text b)
-    strings-compared e = rw (strings-are .0, strings-are .1) e
-
-    pub strings-texts : {r : Comparison} → r ≡ compared (stringAt strings (firstOf nodes a) (countOf nodes a)) (stringAt strings (firstOf nodes b) (countOf nodes b)) → r ≡ textsCompared (literalNode nodes numbers strings text a) (literalNode nodes numbers strings text b)
-    strings-texts e = rw (strings-are .0, strings-are .1) (e ∙ text-of-strings strings (firstOf nodes a) (countOf nodes a) (firstOf nodes b) (countOf nodes b))
+    pub left-literal : {l : LiteralRef} {r : Comparison} → k ≡ Key.Literal l → r ≡ f (literalOf numbers strings text l) y → r ≡ f (literalNode nodes numbers strings text n) y
+    left-literal e h = rw (← node-refers nodes numbers strings text n is e) h

@@ -11,11 +11,11 @@ use Rattle.table.proofs.reading.extract_literal_key.Reads as extract-literal-ke
 extract-literal-key-requires : tie.Need-extract-literal-key-requires
 extract-literal-key-requires c κs = search needs
 
+enum-known-literal : tie.Need-enum-known-literal
+enum-known-literal c = search needs
+
 enum-told : tie.Need-enum-told
 enum-told c = search needs
-
-enum-told-2 : tie.Need-enum-told-2
-enum-told-2 c = search needs
 
 returns : tie.Need-returns
 returns c = search (added-none, needs)
@@ -37,8 +37,8 @@ add-key-spec =
     tie.close
     (tie.spec
     extract-literal-key-requires
+    enum-known-literal
     enum-told
-    enum-told-2
     returns
     find-text-requires
     insert-at-requires

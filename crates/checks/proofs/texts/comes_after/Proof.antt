@@ -4,10 +4,10 @@ use Rattle.checks.proofs.texts.comes_after.Statement.{statement}
 use Rattle.checks.proofs.texts.comes_after.Tie as tie
 use Rattle.checks.proofs.texts.comes_after.Reads as reads
 use Rattle.checks.proofs.texts.comes_after.Lts as lts
-use Rattle.table.proofs.reading.compare_key_texts.Reads as compare-key-texts-reads
+use Rattle.table.proofs.reading.compare_key_text_to_node.Reads as compare-key-text-to-node-reads
 
-compare-key-texts-requires : tie.Need-compare-key-texts-requires
-compare-key-texts-requires c κs = search needs
+compare-key-text-to-node-requires : tie.Need-compare-key-text-to-node-requires
+compare-key-text-to-node-requires c κs = search needs
 
 enum-told : tie.Need-enum-told
 enum-told c = search needs
@@ -37,7 +37,7 @@ pub comes-after-spec : {M : Type 1} → statement M
 comes-after-spec =
     tie.close
     (tie.spec
-    compare-key-texts-requires
+    compare-key-text-to-node-requires
     enum-told
     enum-told-2
     enum-told-3

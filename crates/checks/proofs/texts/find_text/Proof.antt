@@ -1,4 +1,5 @@
 use Prim.Native.Nat.{_-_}
+use Rattle.literal.specs.Reading.{literalOf}
 use Rattle.table.specs.Decode.{literalNode}
 use Rattle.checks.proofs.TextLoops.{Seeking, seeking-start, seeking-up, seeking-down, seeking-ends}
 use borrow.Author.Needs.{needs}
@@ -9,7 +10,7 @@ use Rattle.checks.proofs.texts.find_text.Lts as lts
 use Rattle.checks.proofs.texts.comes_after.Reads as comes-after-reads
 
 abbrev Inv-loop : tie.InvT-loop
-Inv-loop nodes numbers strings text keys size key low₀ high₀ low high = Seeking (literalNode nodes numbers strings text) keys size key low high
+Inv-loop nodes numbers strings text keys size key low₀ high₀ low high = Seeking (literalNode nodes numbers strings text) keys size (literalOf numbers strings text key) low high
 
 abbrev μ-loop : tie.MeasureT-loop
 μ-loop nodes numbers strings text keys size key low₀ high₀ low high = high - low

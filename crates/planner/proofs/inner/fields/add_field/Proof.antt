@@ -21,17 +21,17 @@ child-at-requires c κs = search needs
 extract-literal-key-requires : tie.Need-extract-literal-key-requires
 extract-literal-key-requires c κs = search needs
 
+enum-known-key : tie.Need-enum-known-key
+enum-known-key c = search needs
+
 enum-told : tie.Need-enum-told
 enum-told c = search needs
-
-enum-told-2 : tie.Need-enum-told-2
-enum-told-2 c = search needs
 
 insert-at-requires : tie.Need-insert-at-requires
 insert-at-requires c κs = search needs
 
-add-t23 : tie.Need-add-t23
-add-t23 c = search (total-fits, needs)
+add-t24 : tie.Need-add-t24
+add-t24 c = search (total-fits, needs)
 
 returns : tie.Need-returns
 returns c = search (added-computed, needs)
@@ -48,11 +48,11 @@ returns-2 c = search (added-equal, needs)
 insert-at-requires-2 : tie.Need-insert-at-requires-2
 insert-at-requires-2 c κs = search needs
 
-add-t17 : tie.Need-add-t17
-add-t17 c = search (literals-fit, needs)
-
 add-t18 : tie.Need-add-t18
-add-t18 c = search (total-fits, needs)
+add-t18 c = search (literals-fit, needs)
+
+add-t19 : tie.Need-add-t19
+add-t19 c = search (total-fits, needs)
 
 returns-3 : tie.Need-returns-3
 returns-3 c = search (added-new, needs)
@@ -65,15 +65,15 @@ add-field-spec =
     add-child-at
     child-at-requires
     extract-literal-key-requires
+    enum-known-key
     enum-told
-    enum-told-2
     insert-at-requires
-    add-t23
+    add-t24
     returns
     find-field-requires
     element-write-order
     returns-2
     insert-at-requires-2
-    add-t17
     add-t18
+    add-t19
     returns-3)

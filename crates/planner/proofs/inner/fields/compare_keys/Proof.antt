@@ -5,7 +5,7 @@ use Rattle.planner.proofs.inner.fields.compare_keys.Tie as tie
 use Rattle.planner.proofs.inner.fields.compare_keys.Reads as reads
 use Rattle.planner.proofs.inner.fields.compare_keys.Lts as lts
 use Rattle.table.proofs.reading.child_at.Reads as child-at-reads
-use Rattle.table.proofs.reading.compare_literals.Reads as compare-literals-reads
+use Rattle.table.proofs.reading.compare_literal_to_node.Reads as compare-literal-to-node-reads
 
 mul-child-at : tie.Need-mul-child-at
 mul-child-at c = search needs
@@ -16,8 +16,8 @@ add-child-at c = search needs
 child-at-requires : tie.Need-child-at-requires
 child-at-requires c κs = search needs
 
-compare-literals-requires : tie.Need-compare-literals-requires
-compare-literals-requires c κs = search needs
+compare-literal-to-node-requires : tie.Need-compare-literal-to-node-requires
+compare-literal-to-node-requires c κs = search needs
 
 returns : tie.Need-returns
 returns c = search (compared-keys, needs)
@@ -25,4 +25,4 @@ returns c = search (compared-keys, needs)
 pub compare-keys-spec : {M : Type 1} → statement M
 compare-keys-spec =
     tie.close
-    (tie.spec mul-child-at add-child-at child-at-requires compare-literals-requires returns)
+    (tie.spec mul-child-at add-child-at child-at-requires compare-literal-to-node-requires returns)
