@@ -29,27 +29,28 @@ use scope::ScopingMode;
 use table::NameClass;
 use table::TableAnswer;
 use table::check;
+use table::node_kind;
 use table::reading::first_of;
 use table::reading::is_node;
 use table::reading::kind_of;
 use table::reading::name_class;
 
 // An array against an object (ensure_structural_compatibility).
-fn incompatible(nodes: &[u32], a: u32, b: u32) -> bool
+fn structurally_incompatible(nodes: &[u32], a: u32, b: u32) -> bool
     ensures { λ r. ⌜ r ≡ opposedKinds (kindOf (old nodes) a) (kindOf (old nodes) b) ⌝ }
 {
     let left = kind_of(nodes, a);
     let right = kind_of(nodes, b);
-    if left == 7 {
-        return right == 9;
+    if left == node_kind::ARRAY {
+        return right == node_kind::OBJECT;
     }
-    if left == 9 {
-        return right == 7;
+    if left == node_kind::OBJECT {
+        return right == node_kind::ARRAY;
     }
     false
 }
 
-// The binding side's plan, whose entries stand in the scratch, held against the value side.
+// The binding side's plan, whose entries stand in the scratch, held against the value side (ensure_structural_compatibility, then ensure_literal_match).
 fn bind_side(
     nodes: &[u32],
     children: &[u32],
@@ -67,7 +68,7 @@ fn bind_side(
     requires { ⌜ BindAsks (given nodes children numbers names strings text) binding value (now scratch) count ⌝ }
     ensures { λ r. ⌜ AnsweredIn plan (bindSide (lent nodes children numbers names strings text) form binding value (readEntries (old scratch) 0 count)) r ⌝ }
 {
-    if incompatible(nodes, binding, value) {
+    if structurally_incompatible(nodes, binding, value) {
         clear(plan);
         return PlanAnswer::IncompatibleDestructuringPatterns { side: binding };
     }
@@ -210,7 +211,7 @@ fn is_underscore(nodes: &[u32], names: &[u32], text: &[u8], node: u32) -> bool
     ensures { λ r. ⌜ r ≡ underscoreAt (old nodes) (old names) (old text) node ⌝ }
 {
     let kind = kind_of(nodes, node);
-    if kind == 6 {
+    if kind == node_kind::NAME {
         let class = name_class(names, text, first_of(nodes, node));
         return match class {
             NameClass::Underscore => true,

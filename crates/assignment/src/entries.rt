@@ -8,6 +8,7 @@ ghost use Rattle.assignment.specs.Assignment.{boundHere, firstSameScope}
 use planner::PlanAnswer;
 use planner::buffer::close;
 use planner::buffer::copy_entries;
+use planner::entry_kind;
 use scope::Binding;
 use scope::Scope;
 use table::reading::first_of;
@@ -16,7 +17,7 @@ use table::reading::first_of;
 fn bound_here(nodes: &[u32], scope: Scope, kind: u32, node: u32) -> bool
     ensures { λ r. ⌜ r ≡ boundHere (old nodes) scope kind node ⌝ }
 {
-    if kind == 1 {
+    if kind == entry_kind::BIND {
         let binding = scope.has_same_scope_binding(first_of(nodes, node));
         return match binding {
             Binding::Yes => true,

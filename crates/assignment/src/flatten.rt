@@ -10,9 +10,9 @@ ghost use Rattle.checks.specs.code.Post.{WorkingSpaces};
 ghost use Rattle.assignment.specs.code.Flattening.{Compared, Bound, SideAsksIn, FlattenAsksIn, ArraysAsksIn, ByKeyAsksIn, ItemsAsksIn, ObjectFieldsAsksIn, SideFlattened, NodesFlattened, ArraysFlattened, ItemsFlattened, ObjectsFlattened};
 use crate::judge::Judgement;
 use crate::judge::judge;
-use crate::keys::Keys;
+use crate::keys::ObjectPairs;
+use crate::keys::collect_object_pairs;
 use crate::keys::field_sides;
-use crate::keys::match_keys;
 use crate::preview::learn_names;
 use crate::preview::preview_binding_plan;
 use planner::PlanAnswer;
@@ -21,6 +21,7 @@ use planner::buffer::close;
 use planner::buffer::copy_entries;
 use planner::buffer::put_entry;
 use planner::context::name_states;
+use planner::entry_kind;
 use scope::Scope;
 use scope::ScopingMode;
 use table::reading::child_at;
@@ -38,8 +39,8 @@ fn compare_sides(plan: &mut [u32], at: usize, left: u32, right: u32) -> Flattene
     requires { ⌜ at ≤ 2 ^ 32 ⌝ }
     ensures { λ r. ⌜ Compared left right (old plan) at (new plan) r ⌝ }
 {
-    put_entry(plan, at, 7, right, 1, 0);
-    put_entry(plan, at + 1, 3, left, 0, 0);
+    put_entry(plan, at, entry_kind::PAIR, right, 1, 0);
+    put_entry(plan, at + 1, entry_kind::COMPARE_EXPRESSION, left, 0, 0);
     Flattened::Next { at: at + 2 }
 }
 
@@ -56,14 +57,14 @@ fn bind_planned(
     requires { ⌜ ReadAsks (now scratch) count × (at ≤ 2 ^ 32) ⌝ }
     ensures { λ r. ⌜ Bound value (readEntries (old scratch) 0 count) (old states) (old binders) (old plan) at (new states) (new plan) r ⌝ }
 {
-    put_entry(plan, at, 7, value, 1, 0);
+    put_entry(plan, at, entry_kind::PAIR, value, 1, 0);
     copy_entries(plan, at + 1, scratch, count);
     learn_names(states, binders);
     Flattened::Next { at: at + 1 + count }
 }
 
 // A side that binds to the other, its plan still to be made.
-fn bind_side(
+fn bind_unplanned(
     nodes: &[u32],
     children: &[u32],
     numbers: &[u64],
@@ -141,7 +142,7 @@ fn flatten(
             plan,
             at,
         ),
-        Judgement::BindRight => return bind_side(
+        Judgement::BindRight => return bind_unplanned(
             nodes,
             children,
             numbers,
@@ -307,7 +308,7 @@ fn flatten_objects(
     ensures { λ r. ⌜ ObjectsFlattened states plan (lent nodes children numbers names strings text) left right at r × WorkingSpaces binders scratch ⌝ }
 {
     let mut order = [0u8; 256];
-    match match_keys(
+    match collect_object_pairs(
         nodes,
         children,
         numbers,
@@ -318,7 +319,7 @@ fn flatten_objects(
         right,
         &mut order,
     ) {
-        Keys::Matched { total } => return flatten_fields(
+        ObjectPairs::Matched { total } => return flatten_fields(
             nodes,
             children,
             numbers,
@@ -335,7 +336,7 @@ fn flatten_objects(
             plan,
             at,
         ),
-        Keys::Refused(answer) => return Flattened::Refused(answer),
+        ObjectPairs::Refused(answer) => return Flattened::Refused(answer),
     }
 }
 

@@ -8,6 +8,7 @@ ghost use Rattle.assignment.specs.code.Judging.{objectsPairing, kindsPai
 ghost use Rattle.assignment.specs.code.Previewing.{SidesAsksIn};
 use crate::keys::literal_keys;
 use crate::preview::preview_sides;
+use table::node_kind;
 use table::reading::kind_of;
 
 // How two sides may be taken: as they are, item by item, field by field, or not at all.
@@ -29,7 +30,7 @@ pub(crate) enum Judgement {
 }
 
 // A judgement, and how many entries the left side's plan has.
-pub(crate) struct Verdict {
+pub(crate) struct JudgedSides {
     pub way: Judgement,
     pub count: usize,
 }
@@ -52,20 +53,20 @@ fn pairing_of(nodes: &[u32], children: &[u32], left: u32, right: u32) -> Pairing
 {
     let left_kind = kind_of(nodes, left);
     let right_kind = kind_of(nodes, right);
-    if left_kind == 7 {
-        if right_kind == 7 {
+    if left_kind == node_kind::ARRAY {
+        if right_kind == node_kind::ARRAY {
             return Pairing::Items;
         }
-        if right_kind == 9 {
+        if right_kind == node_kind::OBJECT {
             return Pairing::Opposed;
         }
         return Pairing::Whole;
     }
-    if left_kind == 9 {
-        if right_kind == 7 {
+    if left_kind == node_kind::OBJECT {
+        if right_kind == node_kind::ARRAY {
             return Pairing::Opposed;
         }
-        if right_kind == 9 {
+        if right_kind == node_kind::OBJECT {
             return objects_pairing(nodes, children, left, right);
         }
         return Pairing::Whole;
@@ -132,7 +133,7 @@ pub(crate) fn judge(
     right: u32,
     binders: &mut [u32; 128],
     scratch: &mut [u32],
-) -> Verdict
+) -> JudgedSides
     requires { ⌜ SidesAsksIn scratch (given nodes children numbers names strings text) (now states) left right ⌝ }
     ensures { λ r. ⌜ JudgesIn scratch binders (lent nodes children numbers names strings text) (old states) left right (r .count) (r .way) ⌝ }
 {
@@ -150,7 +151,7 @@ pub(crate) fn judge(
         scratch,
     );
     let way = judge_sides(nodes, children, left, right, sides.left, sides.right);
-    Verdict {
+    JudgedSides {
         way,
         count: sides.count,
     }

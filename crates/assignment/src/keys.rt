@@ -7,6 +7,7 @@ use literal::Comparison;
 use planner::PlanAnswer;
 use planner::fields::field_at;
 use planner::inner::fields::order_fields;
+use table::node_kind;
 use table::reading::child_at;
 use table::reading::compare_literals;
 use table::reading::count_of;
@@ -14,7 +15,7 @@ use table::reading::first_of;
 use table::reading::kind_of;
 
 // The left object's keys are the right's, `total` of them, or a refusal.
-pub(crate) enum Keys {
+pub(crate) enum ObjectPairs {
     Matched { total: usize },
     Refused(PlanAnswer),
 }
@@ -34,7 +35,7 @@ pub(crate) fn literal_keys(nodes: &[u32], children: &[u32], node: u32) -> bool
     let mut i: usize = 0;
     while i < count {
         let key = child_at(children, first + i * 2);
-        if kind_of(nodes, key) > 5 {
+        if kind_of(nodes, key) > node_kind::LAST_LITERAL {
             return false;
         }
         i += 1;
@@ -120,7 +121,7 @@ fn first_missing(
 }
 
 // The left object's keys in order, if they are the right's.
-pub(crate) fn match_keys(
+pub(crate) fn collect_object_pairs(
     nodes: &[u32],
     children: &[u32],
     numbers: &[u64],
@@ -130,7 +131,7 @@ pub(crate) fn match_keys(
     left: u32,
     right: u32,
     order: &mut [u8; 256],
-) -> Keys
+) -> ObjectPairs
     requires { ⌜ KeysAsks (given nodes children numbers names strings text) left right ⌝ }
     ensures { λ r. ⌜ KeysMatched (lent nodes children numbers names strings text) left right (new order) r ⌝ }
 {
@@ -150,7 +151,7 @@ pub(crate) fn match_keys(
         order,
     );
     if keys != count {
-        return Keys::Refused(PlanAnswer::ObjectFieldCountMismatch {
+        return ObjectPairs::Refused(PlanAnswer::ObjectFieldCountMismatch {
             left,
             keys,
             fields: count,
@@ -170,9 +171,9 @@ pub(crate) fn match_keys(
         count as usize,
     );
     if key != 0 {
-        return Keys::Refused(PlanAnswer::ObjectKeyNotFound { key });
+        return ObjectPairs::Refused(PlanAnswer::ObjectKeyNotFound { key });
     }
-    Keys::Matched {
+    ObjectPairs::Matched {
         total: keys as usize,
     }
 }

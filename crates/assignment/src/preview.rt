@@ -7,6 +7,7 @@ ghost use Rattle.planner.specs.Layout.{bindsAny};
 ghost use Rattle.planner.specs.Entries.{readEntries};
 ghost use Rattle.assignment.specs.code.Previewing.{PreviewAsksIn, PreviewedIn, LearntAt, Learnt, SidesAsksIn, SidesToldIn};
 use planner::buffer::clear;
+use planner::entry_kind;
 use planner::inner::destructuring::create_destructuring_plan_with_tracking;
 
 // A side's plan: how many entries it has, and whether one of them binds.
@@ -36,10 +37,10 @@ pub(crate) fn introduces_binding(scratch: &[u32], count: usize) -> bool
             return false;
         }
         let kind = scratch[at];
-        if kind == 1 {
+        if kind == entry_kind::BIND {
             return true;
         }
-        if kind == 2 {
+        if kind == entry_kind::IGNORE {
             return true;
         }
         i += 1;

@@ -31,7 +31,7 @@ use Rattle.checks.proofs.LiteralStructureCheck.{the-type}
 use Rattle.checks.specs.Structure.{andThen, held, partner, objectStructure, slotText, keyTexts, sortTexts, sameTexts, sameKeys, computedKeys, structure, structureAll, structureFields}
 use Rattle.planner.specs.Held.{isEmpty}
 use Rattle.planner.specs.code.Post.{GoodPair}
-use Rattle.checks.specs.code.Post.{itemsAt, ItemsAsk, ObjectsAsk, orderOfNode, patternsOf, KeysCompared, FieldsAsk, fieldsStructure, FieldAsks, fieldStructure, PartnerAsks, PartnerIs}
+use Rattle.checks.specs.code.Post.{itemsAt, ItemsAsks, ObjectsAsks, orderOfNode, patternsOf, KeysCompared, FieldsAsks, fieldsStructure, FieldAsks, fieldStructure, PartnerAsks, PartnerIs}
 use Rattle.checks.proofs.PatternObjects.{object-key, object-value, object-few, patterns-are}
 
 -- a part that does not match ends the check
@@ -139,7 +139,7 @@ module _ {T : Tables} {pattern value : ℕ} (a : GoodPair T pattern value) {kind
   kinds-plain not-7 not-9 = leaf-unknown (expr T value) (expr T pattern) (shape-leaf T (a .table) value (a .second) (λ e. not-7 (is-kind ∙ e)) (λ e. not-9 (is-kind ∙ e)))
 
   module _ (alike : other-kind ≡ kind) where
-    pub ask-objects : kind ≡ 9 → ObjectsAsk T pattern value
+    pub ask-objects : kind ≡ 9 → ObjectsAsks T pattern value
     ask-objects k = record { pair = a; pattern-object = sym is-other ∙ (alike ∙ k); value-object = sym is-kind ∙ k }
 
     module _ (k : kind ≡ 7) {expected actual : ℕ} (is-expected : expected ≡ countOf (T .nodes) pattern) (is-actual : actual ≡ countOf (T .nodes) value) where
@@ -175,7 +175,7 @@ module _ {T : Tables} {pattern value : ℕ} (a : GoodPair T pattern value) {kind
             let c = a .table .limits .children in
             omega arith
 
-        pub ask-items : ItemsAsk T value at place actual
+        pub ask-items : ItemsAsks T value at place actual
         ask-items =
             let x = few pattern (a .first) pattern-array in
             let y = few value (a .second) value-array in
@@ -193,12 +193,12 @@ module _ {T : Tables} {pattern value : ℕ} (a : GoodPair T pattern value) {kind
 
 -- the items in turn
 pub record CheckingItems (T : Tables) (value at place left i : ℕ) : Type 0 where
-  pub asks : ItemsAsk T value at place left
+  pub asks : ItemsAsks T value at place left
   pub inside : i ≤ left
   pub same : structureAll (itemsAt T (place + i) (left - i)) (itemsAt T (at + i) (left - i))
       ≡ structureAll (itemsAt T place left) (itemsAt T at left)
 
-pub items-start : {T : Tables} {value at place left : ℕ} → ItemsAsk T value at place left → CheckingItems T value at place left 0
+pub items-start : {T : Tables} {value at place left : ℕ} → ItemsAsks T value at place left → CheckingItems T value at place left 0
 items-start {T} {value} {at} {place} {left} a =
     let x : place + 0 ≡ place = omega arith in
     let y : at + 0 ≡ at = omega arith in
@@ -265,7 +265,7 @@ texts-mapped f [] = refl
 texts-mapped f (s ∷ ss) = ap (λ (ts : List (List ℕ)). slotText s ∷ ts) (texts-mapped f ss)
 
 -- the sizes of a pattern's order
-module _ {T : Tables} {pattern value : ℕ} (a : ObjectsAsk T pattern value) {order : List ℕ} {m total : ℕ}
+module _ {T : Tables} {pattern value : ℕ} (a : ObjectsAsks T pattern value) {order : List ℕ} {m total : ℕ}
     (o : FieldsIn T (firstOf (T .nodes) pattern) (countOf (T .nodes) pattern) order m total) where
   literals-length : length (patternsOf T pattern .literals) ≡ m
   literals-length =
@@ -288,7 +288,7 @@ module _ {T : Tables} {pattern value : ℕ} (a : ObjectsAsk T pattern value) {or
   last-match : total ≤ m → isEmpty (patternsOf T pattern .computed) ≡ true
   last-match le = let c = computed-length in empty-none (patternsOf T pattern .computed) (omega arith)
 
-module _ {T : Tables} {pattern value : ℕ} (a : ObjectsAsk T pattern value) {order : List ℕ} {literals total : ℕ} {same : Bool} (k : KeysCompared T pattern value order literals total same) where
+module _ {T : Tables} {pattern value : ℕ} (a : ObjectsAsks T pattern value) {order : List ℕ} {literals total : ℕ} {same : Bool} (k : KeysCompared T pattern value order literals total same) where
   objects : structure (expr T value) (expr T pattern) ≡ objectStructure value pattern (fieldsOf T value) (patternsOf T pattern) (structureFields (fieldsOf T value) (patternsOf T pattern .literals))
   unfolding structure
   objects =
@@ -312,7 +312,7 @@ module _ {T : Tables} {pattern value : ℕ} (a : ObjectsAsk T pattern value) {or
       let y = empty-some (patternsOf T pattern .computed) (λ e. d (omega arith)) in
       sym (objects ∙ rw (x, y))
 
-  pub ask-fields : FieldsAsk T pattern value order literals total
+  pub ask-fields : FieldsAsks T pattern value order literals total
   ask-fields = record { objects = a; ordered = k .ordered; few = k .few }
 
   module _ (some : literals ≡ 0 → ⊥) where
@@ -333,13 +333,13 @@ module _ {T : Tables} {pattern value : ℕ} (a : ObjectsAsk T pattern value) {or
 
 -- the value's fields in turn
 pub record CheckingFields (T : Tables) (pattern value : ℕ) (order : List ℕ) (literals total count i : ℕ) : Type 0 where
-  pub asks : FieldsAsk T pattern value order literals total
+  pub asks : FieldsAsks T pattern value order literals total
   pub sized : count ≡ countOf (T .nodes) value
   pub inside : i ≤ count
   pub few : count ≤ 256
   pub same : structureFields (fields (expr T) (T .children) (firstOf (T .nodes) value + i * 2) (count - i)) (patternsOf T pattern .literals) ≡ structureFields (fieldsOf T value) (patternsOf T pattern .literals)
 
-pub fields-start : {T : Tables} {pattern value : ℕ} {order : List ℕ} {literals total count : ℕ} → FieldsAsk T pattern value order literals total → count ≡ countOf (T .nodes) value
+pub fields-start : {T : Tables} {pattern value : ℕ} {order : List ℕ} {literals total count : ℕ} → FieldsAsks T pattern value order literals total → count ≡ countOf (T .nodes) value
     → CheckingFields T pattern value order literals total count 0
 fields-start {T} {pattern} {value} {order} {literals} {total} {count} a e =
     let x : firstOf (T .nodes) value + 0 * 2 ≡ firstOf (T .nodes) value = omega arith in
@@ -451,10 +451,10 @@ object-falls a e = let l = a .second .low in omega arith
 pub items-fall : {T : Tables} {pattern value t : ℕ} → GoodPair T pattern value → 4 * value ≡ t → 4 * value - 2 < t
 items-fall a e = let l = a .second .low in omega arith
 
-pub fields-fall : {T : Tables} {pattern value t : ℕ} → ObjectsAsk T pattern value → 4 * value - 1 ≡ t → 4 * value - 2 < t
+pub fields-fall : {T : Tables} {pattern value t : ℕ} → ObjectsAsks T pattern value → 4 * value - 1 ≡ t → 4 * value - 2 < t
 fields-fall a e = let l = a .pair .second .low in omega arith
 
-pub field-falls : {T : Tables} {pattern value : ℕ} {order : List ℕ} {literals total t : ℕ} → FieldsAsk T pattern value order literals total → 4 * value - 2 ≡ t → 4 * value - 3 < t
+pub field-falls : {T : Tables} {pattern value : ℕ} {order : List ℕ} {literals total t : ℕ} → FieldsAsks T pattern value order literals total → 4 * value - 2 ≡ t → 4 * value - 3 < t
 field-falls a e = let l = a .objects .pair .second .low in omega arith
 
 pub item-falls : {child value t : ℕ} → child < value → 4 * value - 2 ≡ t → 4 * child < t

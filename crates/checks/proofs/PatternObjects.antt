@@ -34,8 +34,8 @@ use Rattle.planner.proofs.fields.FieldLoops.{ref-above, never-computed}
 use Rattle.planner.proofs.fields.Objects.{key-literal}
 use Rattle.checks.specs.Structure.{slotText, held}
 use Rattle.planner.specs.Held.{valueOrder, heldUnder}
-use Rattle.checks.specs.code.Texts.{BothAsk, TextsCompared}
-use Rattle.checks.specs.code.Post.{ObjectsAsk, orderOfNode, patternsOf, KeysCompared, PartnerAsks, PartnerIs}
+use Rattle.checks.specs.code.Texts.{BothAsks, TextsCompared}
+use Rattle.checks.specs.code.Post.{ObjectsAsks, orderOfNode, patternsOf, KeysCompared, PartnerAsks, PartnerIs}
 use Rattle.checks.proofs.KeyTexts.{ordered-texts, field-below, written-texts}
 
 -- an object node's fields
@@ -92,7 +92,7 @@ patterns-are T w n v object =
     rw z at (patterns-from T w (firstOf (T .nodes) n) 0 (countOf (T .nodes) n) noFields (λ j lt. object-key T w n v object j (omega arith)))
 
 -- the keys of two objects
-module _ {T : Tables} {pattern value : ℕ} (a : ObjectsAsk T pattern value) {first count : ℕ} (is-first : first ≡ firstOf (T .nodes) pattern) (is-count : count ≡ countOf (T .nodes) pattern) where
+module _ {T : Tables} {pattern value : ℕ} (a : ObjectsAsks T pattern value) {first count : ℕ} (is-first : first ≡ firstOf (T .nodes) pattern) (is-count : count ≡ countOf (T .nodes) pattern) where
   pub ask-order : OrderAsks T first count
   ask-order = object-asks T (a .pair .table) pattern (a .pair .first) (a .pattern-object) is-first is-count
 
@@ -100,7 +100,7 @@ module _ {T : Tables} {pattern value : ℕ} (a : ObjectsAsk T pattern value) {fi
     ask-value : OrderAsks T from size
     ask-value = object-asks T (a .pair .table) value (a .pair .second) (a .value-object) is-from is-size
 
-    pub ask-both : BothAsk T first order total from size
+    pub ask-both : BothAsks T first order total from size
     ask-both = record { pattern = record { count = count; asks = ask-order; by = by }; value = ask-value }
 
     pub keys-compared : {literals all : ℕ} {agree : Bool} → TextsCompared T first order total from size literals all agree → KeysCompared T pattern value order literals all agree

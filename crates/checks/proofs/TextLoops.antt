@@ -32,7 +32,7 @@ use Rattle.base.proofs.Moving.{moved-take, moved-drop}
 use Rattle.base.proofs.Search.{between-start, between-up, between-down, between-ends}
 use Rattle.planner.proofs.fields.FieldLoops.{ref-above, never-computed}
 use Rattle.checks.specs.Structure.{sortTexts}
-use Rattle.checks.specs.code.Texts.{isGreater, isEqual, literalsOf, KeysOf, textAt, TextAsks, TextBetween, TextPlace, AddKeyAsks, insertOr, KeyAdded, textsFrom, SortedKeys, orderedKey, OrderedAsks, agreeFrom, textsAgree, BothAsk, TextsCompared}
+use Rattle.checks.specs.code.Texts.{isGreater, isEqual, literalsOf, KeysOf, textAt, TextAsks, TextBetween, TextPlace, AddKeyAsks, insertOr, KeyAdded, textsFrom, SortedKeys, orderedKey, OrderedAsks, agreeFrom, textsAgree, BothAsks, TextsCompared}
 use Rattle.checks.proofs.TextOrder.{after, sort-ascending, after-before, after-behind, blankText, keys-length, compared-at, put-key, texts-agree}
 use Rattle.checks.proofs.KeyTexts.{field-below, sort-or, sort-length, texts-step, texts-none}
 
@@ -333,7 +333,7 @@ module _ {lit : ℕ → Option Literal} {a : List ℕ} {m : ℕ} {b : List ℕ} 
 
 -- the keys of both objects
 
-pub few-keys : {T : Tables} {first : ℕ} {order : List ℕ} {total from size : ℕ} → BothAsk T first order total from size → {before keys : List ℕ} {r : ℕ}
+pub few-keys : {T : Tables} {first : ℕ} {order : List ℕ} {total from size : ℕ} → BothAsks T first order total from size → {before keys : List ℕ} {r : ℕ}
     → SortedKeys T (orderedKey T first order) total before keys r → r ≤ 256
 few-keys asks s = let f = asks .pattern .by .few in let g = s .few in omega arith
 

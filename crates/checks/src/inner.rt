@@ -4,12 +4,13 @@ ghost use mathlib.Core.Path.{_≡_};
 ghost use Rattle.table.specs.Decode.{expr, literalAt};
 ghost use Rattle.checks.specs.Structure.{held, structure, structureAll};
 ghost use Rattle.planner.specs.code.Post.{GoodPair};
-ghost use Rattle.checks.specs.code.Post.{itemsAt, ItemsAsk, ObjectsAsk, WorkingSpaces, patternsOf, FieldsAsk, fieldsStructure, FieldAsks, fieldStructure, PartnerAsks, PartnerIs};
+ghost use Rattle.checks.specs.code.Post.{itemsAt, ItemsAsks, ObjectsAsks, WorkingSpaces, patternsOf, FieldsAsks, fieldsStructure, FieldAsks, fieldStructure, PartnerAsks, PartnerIs};
 use crate::LiteralStructureCheck;
-use crate::texts::compare_keys;
+use crate::texts::compare_object_keys;
 use planner::fields::field_at;
 use planner::inner::fields::find_field;
 use table::Key;
+use table::node_kind;
 use table::reading::child_at;
 use table::reading::count_of;
 use table::reading::extract_literal_key;
@@ -74,7 +75,7 @@ fn check_structure(
     if kind_of(nodes, pattern) != kind {
         return LiteralStructureCheck::Unknown;
     }
-    if kind == 7 {
+    if kind == node_kind::ARRAY {
         let expected = count_of(nodes, pattern);
         let actual = count_of(nodes, value);
         if actual != expected {
@@ -101,7 +102,7 @@ fn check_structure(
             others,
         );
     }
-    if kind == 9 {
+    if kind == node_kind::OBJECT {
         return check_object(
             nodes,
             children,
@@ -133,7 +134,7 @@ fn check_items(
     keys: &mut [u32; 256],
     others: &mut [u32; 256],
 ) -> LiteralStructureCheck
-    requires { ⌜ ItemsAsk (given nodes children numbers names strings text) value at place left ⌝ }
+    requires { ⌜ ItemsAsks (given nodes children numbers names strings text) value at place left ⌝ }
     ensures { λ r. let T = lent nodes children numbers names strings text in ⌜ (r ≡ structureAll (itemsAt T place left) (itemsAt T at left)) × WorkingSpaces keys others ⌝ }
 {
     let mut i: usize = 0;
@@ -173,11 +174,11 @@ fn check_object(
     keys: &mut [u32; 256],
     others: &mut [u32; 256],
 ) -> LiteralStructureCheck
-    requires { ⌜ ObjectsAsk (given nodes children numbers names strings text) pattern value ⌝ }
+    requires { ⌜ ObjectsAsks (given nodes children numbers names strings text) pattern value ⌝ }
     ensures { λ r. let T = lent nodes children numbers names strings text in ⌜ (r ≡ structure (expr T value) (expr T pattern)) × WorkingSpaces keys others ⌝ }
 {
     let mut order = [0u8; 256];
-    let compared = compare_keys(
+    let compared = compare_object_keys(
         nodes,
         children,
         numbers,
@@ -232,7 +233,7 @@ fn check_fields(
     keys: &mut [u32; 256],
     others: &mut [u32; 256],
 ) -> LiteralStructureCheck
-    requires { ⌜ FieldsAsk (given nodes children numbers names strings text) pattern value (now order) literals total ⌝ }
+    requires { ⌜ FieldsAsks (given nodes children numbers names strings text) pattern value (now order) literals total ⌝ }
     ensures { λ r. ⌜ (r ≡ fieldsStructure (lent nodes children numbers names strings text) pattern value) × WorkingSpaces keys others ⌝ }
 {
     let count = count_of(nodes, value) as usize;

@@ -8,8 +8,8 @@ ghost use Rattle.literal.specs.Text.{textsCompared};
 ghost use Rattle.table.specs.Decode.{literalNode};
 ghost use Rattle.planner.specs.code.Passes.{fieldKey};
 ghost use Rattle.planner.specs.code.Post.{OrderAsks};
-ghost use Rattle.checks.specs.code.Texts.{isGreater, TextAsks, TextPlace, AddKeyAsks, KeyAdded, SortedKeys, orderedKey, OrderedAsks, textsAgree, BothAsk, TextsComparedBy};
-ghost use Rattle.checks.specs.code.Post.{WorkingSpaces, ObjectsAsk, KeysComparedBy};
+ghost use Rattle.checks.specs.code.Texts.{isGreater, TextAsks, TextPlace, AddKeyAsks, KeyAdded, SortedKeys, orderedKey, OrderedAsks, textsAgree, BothAsks, TextsComparedBy};
+ghost use Rattle.checks.specs.code.Post.{WorkingSpaces, ObjectsAsks, KeysComparedBy};
 use base::words::insert_at;
 use literal::Comparison;
 use literal::LiteralRef;
@@ -24,7 +24,7 @@ use table::reading::extract_literal_key;
 use table::reading::first_of;
 
 // A pattern's literal fields and all its fields in order; do the value's literal keys have the same texts?
-pub struct Keys {
+pub struct ComparedKeys {
     pub literals: usize,
     pub total: usize,
     pub same: bool,
@@ -191,8 +191,8 @@ fn compare_texts(
     size: usize,
     keys: &mut [u32; 256],
     others: &mut [u32; 256],
-) -> Keys
-    requires { ⌜ BothAsk (given nodes children numbers names strings text) first (now order) total from size ⌝ }
+) -> ComparedKeys
+    requires { ⌜ BothAsks (given nodes children numbers names strings text) first (now order) total from size ⌝ }
     ensures { λ r. ⌜ TextsComparedBy (lent nodes children numbers names strings text) first (old order) total from size r × WorkingSpaces keys others ⌝ }
 {
     let literals = sort_ordered(
@@ -219,7 +219,7 @@ fn compare_texts(
         others,
     );
     let same = same_texts(nodes, numbers, strings, text, keys, literals, others, count);
-    Keys {
+    ComparedKeys {
         literals,
         total,
         same,
@@ -227,7 +227,7 @@ fn compare_texts(
 }
 
 // The pattern's fields into `order`, and the keys of the two objects.
-pub(crate) fn compare_keys(
+pub(crate) fn compare_object_keys(
     nodes: &[u32],
     children: &[u32],
     numbers: &[u64],
@@ -239,8 +239,8 @@ pub(crate) fn compare_keys(
     order: &mut [u8; 256],
     keys: &mut [u32; 256],
     others: &mut [u32; 256],
-) -> Keys
-    requires { ⌜ ObjectsAsk (given nodes children numbers names strings text) pattern value ⌝ }
+) -> ComparedKeys
+    requires { ⌜ ObjectsAsks (given nodes children numbers names strings text) pattern value ⌝ }
     ensures { λ r. ⌜ KeysComparedBy (lent nodes children numbers names strings text) pattern value (new order) r × WorkingSpaces keys others ⌝ }
 {
     let first = first_of(nodes, pattern) as usize;

@@ -13,8 +13,8 @@ use Rattle.literal.specs.Order.{bytesOrder, told}
 use Rattle.literal.specs.Text.{decimal, signed, keyText, textCompared, textsCompared}
 use Rattle.literal.specs.Reading.{stringBytes, literalOf, bytesOf, keyTextOf, writtenOver, TextDone}
 use Rattle.literal.specs.code.Written.{Written}
-use Rattle.literal.specs.code.Key.{keyOf}
-use Rattle.literal.specs.declared.key.Key.{Key}
+use Rattle.literal.specs.code.SortKey.{keyOf}
+use Rattle.literal.specs.declared.key.SortKey.{SortKey}
 use Rattle.literal.specs.declared.KeyText.{KeyText}
 use Rattle.literal.specs.declared.LiteralRef.{LiteralRef}
 use Rattle.literal.specs.declared.LiteralRef.the-variants.{Null, False, True, Number, String, RawString}
@@ -27,7 +27,7 @@ use Rattle.literal.proofs.Keys.{shown-key, shown-last}
 use Rattle.literal.proofs.Strings.{bytes-same}
 
 -- the text that was written, by the key
-module _ (l : Option Literal) {x : Key} {before after : List ℕ} {r : KeyText} (e : x ≡ keyOf l) where
+module _ (l : Option Literal) {x : SortKey} {before after : List ℕ} {r : KeyText} (e : x ≡ keyOf l) where
   pub text-null : x .rank ≡ 0 → Written (110 ∷ 117 ∷ 108 ∷ 108 ∷ []) before after r → TextDone l before after r
   unfolding keyText keyTextOf writtenOver
   text-null h w = rw (shown-key l 0 e h) (record { answer = w .answer; array = w .array })
@@ -44,7 +44,7 @@ module _ (l : Option Literal) {x : Key} {before after : List ℕ} {r : KeyText} 
   unfolding keyText keyTextOf writtenOver
   text-number h w = rw (shown-key l 3 e h) (record { answer = w .answer; array = w .array })
 
-module _ (l : Option Literal) {x : Key} (before : List ℕ) (e : x ≡ keyOf l) where
+module _ (l : Option Literal) {x : SortKey} (before : List ℕ) (e : x ≡ keyOf l) where
   pub text-string : x .rank ≡ 4 → TextDone l before before KeyText.Lent
   unfolding keyTextOf writtenOver
   text-string h = rw (shown-key l 4 e h) (record { answer = refl; array = refl })
@@ -83,7 +83,7 @@ signed-room : (s : Bool) (n : ℕ) → n ≤ 2 ^ 63 → length (signed s (decima
 signed-room true n h = omega (arith, digits-length 20 18 n (omega arith))
 signed-room false n h = omega (arith, digits-length 20 18 n (omega arith))
 
-pub number-room : (numbers strings text : List ℕ) (l : LiteralRef) (out : List ℕ) {x : Key} → x ≡ keyOf (literalOf numbers strings text l) → x .rank ≡ 3 → length out ≡ 20 → length (signed (x .below) (decimal (x .size))) ≤ length out
+pub number-room : (numbers strings text : List ℕ) (l : LiteralRef) (out : List ℕ) {x : SortKey} → x ≡ keyOf (literalOf numbers strings text l) → x .rank ≡ 3 → length out ≡ 20 → length (signed (x .below) (decimal (x .size))) ≤ length out
 number-room numbers strings text l out {x} e h long =
     let small = small-number numbers strings text l (x .below) (x .size) (shown-key (literalOf numbers strings text l) 3 e h) in
     omega (arith, signed-room (x .below) (x .size) small)

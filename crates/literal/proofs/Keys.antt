@@ -13,8 +13,8 @@ use borrow.Author.Tests.{leb-true, leb-false, le-leb, lt-leb}
 use Rattle.literal.specs.Literal.{Literal, null, boolean, number, string, isNumber}
 use Rattle.literal.specs.Order.{same, then, natOrder, numberOrder, bytesOrder, rank, withinRank, keyOrder, told, compared}
 use Rattle.literal.specs.Reading.{numberAt, stringAt, stringBytes, literalOf}
-use Rattle.literal.specs.code.Key.{plainKey, keyOf}
-use Rattle.literal.specs.declared.key.Key.{Key}
+use Rattle.literal.specs.code.SortKey.{plainKey, keyOf}
+use Rattle.literal.specs.declared.key.SortKey.{SortKey}
 use Rattle.literal.specs.declared.LiteralRef.{LiteralRef}
 use Rattle.literal.specs.declared.Comparison.{Comparison}
 use Rattle.literal.specs.declared.Comparison.the-variants.{Less, Equal, Greater, NoLiteral}
@@ -50,17 +50,17 @@ module _ (bytes : List ℕ) (start count : ℕ) {r : Bool} (is : r ≡ leb (star
   pub part-missing : r ≡ false → [] ≡ stringBytes (stringAt bytes start count)
   part-missing h = sym (ap stringBytes (missing h))
 
-  pub string-held : {x : Key} → r ≡ true → x ≡ plainKey 4 → x ≡ keyOf (stringAt bytes start count)
+  pub string-held : {x : SortKey} → r ≡ true → x ≡ plainKey 4 → x ≡ keyOf (stringAt bytes start count)
   unfolding keyOf
   string-held h e = e ∙ sym (ap keyOf (held h))
 
-  pub string-missing : {x : Key} → r ≡ false → x ≡ plainKey 5 → x ≡ keyOf (stringAt bytes start count)
+  pub string-missing : {x : SortKey} → r ≡ false → x ≡ plainKey 5 → x ≡ keyOf (stringAt bytes start count)
   unfolding keyOf
   string-missing h e = e ∙ sym (ap keyOf (missing h))
 
 -- a number
 module _ (numbers : List ℕ) (place : ℕ) where
-  pub number-outside : {x : Key} → length numbers / 2 ≤ place → x ≡ plainKey 5 → x ≡ keyOf (numberAt numbers place)
+  pub number-outside : {x : SortKey} → length numbers / 2 ≤ place → x ≡ plainKey 5 → x ≡ keyOf (numberAt numbers place)
   unfolding keyOf
   number-outside h e = let out : leb (place * 2 + 2) (length numbers) ≡ false = lt-leb (place * 2 + 2) (length numbers) (omega arith) in e ∙ rw out
 
@@ -72,12 +72,12 @@ module _ (numbers : List ℕ) (place : ℕ) where
     unfolding keyOf
     number-held h = sym (ap keyOf (said true h))
 
-    pub number-missing : {x : Key} → r ≡ false → x ≡ plainKey 5 → x ≡ keyOf (numberAt numbers place)
+    pub number-missing : {x : SortKey} → r ≡ false → x ≡ plainKey 5 → x ≡ keyOf (numberAt numbers place)
     unfolding keyOf
     number-missing h e = e ∙ sym (ap keyOf (said false h))
 
 -- a reference, by its kind
-pub key-at : (numbers strings text : List ℕ) {l m : LiteralRef} {x : Key} → l ≡ m → x ≡ keyOf (literalOf numbers strings text m) → x ≡ keyOf (literalOf numbers strings text l)
+pub key-at : (numbers strings text : List ℕ) {l m : LiteralRef} {x : SortKey} → l ≡ m → x ≡ keyOf (literalOf numbers strings text m) → x ≡ keyOf (literalOf numbers strings text l)
 key-at numbers strings text e h = rw e h
 
 -- The literal is what its key says, and a string's bytes.
@@ -98,17 +98,17 @@ shown-again (some (boolean true)) = refl
 shown-again (some (number s n)) = refl
 shown-again (some (string bs)) = refl
 
-pub shown-key : (l : Option Literal) {x : Key} (n : ℕ) → x ≡ keyOf l → x .rank ≡ n → l ≡ shown n (x .below) (x .size) (stringBytes l)
+pub shown-key : (l : Option Literal) {x : SortKey} (n : ℕ) → x ≡ keyOf l → x .rank ≡ n → l ≡ shown n (x .below) (x .size) (stringBytes l)
 shown-key l {x} n e h = rw (← h, e) (shown-again l)
 
-pub shown-last : (l : Option Literal) {x : Key} → x ≡ keyOf l → 4 < x .rank → l ≡ none
+pub shown-last : (l : Option Literal) {x : SortKey} → x ≡ keyOf l → 4 < x .rank → l ≡ none
 unfolding keyOf
 shown-last none e h = refl
-shown-last (some null) e h = absurd (omega (arith, ap (λ (k : Key). k .rank) e))
-shown-last (some (boolean false)) e h = absurd (omega (arith, ap (λ (k : Key). k .rank) e))
-shown-last (some (boolean true)) e h = absurd (omega (arith, ap (λ (k : Key). k .rank) e))
-shown-last (some (number s n)) e h = absurd (omega (arith, ap (λ (k : Key). k .rank) e))
-shown-last (some (string bs)) e h = absurd (omega (arith, ap (λ (k : Key). k .rank) e))
+shown-last (some null) e h = absurd (omega (arith, ap (λ (k : SortKey). k .rank) e))
+shown-last (some (boolean false)) e h = absurd (omega (arith, ap (λ (k : SortKey). k .rank) e))
+shown-last (some (boolean true)) e h = absurd (omega (arith, ap (λ (k : SortKey). k .rank) e))
+shown-last (some (number s n)) e h = absurd (omega (arith, ap (λ (k : SortKey). k .rank) e))
+shown-last (some (string bs)) e h = absurd (omega (arith, ap (λ (k : SortKey). k .rank) e))
 
 -- two keys
 key-rank : (a : Literal) → keyOf (some a) .rank ≡ rank a
@@ -119,25 +119,25 @@ key-rank (boolean true) = refl
 key-rank (number s n) = refl
 key-rank (string bs) = refl
 
-pub compare-left-none : (l m : Option Literal) {x : Key} → x ≡ keyOf l → x .rank ≡ 5 → NoLiteral ≡ compared l m
+pub compare-left-none : (l m : Option Literal) {x : SortKey} → x ≡ keyOf l → x .rank ≡ 5 → NoLiteral ≡ compared l m
 unfolding compared
 compare-left-none l m e h = rw (shown-key l 5 e h)
 
-pub compare-right-none : (l m : Option Literal) {y : Key} → y ≡ keyOf m → y .rank ≡ 5 → NoLiteral ≡ compared l m
+pub compare-right-none : (l m : Option Literal) {y : SortKey} → y ≡ keyOf m → y .rank ≡ 5 → NoLiteral ≡ compared l m
 unfolding compared
 compare-right-none none m e h = refl
 compare-right-none (some a) m e h = rw (shown-key m 5 e h)
 
 -- the literal of a key that is not 5
-record Found (l : Option Literal) (x : Key) : Type 0 where
+record Found (l : Option Literal) (x : SortKey) : Type 0 where
   literal : Literal
   is : l ≡ some literal
   ranked : x .rank ≡ rank literal
 
-found : (l : Option Literal) {x : Key} → x ≡ keyOf l → (x .rank ≡ 5 → ⊥) → Found l x
+found : (l : Option Literal) {x : SortKey} → x ≡ keyOf l → (x .rank ≡ 5 → ⊥) → Found l x
 unfolding keyOf
-found none e h = absurd (h (ap (λ (k : Key). k .rank) e))
-found (some a) e h = record { literal = a; is = refl; ranked = ap (λ (k : Key). k .rank) e ∙ key-rank a }
+found none e h = absurd (h (ap (λ (k : SortKey). k .rank) e))
+found (some a) e h = record { literal = a; is = refl; ranked = ap (λ (k : SortKey). k .rank) e ∙ key-rank a }
 
 by-rank : (l m : Option Literal) (a b : Literal) → l ≡ some a → m ≡ some b → compared l m ≡ told (then (natOrder (rank a) (rank b)) (withinRank a b))
 unfolding compared keyOrder
@@ -149,7 +149,7 @@ within-plain (boolean x) b h k = refl
 within-plain (number s n) b h k = absurd (h refl)
 within-plain (string bs) b h k = absurd (k refl)
 
-module _ (l m : Option Literal) {x y : Key} (ex : x ≡ keyOf l) (ey : y ≡ keyOf m) where
+module _ (l m : Option Literal) {x y : SortKey} (ex : x ≡ keyOf l) (ey : y ≡ keyOf m) where
   module _ (lx : x .rank ≡ 5 → ⊥) (ly : y .rank ≡ 5 → ⊥) where
     pub compare-less : x .rank < y .rank → Less ≡ compared l m
     compare-less h =

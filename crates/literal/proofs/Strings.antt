@@ -14,8 +14,8 @@ use Rattle.literal.proofs.LiteralRef.{the-type}
 use Rattle.literal.specs.Literal.{number}
 use Rattle.literal.specs.Order.{bytesOrder, told, compared}
 use Rattle.literal.specs.Reading.{hasNumber, numberAt, stringAt, stringBytes, literalOf, bytesOf}
-use Rattle.literal.specs.code.Key.{keyOf}
-use Rattle.literal.specs.declared.key.Key.{Key}
+use Rattle.literal.specs.code.SortKey.{keyOf}
+use Rattle.literal.specs.declared.key.SortKey.{SortKey}
 use Rattle.literal.specs.declared.LiteralRef.{LiteralRef}
 use Rattle.literal.specs.declared.LiteralRef.the-variants.{Null, False, True, Number, String, RawString}
 use Rattle.literal.specs.declared.Comparison.{Comparison}
@@ -71,7 +71,7 @@ told-right xs e h = h ∙ ap (λ (bs : List ℕ). told (bytesOrder xs bs)) e
 pub told-left : {xs zs : List ℕ} (ys : List ℕ) {r : Comparison} → xs ≡ zs → r ≡ told (bytesOrder xs ys) → r ≡ told (bytesOrder zs ys)
 told-left ys e h = h ∙ ap (λ (bs : List ℕ). told (bytesOrder bs ys)) e
 
-pub compare-strings : (numbers strings text : List ℕ) (a b : LiteralRef) {x y : Key} {r : Comparison} → x ≡ keyOf (literalOf numbers strings text a) → y ≡ keyOf (literalOf numbers strings text b) → y .rank ≤ x .rank → x .rank ≤ y .rank → x .rank ≡ 4 → r ≡ told (bytesOrder (bytesOf strings text a) (bytesOf strings text b)) → r ≡ compared (literalOf numbers strings text a) (literalOf numbers strings text b)
+pub compare-strings : (numbers strings text : List ℕ) (a b : LiteralRef) {x y : SortKey} {r : Comparison} → x ≡ keyOf (literalOf numbers strings text a) → y ≡ keyOf (literalOf numbers strings text b) → y .rank ≤ x .rank → x .rank ≤ y .rank → x .rank ≡ 4 → r ≡ told (bytesOrder (bytesOf strings text a) (bytesOf strings text b)) → r ≡ compared (literalOf numbers strings text a) (literalOf numbers strings text b)
 compare-strings numbers strings text a b ex ey h k i e =
     compare-bytes (literalOf numbers strings text a) (literalOf numbers strings text b) ex ey h k i
     (e ∙ rw (bytes-same numbers strings text a, bytes-same numbers strings text b))

@@ -14,8 +14,8 @@ use borrow.Author.Tests.{eqb-true, ltb-true, ltb-false, eq-eqb, ne-eqb, not-true
 use Rattle.literal.specs.Order.{then, natOrder, bytesOrder, told}
 use Rattle.literal.specs.Text.{digit, digits, decimal, signed, keyText, textCompared, textsCompared}
 use Rattle.literal.specs.Reading.{literalOf}
-use Rattle.literal.specs.code.Key.{keyOf, sameForm}
-use Rattle.literal.specs.declared.key.Key.{Key}
+use Rattle.literal.specs.code.SortKey.{keyOf, sameForm}
+use Rattle.literal.specs.declared.key.SortKey.{SortKey}
 use Rattle.literal.specs.declared.LiteralRef.{LiteralRef}
 use Rattle.literal.specs.declared.Comparison.{Comparison}
 use Rattle.literal.proofs.Orders.{nat-same, nat-like, nat-pairs, then-assoc, then-end}
@@ -140,7 +140,7 @@ beq-true true false h = sym h
 beq-true false true h = h
 beq-true false false h = refl
 
-module _ (x y : Key) where
+module _ (x y : SortKey) where
   pub ranks-differ : (x .rank ≡ y .rank → ⊥) → false ≡ sameForm x y
   ranks-differ h = rw (ne-eqb (x .rank) (y .rank) h)
 
@@ -151,7 +151,7 @@ module _ (x y : Key) where
     pub form-by-digits : not (Bool·beq (x .below) (y .below)) ≡ false → {r : Bool} → r ≡ eqb (length (decimal (x .size))) (length (decimal (y .size))) → r ≡ sameForm x y
     form-by-digits k e = e ∙ rw (eq-eqb (x .rank) (y .rank) h, not-false (Bool·beq (x .below) (y .below)) k)
 
-module _ (numbers strings text : List ℕ) (l m : LiteralRef) {x y : Key} (ex : x ≡ keyOf (literalOf numbers strings text l)) (ey : y ≡ keyOf (literalOf numbers strings text m)) where
+module _ (numbers strings text : List ℕ) (l m : LiteralRef) {x y : SortKey} (ex : x ≡ keyOf (literalOf numbers strings text l)) (ey : y ≡ keyOf (literalOf numbers strings text m)) where
   pub texts-by-size : x .rank ≡ 3 → {t : Bool} → t ≡ sameForm x y → t ≡ true → {r : Comparison} → r ≡ told (natOrder (x .size) (y .size)) → r ≡ textsCompared (literalOf numbers strings text l) (literalOf numbers strings text m)
   unfolding textsCompared textCompared keyText
   texts-by-size h f t is =

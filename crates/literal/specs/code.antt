@@ -1,4 +1,4 @@
 -- What only the code's proofs need.
-pub mod Key
+pub mod SortKey
 pub mod Written
 pub mod Chunks

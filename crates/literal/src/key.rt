@@ -6,20 +6,20 @@ ghost use mathlib.Core.Path.{_≡_};
 ghost use Prim.Native.Nat.{_+_};
 ghost use lib.Dec.{leb};
 ghost use Rattle.literal.specs.Reading.{literalOf, numberAt, stringAt, stringBytes};
-ghost use Rattle.literal.specs.code.Key.{keyOf, plainKey};
+ghost use Rattle.literal.specs.code.SortKey.{keyOf, plainKey};
 
 // The rank in the order of keys: 0 null, 1 false, 2 true, 3 a number, 4 a string; 5 for no literal.
 // below and size are a number's, false and 0 for the rest.
-pub(crate) struct Key {
+pub(crate) struct SortKey {
     pub rank: u8,
     pub below: bool,
     pub size: u64,
 }
 
-fn plain_key(rank: u8) -> Key
+fn plain_key(rank: u8) -> SortKey
     ensures { λ r. ⌜ r ≡ plainKey rank ⌝ }
 {
-    Key {
+    SortKey {
         rank,
         below: false,
         size: 0,
@@ -35,7 +35,7 @@ fn has_range(length: usize, start: usize, count: usize) -> bool
     false
 }
 
-fn string_key(bytes: &[u8], start: usize, count: usize) -> Key
+fn string_key(bytes: &[u8], start: usize, count: usize) -> SortKey
     ensures { λ r. ⌜ r ≡ keyOf (stringAt (old bytes) start count) ⌝ }
 {
     if has_range(bytes.len(), start, count) {
@@ -44,7 +44,7 @@ fn string_key(bytes: &[u8], start: usize, count: usize) -> Key
     plain_key(5)
 }
 
-fn number_key(numbers: &[u64], place: usize) -> Key
+fn number_key(numbers: &[u64], place: usize) -> SortKey
     ensures { λ r. ⌜ r ≡ keyOf (numberAt (old numbers) place) ⌝ }
 {
     if numbers.len() / 2 <= place {
@@ -53,7 +53,7 @@ fn number_key(numbers: &[u64], place: usize) -> Key
     let below = numbers[place * 2];
     let size = numbers[place * 2 + 1];
     if is_number(below, size) {
-        return Key {
+        return SortKey {
             rank: 3,
             below: below == 1,
             size,
@@ -62,7 +62,7 @@ fn number_key(numbers: &[u64], place: usize) -> Key
     plain_key(5)
 }
 
-pub(crate) fn key_of(numbers: &[u64], strings: &[u8], text: &[u8], l: LiteralRef) -> Key
+pub(crate) fn key_of(numbers: &[u64], strings: &[u8], text: &[u8], l: LiteralRef) -> SortKey
     ensures { λ r. ⌜ r ≡ keyOf (literalOf (old numbers) (old strings) (old text) l) ⌝ }
 {
     match l {

@@ -76,7 +76,7 @@ fn same_chunks(a: &[u8], b: &[u8]) -> usize
     i
 }
 
-pub fn wide(byte: u8) -> u64
+fn wide(byte: u8) -> u64
     ensures { λ r. ⌜ (r ≡ byte) × (r < 2 ^ 8) ⌝ }
 {
     byte as u64

@@ -2,7 +2,7 @@
 use super::Comparison;
 use super::KeyText;
 use super::LiteralRef;
-use super::key::Key;
+use super::key::SortKey;
 use super::key::key_of;
 use super::key::part;
 use super::order::compare_bytes;
@@ -16,7 +16,7 @@ ghost use lib.ListN.{length};
 ghost use Rattle.literal.specs.Text.{decimal, signed, textCompared, textsCompared};
 ghost use Rattle.literal.specs.Reading.{literalOf, bytesOf, TextDone};
 ghost use Rattle.literal.specs.code.Written.{writeDigits, Written};
-ghost use Rattle.literal.specs.code.Key.{sameForm};
+ghost use Rattle.literal.specs.code.SortKey.{sameForm};
 
 // A part of whichever of the two holds the string; empty for every other reference.
 pub fn string_bytes<'a>(strings: &'a [u8], text: &'a [u8], l: LiteralRef) -> &'a [u8]
@@ -164,7 +164,7 @@ fn same_digits(a: u64, b: u64) -> bool
 }
 
 // The same rank and sign, and sizes with equally many digits.
-fn same_form(x: Key, y: Key) -> bool
+fn same_form(x: SortKey, y: SortKey) -> bool
     ensures { λ r. ⌜ r ≡ sameForm x y ⌝ }
 {
     if x.rank != y.rank {

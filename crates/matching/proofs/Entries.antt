@@ -19,23 +19,23 @@ use Rattle.planner.proofs.fields.Objects.{node-of}
 use Rattle.planner.specs.Simple.{admitted}
 use Rattle.value.specs.Value.{Value, isValue, valueOf, same}
 use Rattle.value.specs.code.Post.{SameAsks}
-use Rattle.matching.specs.Matching.{Outcome, matched, missed, assign, setting, comparing, provided, run}
+use Rattle.matching.specs.Matching.{MatchOutcome, matched, missed, assign, setting, comparing, provided, run}
 use Rattle.matching.specs.code.Post.{nodeAt, kindAt, readPlan, entryKind, EntryOf, envOf, ListOk, runAt, MatchAsks, EntryAsks, ItemsAsks, FieldsAsks, Came, CompareAsks}
 use Rattle.matching.proofs.Patterns.{PatternShape, pattern-literal, pattern-wildcard, pattern-name, pattern-array, pattern-object, pattern-shape, visits-self, some-depth}
 use Rattle.matching.proofs.Lists.{node-value, env-at, set-ok, env-set}
 
 -- a comparison that decides
-pub compared-came : (T : Tables) {o : Outcome} {list : List ℕ} {r : Bool} → ListOk T list → o ≡ provided r (matched (envOf T list)) → Came T o list r
+pub compared-came : (T : Tables) {o : MatchOutcome} {list : List ℕ} {r : Bool} → ListOk T list → o ≡ provided r (matched (envOf T list)) → Came T o list r
 compared-came T {o} {list} {r} ok e = record {
   hit = λ t. e ∙ ap (λ (b : Bool). provided b (matched (envOf T list))) t;
   miss = λ t. e ∙ ap (λ (b : Bool). provided b (matched (envOf T list))) t;
   list-ok = ok;
 }
 
-pub missed-came : (T : Tables) {o : Outcome} {list : List ℕ} → ListOk T list → o ≡ missed → Came T o list false
+pub missed-came : (T : Tables) {o : MatchOutcome} {list : List ℕ} → ListOk T list → o ≡ missed → Came T o list false
 missed-came T ok e = record { hit = λ t. absurd (false≢true t); miss = λ t. e; list-ok = ok }
 
-pub matched-came : (T : Tables) {o : Outcome} {list : List ℕ} → ListOk T list → o ≡ matched (envOf T list) → Came T o list true
+pub matched-came : (T : Tables) {o : MatchOutcome} {list : List ℕ} → ListOk T list → o ≡ matched (envOf T list) → Came T o list true
 matched-came T ok e = record { hit = λ t. e; miss = λ t. absurd (false≢true (sym t)); list-ok = ok }
 
 module _ {T : Tables} {scratch places : List ℕ} {at value rest : ℕ} {list : List ℕ} (a : EntryAsks T scratch places at value rest list) where

@@ -15,7 +15,7 @@ use Rattle.planner.specs.Names.{occurrences, namesOf}
 use Rattle.planner.proofs.laws.Mentions.{mentionsAny, mentionsFields, mentions-name, mentions-item, mentions-field}
 use Rattle.base.specs.Lists.{elem}
 use Rattle.value.specs.Value.{Value, literalᵛ, arrayᵛ, objectᵛ, Values, noneᵛ, itemᵛ, ValueFields, doneᵛ, fieldᵛ, filledField, keysᵛ, sameKeys, firstOf, under, proper, properAll, properFields, Proper, holds, same, sameItems, sameFields, Same}
-use Rattle.matching.specs.Matching.{Env, Outcome, next, at, underKey, planKeys, sameLength, run, runItems, runFields, Blanks, BlanksAll, BlanksFields, fill, fillAll, fillFields, SameBlanks, SameBlanksAll, SameBlanksFields}
+use Rattle.matching.specs.Matching.{Env, MatchOutcome, next, at, underKey, planKeys, sameLength, run, runItems, runFields, Blanks, BlanksAll, BlanksFields, fill, fillAll, fillFields, SameBlanks, SameBlanksAll, SameBlanksFields}
 use Rattle.value.proofs.Keys.{and-left, and-right, both, or-left, or-right}
 use Rattle.value.proofs.Equal.{same-refl, same-to}
 use Rattle.matching.proofs.Good.{State, Good, miss, pass, when, also, andThen, named}
@@ -76,7 +76,7 @@ proper-under l (fieldᵛ k v gs) p w e = go (sameKey l k) (proper-under l gs (an
 
 module _ (unbound : ℕ → Bool) (Ok : ℕ → Type 0) where
   -- a field with its rest
-  field-step : {env : Env} {N M : ℕ → Bool} {seen seen′ : List ℕ} {r : Value → Outcome} {k : Env → Outcome} (κ : Option Literal) (v : Expr) (fs : Fields) (gs : ValueFields) → T (isLiteral κ) → T (properFields gs) →
+  field-step : {env : Env} {N M : ℕ → Bool} {seen seen′ : List ℕ} {r : Value → MatchOutcome} {k : Env → MatchOutcome} (κ : Option Literal) (v : Expr) (fs : Fields) (gs : ValueFields) → T (isLiteral κ) → T (properFields gs) →
       ((w : Value) → Proper w → Good unbound Ok env N seen (Fits v w) (r w)) → ((env′ : Env) → State unbound Ok seen env′ → Good unbound Ok env′ M seen′ (FitsFields fs gs) (k env′)) →
       Good unbound Ok env (λ x. N x || M x) seen′ (λ ρ. (b : Blanks v × BlanksFields fs) × T (sameFields (filledField κ (fill ρ v (b .0)) (fillFields ρ fs (b .1))) gs)) (at (underKey κ gs) (λ w. next (r w) k))
   unfolding same

@@ -9,7 +9,7 @@ use Rattle.table.specs.Expr.{name}
 use Rattle.base.specs.Lists.{elem}
 use Rattle.planner.specs.Plan.{var, equalityExpr, fresh}
 use Rattle.value.specs.Value.{Value, Proper, same, Same}
-use Rattle.matching.specs.Matching.{Env, Outcome, matched, missed, pickValue, assign, provided, next, run}
+use Rattle.matching.specs.Matching.{Env, MatchOutcome, matched, missed, pickValue, assign, provided, next, run}
 use Rattle.value.proofs.Keys.{or-left, or-right, or-elim, is-true, is-false, true-is}
 use Rattle.value.proofs.Equal.{same-refl, same-from}
 
@@ -57,7 +57,7 @@ module _ (unbound : ℕ → Bool) (Ok : ℕ → Type 0) where
     pub sound : (ρ : ℕ → Value) → Extends ρ env′ → F ρ
     pub complete : (ρ : ℕ → Value) → Agree ρ env → F ρ → Agree ρ env′
 
-  pub data Good (env : Env) (N : ℕ → Bool) (seen : List ℕ) (F : (ℕ → Value) → Type 0) : Outcome → Type 0 where
+  pub data Good (env : Env) (N : ℕ → Bool) (seen : List ℕ) (F : (ℕ → Value) → Type 0) : MatchOutcome → Type 0 where
     hit : {env′ : Env} → Hit env N seen F env′ → Good env N seen F (matched env′)
     miss : ((ρ : ℕ → Value) → Agree ρ env → F ρ → ⊥) → Good env N seen F missed
 
@@ -66,16 +66,16 @@ module _ (unbound : ℕ → Bool) (Ok : ℕ → Type 0) where
     pub pass : {N : ℕ → Bool} {F : (ℕ → Value) → Type 0} → State seen env → ((x : ℕ) → T (N x) → (u : Value) × (env x ≡ some u)) → ((ρ : ℕ → Value) → Extends ρ env → F ρ) → Good env N seen F (matched env)
     pass s h f = hit (record { state = s; kept = λ x n. refl; extends = λ x u e. e; has = h; sound = f; complete = λ ρ a g. a })
 
-    pub when : {N : ℕ → Bool} {F : (ℕ → Value) → Type 0} {o : Outcome} (c : Bool) → (T c → Good env N seen F o) → ((ρ : ℕ → Value) → Agree ρ env → F ρ → T c) → Good env N seen F (provided c o)
+    pub when : {N : ℕ → Bool} {F : (ℕ → Value) → Type 0} {o : MatchOutcome} (c : Bool) → (T c → Good env N seen F o) → ((ρ : ℕ → Value) → Agree ρ env → F ρ → T c) → Good env N seen F (provided c o)
     when true g f = g tt
     when false g f = miss f
 
-    pub also : {N M : ℕ → Bool} {F G : (ℕ → Value) → Type 0} {o : Outcome} → ((x : ℕ) → N x ≡ M x) → ((ρ : ℕ → Value) → F ρ → G ρ) → ((ρ : ℕ → Value) → G ρ → F ρ) → Good env N seen F o → Good env M seen G o
+    pub also : {N M : ℕ → Bool} {F G : (ℕ → Value) → Type 0} {o : MatchOutcome} → ((x : ℕ) → N x ≡ M x) → ((ρ : ℕ → Value) → F ρ → G ρ) → ((ρ : ℕ → Value) → G ρ → F ρ) → Good env N seen F o → Good env M seen G o
     also q to from (hit h) = hit (record { state = h .state; kept = λ x n. h .kept x (λ t. n (rw (q x) at t)); extends = h .extends; has = λ x t. h .has x (rw (q x) t); sound = λ ρ a. to ρ (h .sound ρ a); complete = λ ρ a g. h .complete ρ a (from ρ g) })
     also q to from (miss f) = miss (λ ρ a g. f ρ a (from ρ g))
 
   module _ {env : Env} {N M : ℕ → Bool} {seen seen′ : List ℕ} {F G : (ℕ → Value) → Type 0} where
-    second : {env′ : Env} {o : Outcome} → Hit env N seen F env′ → Good env′ M seen′ G o → Good env (λ x. N x || M x) seen′ (λ ρ. F ρ × G ρ) o
+    second : {env′ : Env} {o : MatchOutcome} → Hit env N seen F env′ → Good env′ M seen′ G o → Good env (λ x. N x || M x) seen′ (λ ρ. F ρ × G ρ) o
     second h (miss f) = miss (λ ρ a g. f ρ (h .complete ρ a (g .0)) (g .1))
     second {env′} h (hit {env′ = env″} k) = hit (record {
       state = k .state;
@@ -86,7 +86,7 @@ module _ (unbound : ℕ → Bool) (Ok : ℕ → Type 0) where
       complete = λ ρ a g. k .complete ρ (h .complete ρ a (g .0)) (g .1);
     })
 
-    pub andThen : {o : Outcome} {k : Env → Outcome} → Good env N seen F o → ((env′ : Env) → State seen env′ → Good env′ M seen′ G (k env′)) → Good env (λ x. N x || M x) seen′ (λ ρ. F ρ × G ρ) (next o k)
+    pub andThen : {o : MatchOutcome} {k : Env → MatchOutcome} → Good env N seen F o → ((env′ : Env) → State seen env′ → Good env′ M seen′ G (k env′)) → Good env (λ x. N x || M x) seen′ (λ ρ. F ρ × G ρ) (next o k)
     andThen (miss f) g = miss (λ ρ a b. f ρ a (b .0))
     andThen (hit {env′ = env′} h) g = second h (g env′ (h .state))
 

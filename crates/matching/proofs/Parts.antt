@@ -23,12 +23,12 @@ use Rattle.planner.specs.Plan.{arrayPlan, objectPlan}
 use Rattle.planner.specs.Simple.{addKey, keysOf, admitted}
 use Rattle.planner.proofs.fields.Objects.{node-of}
 use Rattle.value.specs.Value.{Value, valueOf, valuesOf, valueFieldsOf, valueAt, under, within, sameKeys}
-use Rattle.value.specs.code.Post.{underFrom, underIn, KeyedObject, KeySetsAsk, ValueNode}
+use Rattle.value.specs.code.Post.{underFrom, underIn, KeyedObject, KeySetsAsks, ValueNode}
 use Rattle.value.proofs.Keys.{is-true, true-is, within→}
 use Rattle.value.proofs.Admitted.{value-keys, array-item, object-value, array-children, object-children, value-node, keyed-object, admitted-value}
 use Rattle.value.proofs.Under.{Fielded, object-fielded, key-of, found-field, found-key, found-value, has-key-at, position-fits, position-key-fits, position-value-fits}
 use Rattle.value.proofs.SameValues.{ValueShape, value-literal, value-array, value-object, value-shape}
-use Rattle.matching.specs.Matching.{Env, Outcome, missed, fault, provided, next, at, underKey, planKeys, sameLength, run, runItems, runFields}
+use Rattle.matching.specs.Matching.{Env, MatchOutcome, missed, fault, provided, next, at, underKey, planKeys, sameLength, run, runItems, runFields}
 use Rattle.matching.specs.code.Post.{nodeAt, placeOf, kindAt, readPlan, readPlans, readFields, visited, envOf, ListOk, runAt, MatchAsks, EntryAsks, ItemsAsks, FieldsAsks, Came}
 use Rattle.matching.proofs.Patterns.{visits-item, visits-value, visits-self, item-deep, value-deep}
 use Rattle.matching.proofs.Lists.{node-value}
@@ -78,10 +78,10 @@ pub node-range : {T : Tables} {m : ℕ} → WellFormed T → Node T m → (1 ≤
 node-range w v = let l = v .low in let h = v .high in let few = w .limits .nodes in (omega arith, omega arith)
 
 -- what comes of a part, and of the rest after it
-came-on : {T : Tables} {o : Outcome} {after : List ℕ} {r : Bool} → Came T o after r → not r ≡ false → (f : Env → Outcome) → next o f ≡ f (envOf T after)
+came-on : {T : Tables} {o : MatchOutcome} {after : List ℕ} {r : Bool} → Came T o after r → not r ≡ false → (f : Env → MatchOutcome) → next o f ≡ f (envOf T after)
 came-on {T} {o} {after} {r} c t f = let e = c .hit (not-false r t) in rw e
 
-came-fails : {T : Tables} {o : Outcome} {after : List ℕ} {r : Bool} → Came T o after r → not r ≡ true → (f : Env → Outcome) → next o f ≡ missed
+came-fails : {T : Tables} {o : MatchOutcome} {after : List ℕ} {r : Bool} → Came T o after r → not r ≡ true → (f : Env → MatchOutcome) → next o f ≡ missed
 came-fails {T} {o} {after} {r} c t f = let e = c .miss (not-true r t) in rw e
 
 -- arrays
@@ -195,7 +195,7 @@ module _ {T : Tables} {scratch places : List ℕ} {n count value rest : ℕ} {be
       part-is = is-part ∙ ap (λ (p : ℕ). childAt (T .children) (p + i)) (go .is-from)
 
       -- the first of what is left, and the rest
-      rest-run : Env → Outcome
+      rest-run : Env → MatchOutcome
       rest-run env = runItems (readPlans (kindAt scratch places) (items (expr T) (T .children) (place + (i + 1)) (count - (i + 1)))) (valuesOf (items (expr T) (T .children) (from + (i + 1)) (count - (i + 1)))) env
 
       step : next (runAt T scratch places child part here) rest-run ≡ runAt T scratch places n value before
@@ -210,7 +210,7 @@ module _ {T : Tables} {scratch places : List ℕ} {n count value rest : ℕ} {be
           ∙ go .same-left
 
       no-fault : runAt T scratch places child part here ≡ fault → ⊥
-      no-fault e = go .asks .asks .no-fault (sym step ∙ ap (λ (o : Outcome). next o rest-run) e)
+      no-fault e = go .asks .asks .no-fault (sym step ∙ ap (λ (o : MatchOutcome). next o rest-run) e)
 
       pub taking-range : (1 ≤ child) × (child ≤ 512)
       taking-range = rw child-is (node-range table item-node)
@@ -283,7 +283,7 @@ module _ {T : Tables} {scratch places : List ℕ} {n value rest : ℕ} {list : L
     value-keyed : KeyedObject T value
     value-keyed = keyed-object T (a .asks .table) value (a .asks .value-ok .node) false (a .asks .value-ok .value) (sym is ∙ nine)
 
-    pub ask-key-sets : KeySetsAsk T n value
+    pub ask-key-sets : KeySetsAsks T n value
     ask-key-sets = record { left = pattern-keyed; right = value-keyed }
 
     runs-fields : runAt T scratch places n value list ≡ provided (sameKeys (keysOf (fieldsOf T n)) (keysOf (fieldsOf T value))) (runFields (readFields (kindAt scratch places) (fieldsOf T n)) (valueFieldsOf (fieldsOf T value)) (envOf T list))
@@ -375,7 +375,7 @@ module _ {T : Tables} {scratch places : List ℕ} {n value rest : ℕ} {before :
           rw is-part (rw e (admitted-value T (valueNode T (firstOf (T .nodes) value) j) (value-node (object-fielded (go .value-object) .asks) j lt)
           (object-value T well value (v .node) false (v .value) (go .value-object .object) j lt)))
 
-      rest-fields : Env → Outcome
+      rest-fields : Env → MatchOutcome
       rest-fields env = runFields (readFields (kindAt scratch places) (fields (expr T) (T .children) (first + (i + 1) * 2) (count - (i + 1)))) (valueFieldsOf (fieldsOf T value)) env
 
       field-step : next (runAt T scratch places child part here) rest-fields ≡ runAt T scratch places n value before
@@ -394,7 +394,7 @@ module _ {T : Tables} {scratch places : List ℕ} {n value rest : ℕ} {before :
           ∙ go .same-left
 
       field-no-fault : runAt T scratch places child part here ≡ fault → ⊥
-      field-no-fault e = go .asks .asks .no-fault (sym field-step ∙ ap (λ (o : Outcome). next o rest-fields) e)
+      field-no-fault e = go .asks .asks .no-fault (sym field-step ∙ ap (λ (o : MatchOutcome). next o rest-fields) e)
 
       field-is : child ≡ valueNode T (firstOf (T .nodes) n) i
       field-is = is-child ∙ ap (λ (p : ℕ). childAt (T .children) (p + i * 2 + 1)) (go .is-first)

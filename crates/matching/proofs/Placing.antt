@@ -22,7 +22,7 @@ use Rattle.planner.proofs.laws.Binders.{lay-plan-of}
 use Rattle.planner.proofs.laws.Sizes.{lay-few-of}
 use Rattle.planner.proofs.fields.Objects.{node-of}
 use Rattle.value.specs.Value.{valueOf}
-use Rattle.matching.specs.Matching.{Outcome, run}
+use Rattle.matching.specs.Matching.{MatchOutcome, run}
 use Rattle.matching.specs.code.Post.{nodeAt, placeOf, placeFrom, placesOf, kindAt, readPlan, visited, entryKind, EntryOf, envOf, runAt, EntryAsks, Came, PlacesAsks, PlanIn, PatternAsks, isMatch, listAfter, PatternCame}
 use Rattle.matching.proofs.Lists.{whole-list}
 use Rattle.matching.proofs.EntryLists.{all-at, Has, here, has-at, blank, scratch-kind, scratch-node, scratch-count}
@@ -315,17 +315,17 @@ module _ {T : Tables} {scratch : List ℕ} {count value : ℕ} {list : List ℕ}
 
     module _ {after : List ℕ} {r : Bool} (c : Came T (runAt T scratch places (nodeAt scratch 0) value list) after r) where
       came-as : (u : ℕ → Bool) (root : ℕ) → PlanIn T u root scratch count → Came T (run (plan u (expr T root) []) (valueOf (expr T value)) (envOf T list)) after r
-      came-as u root p = subst (λ (o : Outcome). Came T o after r) (ap (λ (n : ℕ). runAt T scratch places n value list) (first-node T (a .table) u root p) ∙ runs-plan T (a .table) u root p noted value list) c
+      came-as u root p = subst (λ (o : MatchOutcome). Came T o after r) (ap (λ (n : ℕ). runAt T scratch places n value list) (first-node T (a .table) u root p) ∙ runs-plan T (a .table) u root p noted value list) c
 
       pub pattern-matched : r ≡ true → PatternCame T scratch count value list (record { matched = true; list = after })
       pattern-matched t = record {
         each = λ u root p.
             let d = came-as u root p in
             let e = d .hit t in
-            record { told = sym (ap isMatch e); names = whole-list (a .table) (d .list-ok) ∙ sym (ap (λ (o : Outcome). listAfter o list) e) };
+            record { told = sym (ap isMatch e); names = whole-list (a .table) (d .list-ok) ∙ sym (ap (λ (o : MatchOutcome). listAfter o list) e) };
       }
 
       pub pattern-missed : r ≡ false → PatternCame T scratch count value list (record { matched = false; list = list })
       pattern-missed t = record {
-        each = λ u root p. let e = came-as u root p .miss t in record { told = sym (ap isMatch e); names = sym (ap (λ (o : Outcome). listAfter o list) e) };
+        each = λ u root p. let e = came-as u root p .miss t in record { told = sym (ap isMatch e); names = sym (ap (λ (o : MatchOutcome). listAfter o list) e) };
       }

@@ -11,7 +11,7 @@ use Rattle.base.specs.Lists.{elem}
 use Rattle.planner.specs.Plan.{after}
 use Rattle.planner.specs.Simple.{mentions}
 use Rattle.value.specs.Value.{Value, literalᵛ, proper, Proper, Same}
-use Rattle.matching.specs.Matching.{Env, Outcome, matched, fault, pickValue, Filling, orElse, start, Planned, outcome, Makes, Asked, Promise}
+use Rattle.matching.specs.Matching.{Env, MatchOutcome, matched, fault, pickValue, Filling, orElse, start, Planned, outcome, Makes, Asked, Promise}
 use Rattle.value.proofs.Keys.{and-left, and-right, is-true, true-is}
 use Rattle.value.proofs.Equal.{same-refl, same-sym, same-from}
 use Rattle.matching.proofs.Good.{State, Hit, Good, hit, miss, isNone, Agree, Extends}
@@ -19,15 +19,15 @@ use Rattle.matching.proofs.Fits.{Fits, good, only}
 
 -- what a match means, and what a fit
 module _ {unbound : ℕ → Bool} {Ok : ℕ → Type 0} {env : Env} {N : ℕ → Bool} {seen : List ℕ} {F : (ℕ → Value) → Type 0} where
-  no-fault : {o : Outcome} → Good unbound Ok env N seen F o → ¬ (o ≡ fault)
+  no-fault : {o : MatchOutcome} → Good unbound Ok env N seen F o → ¬ (o ≡ fault)
   no-fault (hit h) q = false≢true (cc)
   no-fault (miss f) q = false≢true (cc)
 
-  hit-of : {o : Outcome} → Good unbound Ok env N seen F o → (env′ : Env) → o ≡ matched env′ → Hit unbound Ok env N seen F env′
+  hit-of : {o : MatchOutcome} → Good unbound Ok env N seen F o → (env′ : Env) → o ≡ matched env′ → Hit unbound Ok env N seen F env′
   hit-of (hit {env′ = env″} h) env′ q = let r : env″ ≡ env′ = cc in rw r at h
   hit-of (miss f) env′ q = absurd (false≢true (cc))
 
-  fit-of : {o : Outcome} → Good unbound Ok env N seen F o → (ρ : ℕ → Value) → Agree ρ env → F ρ → (env′ : Env) × (o ≡ matched env′)
+  fit-of : {o : MatchOutcome} → Good unbound Ok env N seen F o → (ρ : ℕ → Value) → Agree ρ env → F ρ → (env′ : Env) × (o ≡ matched env′)
   fit-of (hit {env′ = env′} h) ρ a f = (env′, refl)
   fit-of (miss g) ρ a f = absurd (g ρ a f)
 

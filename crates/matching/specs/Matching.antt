@@ -19,11 +19,11 @@ use Rattle.value.specs.Value.{Value, literalᵛ, arrayᵛ, objectᵛ, Values, n
 abbrev pub Env : Type 0
 Env = ℕ → Option Value
 
-pub data Outcome : Type 0 where
-  matched : Env → Outcome
-  missed : Outcome
+pub data MatchOutcome : Type 0 where
+  matched : Env → MatchOutcome
+  missed : MatchOutcome
   -- a name without a value is read, or one that has a value is set
-  fault : Outcome
+  fault : MatchOutcome
 
 abbrev pub pickValue : Bool → Option Value → Option Value → Option Value
 pickValue true a b = a
@@ -33,16 +33,16 @@ abbrev pub assign : ℕ → Value → Env → Env
 assign x v env y = pickValue (eqb y x) (some v) (env y)
 
 -- set x, which has the value that stands last
-abbrev pub setting : ℕ → Value → Env → Option Value → Outcome
+abbrev pub setting : ℕ → Value → Env → Option Value → MatchOutcome
 setting x v env none = matched (assign x v env)
 setting x v env (some u) = fault
 
-abbrev pub provided : Bool → Outcome → Outcome
+abbrev pub provided : Bool → MatchOutcome → MatchOutcome
 provided true o = o
 provided false o = missed
 
 -- compare with a name's value
-abbrev pub comparing : Value → Env → Option Value → Outcome
+abbrev pub comparing : Value → Env → Option Value → MatchOutcome
 comparing v env none = fault
 comparing v env (some u) = provided (same u v) (matched env)
 
@@ -55,12 +55,12 @@ nameIn env (set n es) = none
 nameIn env (object n fs) = none
 nameIn env (other n) = none
 
-abbrev pub next : Outcome → (Env → Outcome) → Outcome
+abbrev pub next : MatchOutcome → (Env → MatchOutcome) → MatchOutcome
 next (matched env) f = f env
 next missed f = missed
 next fault f = fault
 
-abbrev pub at : Option Value → (Value → Outcome) → Outcome
+abbrev pub at : Option Value → (Value → MatchOutcome) → MatchOutcome
 at none f = missed
 at (some v) f = f v
 
@@ -79,7 +79,7 @@ sameLength (itemPlan p ps) noneᵛ = false
 sameLength (itemPlan p ps) (itemᵛ v vs) = sameLength ps vs
 
 unfoldable mutual
-  pub run : DestructuringPlan → Value → Env → Outcome
+  pub run : DestructuringPlan → Value → Env → MatchOutcome
   run (var n x) v env = setting x v env (env x)
   run (ignore n) v env = matched env
   run (equalityExpr e) v env = comparing v env (nameIn env e)
@@ -91,12 +91,12 @@ unfoldable mutual
   run (objectPlan n fs) (arrayᵛ m vs) env = missed
   run (objectPlan n fs) (objectᵛ m gs) env = provided (sameKeys (planKeys fs) (keysᵛ gs)) (runFields fs gs env)
 
-  pub runItems : Plans → Values → Env → Outcome
+  pub runItems : Plans → Values → Env → MatchOutcome
   runItems noPlan vs env = matched env
   runItems (itemPlan p ps) noneᵛ env = missed
   runItems (itemPlan p ps) (itemᵛ v vs) env = next (run p v env) (λ env′. runItems ps vs env′)
 
-  pub runFields : FieldPlans → ValueFields → Env → Outcome
+  pub runFields : FieldPlans → ValueFields → Env → MatchOutcome
   runFields noField gs env = matched env
   runFields (fieldPlan k p fs) gs env = at (underKey (literalKey k) gs) (λ v. next (run p v env) (λ env′. runFields fs gs env′))
 
@@ -190,7 +190,7 @@ module _ (unbound : ℕ → Bool) (listed : Env) (e : Expr) (v : Value) where
     pub knownListed : (x : ℕ) → T (mentions x e) → unbound x ≡ false → (w : Value) × (listed x ≡ some w)
 
   -- the pattern's plan, run on the value
-  abbrev pub outcome : Outcome
+  abbrev pub outcome : MatchOutcome
   outcome = run (plan unbound e []) v (start unbound listed)
 
   -- the filling makes pattern and value equal; known names keep their listed values

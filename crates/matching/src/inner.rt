@@ -9,6 +9,8 @@ ghost use Rattle.table.specs.Decode.{expr};
 ghost use Rattle.value.specs.Value.{valueOf, same};
 ghost use Rattle.planner.specs.code.Post.{NameNumber};
 ghost use Rattle.matching.specs.code.Post.{nodeAt, placeOf, placesOf, heldValue, EntryAsks, ItemsAsks, FieldsAsks, CameIn, CompareAsks, PlacesAsks, PatternAsks, PatternCame};
+use planner::entry_kind;
+use table::node_kind;
 use table::reading::child_at;
 use table::reading::count_of;
 use table::reading::first_of;
@@ -80,14 +82,14 @@ fn match_entry(
 {
     let kind = scratch[at * 4];
     let node = scratch[at * 4 + 1];
-    if kind == 1 {
+    if kind == entry_kind::BIND {
         bind_name(nodes, list, node, value);
         return true;
     }
-    if kind == 2 {
+    if kind == entry_kind::IGNORE {
         return true;
     }
-    if kind == 3 {
+    if kind == entry_kind::COMPARE_EXPRESSION {
         return equals_name(
             nodes,
             children,
@@ -100,10 +102,10 @@ fn match_entry(
             value,
         );
     }
-    if kind == 4 {
+    if kind == entry_kind::COMPARE_LITERAL {
         return same_value(nodes, children, numbers, names, strings, text, node, value);
     }
-    if kind == 5 {
+    if kind == entry_kind::ARRAY {
         let count = scratch[at * 4 + 2];
         return match_items(
             nodes,
@@ -156,7 +158,7 @@ fn match_items(
     requires { ⌜ ItemsAsks (given nodes children numbers names strings text) (now scratch) (now places) node count value rest (now list) ⌝ }
     ensures { λ r. let T = lent nodes children numbers names strings text in ⌜ CameIn list T (old scratch) (old places) node value r ⌝ }
 {
-    if kind_of(nodes, value) != 7 {
+    if kind_of(nodes, value) != node_kind::ARRAY {
         return false;
     }
     if count_of(nodes, value) != count {
@@ -208,7 +210,7 @@ fn match_fields(
     requires { ⌜ FieldsAsks (given nodes children numbers names strings text) (now scratch) (now places) node value rest (now list) ⌝ }
     ensures { λ r. let T = lent nodes children numbers names strings text in ⌜ CameIn list T (old scratch) (old places) node value r ⌝ }
 {
-    if kind_of(nodes, value) != 9 {
+    if kind_of(nodes, value) != node_kind::OBJECT {
         return false;
     }
     if !same_key_sets(nodes, children, numbers, names, strings, text, node, value) {

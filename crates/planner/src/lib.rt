@@ -2,6 +2,7 @@
 pub mod buffer;
 pub mod context;
 pub mod destructuring;
+pub mod entry_kind;
 pub mod fields;
 pub mod inner;
 pub mod parameters;

@@ -7,6 +7,7 @@ ghost use Rattle.report.specs.code.Post.{EntryBound, markedBy, BoundAsks
 use inner::mark_met;
 use inner::names_met;
 use planner::buffer::clear;
+use planner::entry_kind;
 use planner::inner::destructuring::plan_pattern;
 use scope::Scope;
 use scope::ScopingMode;
@@ -30,7 +31,7 @@ fn mark_entry(nodes: &[u32], kind: u32, node: u32, list: &mut [u32])
     requires { ⌜ EntryBound (now nodes) kind node (now list) ⌝ }
     ensures { λ _. ⌜ new list ≡ markedBy (old nodes) kind node (old list) ⌝ }
 {
-    if kind == 1 {
+    if kind == entry_kind::BIND {
         let name = first_of(nodes, node) as usize;
         list[name - 1] = 1;
     }

@@ -26,7 +26,7 @@ use Rattle.planner.proofs.buffer.Filling.{length-tabulate, getD-tabulate}
 use Rattle.value.specs.Value.{Value, valueOf, nodeᵛ, nodeIn, Same}
 use Rattle.value.proofs.Keys.{is-true, true-is}
 use Rattle.value.proofs.Equal.{laws}
-use Rattle.matching.specs.Matching.{Env, Outcome, matched, missed, fault, pickValue, start, Filling, Promise}
+use Rattle.matching.specs.Matching.{Env, MatchOutcome, matched, missed, fault, pickValue, start, Filling, Promise}
 use Rattle.matching.proofs.Fits.{filled}
 use Rattle.report.proofs.Meeting.{mentioned-named}
 use Rattle.run.specs.Answer.{RunResult, aMatch, noMatch}
@@ -111,12 +111,12 @@ module _ (T : Tables) (s : Scope) (mode : ScopingMode) (pattern value : ℕ) (va
       ap₂ (λ (toSet : ℕ → Bool) (o : RunOutcome). valuesAfter toSet o buffer values) planned outcome-is ∙ rw f
 
   -- match or no match
-  decided : (o : Outcome) → (carriedResult o ≡ aMatch) ⊎ (carriedResult o ≡ noMatch)
+  decided : (o : MatchOutcome) → (carriedResult o ≡ aMatch) ⊎ (carriedResult o ≡ noMatch)
   decided (matched env) = inl refl
   decided missed = inr refl
   decided fault = inr refl
 
-  match-env : (o : Outcome) → carriedResult o ≡ aMatch → (env : Env) × (o ≡ matched env)
+  match-env : (o : MatchOutcome) → carriedResult o ≡ aMatch → (env : Env) × (o ≡ matched env)
   match-env (matched env) e = (env, refl)
   match-env missed e = absurd (false≢true (cc))
   match-env fault e = absurd (false≢true (cc))
@@ -144,11 +144,11 @@ module _ (T : Tables) (s : Scope) (mode : ScopingMode) (pattern value : ℕ) (va
       → getD (list T s mode pattern value values buffer) i 0 ≡ cond (toBind (isUnbound s mode) (expr T pattern) (i + 1)) (nodeIn (env (i + 1))) (getD values i 0)
   entry-at env e i lt =
       let z : 0 + i ≡ i = omega arith in
-      ap (λ (l : List ℕ). getD l i 0) (list-is ∙ ap (λ (o : Outcome). setNames (toBind (isUnbound s mode) (expr T pattern)) o values) e)
+      ap (λ (l : List ℕ). getD l i 0) (list-is ∙ ap (λ (o : MatchOutcome). setNames (toBind (isUnbound s mode) (expr T pattern)) o values) e)
       ∙ (getD-tabulate (λ j. cond (toBind (isUnbound s mode) (expr T pattern) (j + 1)) (nodeIn (env (j + 1))) (getD values j 0)) 0 (length values) i lt
       ∙ ap (λ (j : ℕ). cond (toBind (isUnbound s mode) (expr T pattern) (j + 1)) (nodeIn (env (j + 1))) (getD values j 0)) z)
 
-  list-long : (o : Outcome) → length (setNames (toBind (isUnbound s mode) (expr T pattern)) o values) ≡ length values
+  list-long : (o : MatchOutcome) → length (setNames (toBind (isUnbound s mode) (expr T pattern)) o values) ≡ length values
   list-long (matched env) = length-tabulate (λ j. cond (toBind (isUnbound s mode) (expr T pattern) (j + 1)) (nodeIn (env (j + 1))) (getD values j 0)) 0 (length values)
   list-long missed = refl
   list-long fault = refl
@@ -183,7 +183,7 @@ module _ (T : Tables) (s : Scope) (mode : ScopingMode) (pattern value : ℕ) (va
       unplanned true e = absurd (no-plan (subst (λ (f : ℕ → Bool). True (f (i + 1))) (sym planned) (true-is e)))
       unplanned false e = refl
 
-      go : (o : Outcome) (b : Bool) → leb (length values) i ≡ b → getD (setNames (toBind (isUnbound s mode) (expr T pattern)) o values) i 0 ≡ getD values i 0
+      go : (o : MatchOutcome) (b : Bool) → leb (length values) i ≡ b → getD (setNames (toBind (isUnbound s mode) (expr T pattern)) o values) i 0 ≡ getD values i 0
       go (matched env) true e =
           let le = leb-true (length values) i e in
           let l = list-long (matched env) in
@@ -200,7 +200,7 @@ module _ (T : Tables) (s : Scope) (mode : ScopingMode) (pattern value : ℕ) (va
   unmatched : answer T s mode pattern value values buffer ≡ noMatch → list T s mode pattern value values buffer ≡ values
   unmatched e = list-is ∙ go (ran T s mode pattern value values) (sym answer-is ∙ e)
     where
-      go : (o : Outcome) → carriedResult o ≡ noMatch → setNames (toBind (isUnbound s mode) (expr T pattern)) o values ≡ values
+      go : (o : MatchOutcome) → carriedResult o ≡ noMatch → setNames (toBind (isUnbound s mode) (expr T pattern)) o values ≡ values
       go (matched env) q = absurd (false≢true (cc))
       go missed q = refl
       go fault q = refl

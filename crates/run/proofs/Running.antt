@@ -39,7 +39,7 @@ use Rattle.value.specs.code.Post.{ValueNode}
 use Rattle.value.proofs.Keys.{true-is, is-true}
 use Rattle.value.proofs.Admitted.{value-proper}
 use Rattle.matching.specs.declared.inner.Matched.{Matched}
-use Rattle.matching.specs.Matching.{Env, Outcome, matched, missed, fault, pickValue, run, start, Asked, Promise}
+use Rattle.matching.specs.Matching.{Env, MatchOutcome, matched, missed, fault, pickValue, run, start, Asked, Promise}
 use Rattle.matching.specs.code.Post as Post
 use Rattle.matching.specs.code.Post.{envOf, ListOk, PlanIn, isMatch, listAfter, Ended, PatternCame}
 use Rattle.matching.proofs.Promise as Promise·
@@ -272,12 +272,12 @@ module _ {T : Tables} {s : Scope} {mode : ScopingMode} {scratch : List ℕ} {cou
 
     module _ {r : Matched} (came : PatternCame T scratch count value list r) (binders : List ℕ) where
       of-root : (root : ℕ) → RunAsks T s mode root value before → PatternPlanned T s mode root 0 (replicate 2048 0) binders scratch count → Ended (ran T s mode root value before) list r
-      of-root root b p = subst (λ (o : Outcome). Ended o list r) (ran-here b of) (came .each (isUnbound s mode) root (plan-in b of (scratch-laid (p .wrote) (p .few))))
+      of-root root b p = subst (λ (o : MatchOutcome). Ended o list r) (ran-here b of) (came .each (isUnbound s mode) root (plan-in b of (scratch-laid (p .wrote) (p .few))))
 
       pub values-missed : not (r .matched) ≡ true → ValuesCame T s mode scratch count binders value before before NoMatch
       values-missed t = record { each = λ root b p. by root (ran T s mode root value before) (sym (of-root root b p .told) ∙ not-true (r .matched) t) }
         where
-          by : (root : ℕ) (o : Outcome) → isMatch o ≡ false → (noMatch ≡ carriedResult o) × (before ≡ setNames (toBind (isUnbound s mode) (expr T root)) o before)
+          by : (root : ℕ) (o : MatchOutcome) → isMatch o ≡ false → (noMatch ≡ carriedResult o) × (before ≡ setNames (toBind (isUnbound s mode) (expr T root)) o before)
           by root (matched env) e = absurd (false≢true (sym e))
           by root missed e = (refl, refl)
           by root fault e = (refl, refl)
@@ -287,7 +287,7 @@ module _ {T : Tables} {s : Scope} {mode : ScopingMode} {scratch : List ℕ} {cou
         each = λ root b p. let d = of-root root b p in by root b p (ran T s mode root value before) (sym (d .told) ∙ not-false (r .matched) t) (d .names);
       }
         where
-          by : (root : ℕ) → RunAsks T s mode root value before → PatternPlanned T s mode root 0 (replicate 2048 0) binders scratch count → (o : Outcome) → isMatch o ≡ true → r .list ≡ listAfter o list
+          by : (root : ℕ) → RunAsks T s mode root value before → PatternPlanned T s mode root 0 (replicate 2048 0) binders scratch count → (o : MatchOutcome) → isMatch o ≡ true → r .list ≡ listAfter o list
               → (aMatch ≡ carriedResult o) × (after ≡ setNames (toBind (isUnbound s mode) (expr T root)) o before)
           by root b p (matched env) e l = (refl, names-set b p env l set)
           by root b p missed e l = absurd (false≢true e)

@@ -21,7 +21,7 @@ use Rattle.value.specs.code.Post.{ValueNode}
 use Rattle.value.proofs.Node as Node·
 use Rattle.value.proofs.Admitted.{array-item, object-value, array-children, object-children, value-node, admitted-value}
 use Rattle.value.proofs.SameValues.{ValueShape, value-literal, value-array, value-object, value-shape}
-use Rattle.matching.specs.Matching.{Env, Outcome, matched, missed, fault, pickValue, assign, setting, provided, comparing, nameIn, next, at, underKey, planKeys, sameLength, run, runItems, runFields}
+use Rattle.matching.specs.Matching.{Env, MatchOutcome, matched, missed, fault, pickValue, assign, setting, provided, comparing, nameIn, next, at, underKey, planKeys, sameLength, run, runItems, runFields}
 
 -- the value at a value's node
 pub record Tabled (T : Tables) (v : Value) : Type 0 where
@@ -74,7 +74,7 @@ module _ (T : Tables) where
       go false q = a y u q
 
   -- what a run comes to
-  abbrev Ends : Outcome → Type 0
+  abbrev Ends : MatchOutcome → Type 0
   Ends o = (env : Env) → o ≡ matched env → EnvTabled env
 
   ends-missed : Ends missed
@@ -86,7 +86,7 @@ module _ (T : Tables) where
   ends-same : (env : Env) → EnvTabled env → Ends (matched env)
   ends-same env a env′ e = let q : env ≡ env′ = cc in rw (sym q) a
 
-  ends-provided : (b : Bool) (o : Outcome) → Ends o → Ends (provided b o)
+  ends-provided : (b : Bool) (o : MatchOutcome) → Ends o → Ends (provided b o)
   ends-provided true o a = a
   ends-provided false o a = ends-missed
 
@@ -98,12 +98,12 @@ module _ (T : Tables) where
   ends-comparing v env none a = ends-fault
   ends-comparing v env (some u) a = ends-provided (same u v) (matched env) (ends-same env a)
 
-  ends-next : (o : Outcome) (f : Env → Outcome) → Ends o → ((env : Env) → EnvTabled env → Ends (f env)) → Ends (next o f)
+  ends-next : (o : MatchOutcome) (f : Env → MatchOutcome) → Ends o → ((env : Env) → EnvTabled env → Ends (f env)) → Ends (next o f)
   ends-next (matched env) f a g = g env (a env refl)
   ends-next missed f a g = ends-missed
   ends-next fault f a g = ends-fault
 
-  ends-at : (o : Option Value) (f : Value → Outcome) → ((v : Value) → o ≡ some v → Ends (f v)) → Ends (at o f)
+  ends-at : (o : Option Value) (f : Value → MatchOutcome) → ((v : Value) → o ≡ some v → Ends (f v)) → Ends (at o f)
   ends-at none f g = ends-missed
   ends-at (some v) f g = g v refl
 

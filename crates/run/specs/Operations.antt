@@ -20,7 +20,7 @@ use Rattle.planner.specs.Layout.{Entry, entries}
 use Rattle.planner.specs.Operations.{planOf, planned, fits, zeros, written}
 use Rattle.planner.specs.Simple.{simple, mentions}
 use Rattle.value.specs.Value.{isValue, valueOf, valueAt, nodeIn}
-use Rattle.matching.specs.Matching.{Env, Outcome, matched, missed, fault, outcome}
+use Rattle.matching.specs.Matching.{Env, MatchOutcome, matched, missed, fault, outcome}
 use Rattle.run.specs.declared.RunAnswer.{RunAnswer}
 use Rattle.run.specs.Answer.{RunResult, turnedBack, aMatch, noMatch, resultOf}
 
@@ -52,7 +52,7 @@ knownListed T isKnown e values = allNames T (λ x. not (mentions x e && isKnown 
 -- What a run comes to before the buffer is looked at: a refusal, or the plan's entries and what carrying it out came to.
 pub data RunOutcome : Type 0 where
   refused : Refusal → RunOutcome
-  carriedOut : List Entry → Outcome → RunOutcome
+  carriedOut : List Entry → MatchOutcome → RunOutcome
 
 -- a test, its refusal, and the rest
 abbrev pub require : Bool → Refusal → RunOutcome → RunOutcome
@@ -63,7 +63,7 @@ tableFirst = testedOr refused
 
 module _ (T : Tables) (s : Scope) (mode : ScopingMode) (pattern value : ℕ) (values : List ℕ) where
   -- the pattern's plan, run on the value from the listed values of the known names
-  abbrev pub ran : Outcome
+  abbrev pub ran : MatchOutcome
   ran = outcome (isUnbound s mode) (listed T values) (expr T pattern) (valueOf (expr T value))
 
   abbrev pub roots : List ℕ
@@ -85,7 +85,7 @@ module _ (T : Tables) (s : Scope) (mode : ScopingMode) (pattern value : ℕ) (va
   runOutcome = checkedOr refused T s roots runInside
 
 -- A fault never comes up (demand 3).
-abbrev pub carriedResult : Outcome → RunResult
+abbrev pub carriedResult : MatchOutcome → RunResult
 carriedResult (matched env) = aMatch
 carriedResult missed = noMatch
 carriedResult fault = noMatch
@@ -101,7 +101,7 @@ planAfter (refused a) buffer = zeros buffer
 planAfter (carriedOut es o) buffer = written (planned 0 0 es) buffer
 
 -- The names to be set have the nodes of their values, the others what stood there.
-abbrev pub setNames : (ℕ → Bool) → Outcome → List ℕ → List ℕ
+abbrev pub setNames : (ℕ → Bool) → MatchOutcome → List ℕ → List ℕ
 setNames toSet (matched env) values = tabulate (λ i. cond (toSet (i + 1)) (nodeIn (env (i + 1))) (getD values i 0)) 0 (length values)
 setNames toSet missed values = values
 setNames toSet fault values = values

@@ -12,7 +12,7 @@ ghost use Rattle.value.specs.Value.{isValue};
 ghost use Rattle.run.specs.Operations.{valuesListed};
 ghost use Rattle.run.specs.code.ChecksPost.{markedNode, markedIfListed, allMarked, ValuesAsks, AllAsks};
 use table::reading::is_node;
-use value::inner::marks::mark_nodes;
+use value::inner::admitted::mark_nodes;
 
 pub(crate) fn is_simple(
     nodes: &[u32],

@@ -4,7 +4,7 @@ ghost use mathlib.Core.Path.{_≡_};
 ghost use Prim.Native.Nat.{_+_, _*_, _<_, _≤_};
 ghost use lib.ListN.{length};
 ghost use Rattle.sheet.specs.Lines.{columnPlace, isLineFeed, lineLength, lineOk, linesOk, numberLineOk, numberLinesOk, wordAt, numberWord};
-ghost use Rattle.sheet.specs.code.Post.{WordRead, LineAsked, LinesAsked, NumberAsked, NumbersAsked, Read};
+ghost use Rattle.sheet.specs.code.Post.{WordRead, LineAsks, LinesAsks, NumberAsks, NumbersAsks, Read};
 use columns::Column;
 use columns::SignedColumn;
 use columns::read::column_of;
@@ -41,7 +41,7 @@ fn is_line_feed(sheet: &[u8], at: usize) -> bool
 
 // Line i: columns of six, then LF.
 fn read_line(sheet: &[u8], at: usize, columns: usize, i: usize, out: &mut [u32]) -> bool
-    requires { ⌜ LineAsked (now sheet) at columns i (now out) ⌝ }
+    requires { ⌜ LineAsks (now sheet) at columns i (now out) ⌝ }
     ensures { λ r. ⌜ Read (wordAt (old sheet) at (lineLength columns) columns) (i * columns + columns) (lineOk (old sheet) at columns i) (new out) r ⌝ }
 {
     let place = at + i * (columns * COLUMN + 1);
@@ -67,7 +67,7 @@ pub(crate) fn read_lines(
     count: usize,
     out: &mut [u32],
 ) -> bool
-    requires { ⌜ LinesAsked at columns count (now out) ⌝ }
+    requires { ⌜ LinesAsks at columns count (now out) ⌝ }
     ensures { λ r. ⌜ Read (wordAt (old sheet) at (lineLength columns) columns) (count * columns) (linesOk (old sheet) at columns count) (new out) r ⌝ }
 {
     let mut i: usize = 0;
@@ -82,7 +82,7 @@ pub(crate) fn read_lines(
 
 // Line i: a column of twenty, then LF. Its words are 1 for below zero or 0, and the size.
 fn read_number(sheet: &[u8], at: usize, i: usize, out: &mut [u64]) -> bool
-    requires { ⌜ NumberAsked (now sheet) at i (now out) ⌝ }
+    requires { ⌜ NumberAsks (now sheet) at i (now out) ⌝ }
     ensures { λ r. ⌜ Read (numberWord (old sheet) at) (i * 2 + 2) (numberLineOk (old sheet) at i) (new out) r ⌝ }
 {
     let place = at + i * NUMBER_LINE;
@@ -97,7 +97,7 @@ fn read_number(sheet: &[u8], at: usize, i: usize, out: &mut [u64]) -> bool
 }
 
 pub(crate) fn read_numbers(sheet: &[u8], at: usize, count: usize, out: &mut [u64]) -> bool
-    requires { ⌜ NumbersAsked at count (now out) ⌝ }
+    requires { ⌜ NumbersAsks at count (now out) ⌝ }
     ensures { λ r. ⌜ Read (numberWord (old sheet) at) (count * 2) (numberLinesOk (old sheet) at count) (new out) r ⌝ }
 {
     let mut i: usize = 0;

@@ -8,7 +8,7 @@ ghost use Rattle.operation.specs.Rows.{rowLine};
 ghost use Rattle.columns.specs.Columns.{stored};
 ghost use Rattle.sheet.specs.Lines.{columnPlace, lineLength};
 ghost use Rattle.sheet.specs.Listing.{entryLine, lineBytes, linesBytes};
-ghost use Rattle.sheet.specs.code.Post.{writePair, entriesIn, entryLines, answerLines, EntriesAsked, PrintedIn, refusalBytes};
+ghost use Rattle.sheet.specs.code.Post.{writePair, entriesIn, entryLines, answerLines, EntriesAsks, PrintedIn, refusalBytes};
 use crate::lines::COLUMN;
 use columns::write::write_column;
 use operation::row::Row;
@@ -73,7 +73,7 @@ fn entry_row(plan: &[u32], i: usize) -> Row
 
 // The entries of the plan, after the answer's line.
 fn write_entries(out: &mut [u8], plan: &[u32], count: usize)
-    requires { ⌜ EntriesAsked (now out) (now plan) count ⌝ }
+    requires { ⌜ EntriesAsks (now out) (now plan) count ⌝ }
     ensures { λ _. ⌜ new out ≡ stored (old out) (lineLength 4) (linesBytes (entryLines (old plan) 0 count)) ⌝ }
 {
     let mut i: usize = 0;

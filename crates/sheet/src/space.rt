@@ -7,7 +7,7 @@ ghost use lib.ListN.{length};
 ghost use Rattle.base.specs.Lent.{old};
 ghost use Rattle.sheet.specs.Listing.{listingOf};
 ghost use Rattle.sheet.specs.code.Header.{Headed};
-ghost use Rattle.sheet.specs.code.Post.{planWords, smallWords, isSmall, PrintedIn, TriedIn, Tabled};
+ghost use Rattle.sheet.specs.code.Post.{planWords, smallWords, isSmall, PrintedIn, TriedIn, SheetHeld};
 use crate::header::Counts;
 use crate::header::Header;
 use crate::header::MOST_CHILDREN;
@@ -80,7 +80,7 @@ fn plan_tables(
     plan: &mut [u32],
     out: &mut [u8],
 ) -> Tried
-    requires { ⌜ Tabled (now sheet) header (now nodes) (now children) (now numbers) (now names) (now marks) × (length (now plan) ≤ planWords) ⌝ }
+    requires { ⌜ SheetHeld (now sheet) header (now nodes) (now children) (now numbers) (now names) (now marks) × (length (now plan) ≤ planWords) ⌝ }
     ensures { λ r. ⌜ TriedIn out (listingOf (old sheet)) (length (old plan)) r ⌝ }
 {
     let counts = header.counts;

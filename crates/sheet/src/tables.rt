@@ -1,7 +1,7 @@
 // The tables of a sheet, read into space for them.
 ghost use Prim.Native.Nat.{_*_, _≤_};
 ghost use Rattle.base.specs.Lent.{old, new};
-ghost use Rattle.sheet.specs.code.Post.{Filled, nameWord, LinesAsked, NamesAsked, MarksAsked, MarksRead, NamesRead, TablesAsked, TablesRead};
+ghost use Rattle.sheet.specs.code.Post.{Filled, nameWord, LinesAsks, NamesAsks, MarksAsks, MarksRead, NamesRead, TablesAsks, TablesRead};
 use crate::header::Header;
 use crate::lines::read_lines;
 use crate::lines::read_numbers;
@@ -10,7 +10,7 @@ const MOST_MARKS: u32 = 31;
 
 // The lines of names are start, length, marks: starts and lengths, with the marks between them left out.
 fn close_up(rows: &mut [u32], count: usize)
-    requires { ⌜ NamesAsked (now rows) count ⌝ }
+    requires { ⌜ NamesAsks (now rows) count ⌝ }
     ensures { λ _. ⌜ Filled (nameWord (old rows)) (count * 2) (new rows) ⌝ }
 {
     let words = count * 2;
@@ -23,7 +23,7 @@ fn close_up(rows: &mut [u32], count: usize)
 
 // Whether all marks are 0 to 31.
 fn fill_marks(rows: &[u32], count: usize, marks: &mut [u8]) -> bool
-    requires { ⌜ MarksAsked (now rows) count (now marks) ⌝ }
+    requires { ⌜ MarksAsks (now rows) count (now marks) ⌝ }
     ensures { λ r. ⌜ MarksRead (old rows) count (old marks) (new marks) r ⌝ }
 {
     let mut x: usize = 0;
@@ -46,7 +46,7 @@ fn read_names(
     names: &mut [u32],
     marks: &mut [u8; 128],
 ) -> bool
-    requires { ⌜ LinesAsked at 3 count (now names) × (count ≤ 128) ⌝ }
+    requires { ⌜ LinesAsks at 3 count (now names) × (count ≤ 128) ⌝ }
     ensures { λ r. ⌜ NamesRead (old sheet) at count (new names) (old marks) (new marks) r ⌝ }
 {
     if !read_lines(sheet, at, 3, count, names) {
@@ -69,7 +69,7 @@ pub(crate) fn read_tables(
     names: &mut [u32],
     marks: &mut [u8; 128],
 ) -> bool
-    requires { ⌜ TablesAsked header (now nodes) (now children) (now numbers) (now names) ⌝ }
+    requires { ⌜ TablesAsks header (now nodes) (now children) (now numbers) (now names) ⌝ }
     ensures { λ r. ⌜ TablesRead (old sheet) (header .counts) (new nodes) (new children) (new numbers) (new names) (old marks) (new marks) r ⌝ }
 {
     let counts = header.counts;

@@ -18,14 +18,14 @@ use Rattle.checks.specs.Structure.{structure}
 use Rattle.checks.specs.code.Post.{itemsAt}
 use Rattle.planner.specs.code.Post.{GoodPair}
 use Rattle.some_in.specs.SomeIn.{isMismatch, anyFits, firstMismatch, itemsStructure, collectionStructure}
-use Rattle.some_in.specs.code.Post.{ItemsAsk}
+use Rattle.some_in.specs.code.Post.{ItemsAsks}
 
 -- the items in turn
 pub record Looking (T : Tables) (pattern at left place more : ℕ) : Type 0 where
-  pub asks : ItemsAsk T pattern place more
+  pub asks : ItemsAsks T pattern place more
   pub same : anyFits (itemsAt T place more) (expr T pattern) ≡ anyFits (itemsAt T at left) (expr T pattern)
 
-pub looking-start : {T : Tables} {pattern at left : ℕ} → ItemsAsk T pattern at left → Looking T pattern at left at left
+pub looking-start : {T : Tables} {pattern at left : ℕ} → ItemsAsks T pattern at left → Looking T pattern at left at left
 looking-start a = record { asks = a; same = refl }
 
 module _ {T : Tables} {pattern at left place more : ℕ} (go : Looking T pattern at left place more) where
@@ -65,7 +65,7 @@ module _ {T : Tables} {pattern at left place more : ℕ} (go : Looking T pattern
   looking-ends le = sym (ap (λ (es : Exprs). anyFits es (expr T pattern)) (items-end (expr T) (T .children) place more le)) ∙ go .same
 
 -- all of them
-module _ {T : Tables} {pattern at left : ℕ} (a : ItemsAsk T pattern at left) where
+module _ {T : Tables} {pattern at left : ℕ} (a : ItemsAsks T pattern at left) where
   pub items-empty : left ≡ 0 → Unknown ≡ itemsStructure (itemsAt T at left) (expr T pattern)
   unfolding anyFits firstMismatch
   items-empty e = let n = items-end (expr T) (T .children) at left (omega arith) in rw n
@@ -120,7 +120,7 @@ module _ {T : Tables} {pattern collection : ℕ} (a : GoodPair T pattern collect
     is-array-kind : kindOf (T .nodes) collection ≡ 7
     is-array-kind = sym is-kind ∙ k
 
-    pub ask-items : ItemsAsk T pattern at left
+    pub ask-items : ItemsAsks T pattern at left
     ask-items =
         let e = width-array (kindOf (T .nodes) collection) (countOf (T .nodes) collection) is-array-kind in
         let l = a .table .listed collection (a .second) (omega (arith, is-array-kind)) (omega (arith, is-array-kind)) in

@@ -5,9 +5,10 @@ ghost use Rattle.planner.specs.code.Post.{GoodPair};
 ghost use Rattle.table.specs.Decode.{expr};
 ghost use Rattle.checks.specs.code.Post.{itemsAt};
 ghost use Rattle.some_in.specs.SomeIn.{isMismatch, anyFits, itemsStructure, collectionStructure};
-ghost use Rattle.some_in.specs.code.Post.{ItemsAsk};
+ghost use Rattle.some_in.specs.code.Post.{ItemsAsks};
 use checks::LiteralStructureCheck;
 use checks::inner::check_literal_structure;
+use table::node_kind;
 use table::reading::child_at;
 use table::reading::count_of;
 use table::reading::first_of;
@@ -40,7 +41,7 @@ fn any_fits(
     at: usize,
     left: usize,
 ) -> bool
-    requires { ⌜ ItemsAsk (given nodes children numbers names strings text) pattern at left ⌝ }
+    requires { ⌜ ItemsAsks (given nodes children numbers names strings text) pattern at left ⌝ }
     ensures { λ r. let T = lent nodes children numbers names strings text in ⌜ r ≡ anyFits (itemsAt T at left) (expr T pattern) ⌝ }
 {
     let mut place = at;
@@ -67,7 +68,7 @@ fn any_fits(
 }
 
 // Where no item fits each is a mismatch, so the first mismatch is the first item's.
-fn check_items(
+fn check_collection_items(
     nodes: &[u32],
     children: &[u32],
     numbers: &[u64],
@@ -78,7 +79,7 @@ fn check_items(
     at: usize,
     left: usize,
 ) -> LiteralStructureCheck
-    requires { ⌜ ItemsAsk (given nodes children numbers names strings text) pattern at left ⌝ }
+    requires { ⌜ ItemsAsks (given nodes children numbers names strings text) pattern at left ⌝ }
     ensures { λ r. let T = lent nodes children numbers names strings text in ⌜ r ≡ itemsStructure (itemsAt T at left) (expr T pattern) ⌝ }
 {
     if left == 0 {
@@ -123,12 +124,12 @@ pub(crate) fn check_collection(
     requires { ⌜ GoodPair (given nodes children numbers names strings text) pattern collection ⌝ }
     ensures { λ r. let T = lent nodes children numbers names strings text in ⌜ r ≡ collectionStructure (expr T collection) (expr T pattern) ⌝ }
 {
-    if kind_of(nodes, collection) != 7 {
+    if kind_of(nodes, collection) != node_kind::ARRAY {
         return LiteralStructureCheck::Unknown;
     }
     let at = first_of(nodes, collection) as usize;
     let left = count_of(nodes, collection) as usize;
-    check_items(
+    check_collection_items(
         nodes,
         children,
         numbers,

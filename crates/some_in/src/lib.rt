@@ -21,7 +21,7 @@ use table::check;
 use table::reading::is_node;
 
 // A pattern's plan in the buffer: the place after its entries, and the first name that is defined already, or 0.
-pub struct ValidatedPlan {
+struct ValidatedPlan {
     pub end: usize,
     pub name: u32,
 }

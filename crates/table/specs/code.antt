@@ -1,5 +1,5 @@
 -- What only the code's proofs need.
-pub mod Marks
+pub mod Distinct
 pub mod Depths
 pub mod Passes
 pub mod NameOrder

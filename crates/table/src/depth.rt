@@ -5,7 +5,7 @@ use crate::reading::width_at;
 ghost use Rattle.base.specs.Lent.{old};
 ghost use mathlib.Core.Path.{_≡_};
 ghost use Prim.Native.Nat.{max};
-ghost use Rattle.table.specs.code.Depths.{deepest, listedDepth, ChildrenAsk, DepthsAsk, DepthsTold};
+ghost use Rattle.table.specs.code.Depths.{deepest, listedDepth, ChildrenAsks, DepthsAsks, DepthsTold};
 
 fn deeper(a: u8, b: u8) -> u8
     ensures { λ r. ⌜ r ≡ max a b ⌝ }
@@ -18,7 +18,7 @@ fn deeper(a: u8, b: u8) -> u8
 
 // The greatest depth of the children, where the depth of node n stands at n - 1.
 fn deepest_of(children: &[u32], depths: &[u8; 512], first: usize, count: usize) -> u8
-    requires { ⌜ ChildrenAsk (now children) first count ⌝ }
+    requires { ⌜ ChildrenAsks (now children) first count ⌝ }
     ensures { λ r. ⌜ r ≡ deepest (listedDepth (old depths)) (old children) first count ⌝ }
 {
     let mut deep: u8 = 0;
@@ -33,7 +33,7 @@ fn deepest_of(children: &[u32], depths: &[u8; 512], first: usize, count: usize) 
 
 // Is every depth at most 32? A child's stands before its parent's.
 pub(crate) fn depths_ok(nodes: &[u32], children: &[u32]) -> bool
-    requires { ⌜ DepthsAsk (now nodes) (now children) ⌝ }
+    requires { ⌜ DepthsAsks (now nodes) (now children) ⌝ }
     ensures { λ r. ⌜ DepthsTold (old nodes) (old children) r ⌝ }
 {
     let mut depths = [0u8; 512];

@@ -10,8 +10,9 @@ ghost use mathlib.Core.Path.{_≡_};
 ghost use Rattle.table.specs.Check.{TableAnswered, tableRefused};
 
 mod depth;
-mod marks;
+mod distinct;
 mod names;
+pub mod node_kind;
 mod nodes;
 pub mod reading;
 mod rules;

@@ -3,7 +3,6 @@ use crate::reading::name_bytes;
 use base::bytes::insert_at;
 use literal::Comparison;
 use literal::order::compare_bytes;
-use literal::order::wide;
 ghost use Rattle.base.specs.Lent.{old};
 ghost use mathlib.Core.Path.{_≡_};
 ghost use mathlib.Core.List.{[]};
@@ -22,7 +21,7 @@ fn find_name(names: &[u32], text: &[u8], order: &[u8; 128], count: usize, bytes:
     let mut high = count;
     while low < high {
         let middle = low + (high - low) / 2;
-        let other = name_bytes(names, text, wide(order[middle]) as u32);
+        let other = name_bytes(names, text, order[middle] as u32);
         match compare_bytes(bytes, other) {
             Comparison::Less => high = middle,
             Comparison::Greater => low = middle + 1,

@@ -1,6 +1,7 @@
 // The table rules that speak of the nodes.
-use crate::marks::distinct_entries;
-use crate::marks::places_apart;
+use crate::distinct::distinct_entries;
+use crate::distinct::places_apart;
+use crate::node_kind;
 use crate::reading::bytes_between;
 use crate::reading::child_at;
 use crate::reading::name_bytes;
@@ -18,7 +19,7 @@ ghost use lib.ListN.{length};
 ghost use Rattle.table.specs.Tables.{tables, firstOf, countOf};
 ghost use Rattle.base.specs.Lists.{allFrom};
 ghost use Rattle.table.specs.Rules.{spanOk, wordsOk, childrenBelow};
-ghost use Rattle.table.specs.code.Passes.{wordsOkAt, headOkAt, childrenBelowAt, NodesAsk, nodesOk};
+ghost use Rattle.table.specs.code.Passes.{wordsOkAt, headOkAt, childrenBelowAt, NodesAsks, nodesOk};
 
 // Does a range end no later than what it points into?
 pub(crate) fn in_range(start: usize, count: usize, length: usize) -> bool
@@ -90,16 +91,16 @@ fn words_ok(
     let first = node_word(nodes, i, 3) as usize;
     let count = node_word(nodes, i, 4) as usize;
     match kind {
-        1 => in_range(first, count, strings.len()),
-        2 => in_range(first, count, text.len()),
-        3 => one_word(first, numbers.len() / 2, count),
-        4 => one_word(first, 2, count),
-        5 => one_word(first, 1, count),
-        6 => name_words_ok(nodes, names, text, i),
-        7 => in_range(first, count, children.len()),
-        8 => in_range(first, count, children.len()),
-        9 => in_range(first, count * 2, children.len()),
-        10 => one_word(first, 1, count),
+        node_kind::STRING => in_range(first, count, strings.len()),
+        node_kind::RAW_STRING => in_range(first, count, text.len()),
+        node_kind::NUMBER => one_word(first, numbers.len() / 2, count),
+        node_kind::BOOL => one_word(first, 2, count),
+        node_kind::NULL => one_word(first, 1, count),
+        node_kind::NAME => name_words_ok(nodes, names, text, i),
+        node_kind::ARRAY => in_range(first, count, children.len()),
+        node_kind::SET => in_range(first, count, children.len()),
+        node_kind::OBJECT => in_range(first, count * 2, children.len()),
+        node_kind::OTHER => one_word(first, 1, count),
         _ => false,
     }
 }
@@ -171,7 +172,7 @@ pub(crate) fn nodes_ok(
     strings: &[u8],
     text: &[u8],
 ) -> bool
-    requires { ⌜ NodesAsk (given nodes children numbers names strings text) ⌝ }
+    requires { ⌜ NodesAsks (given nodes children numbers names strings text) ⌝ }
     ensures { λ r. ⌜ r ≡ nodesOk (lent nodes children numbers names strings text) ⌝ }
 {
     if !heads_ok(nodes, children, numbers, names, strings, text) {

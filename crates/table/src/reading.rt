@@ -5,7 +5,7 @@ ghost use mathlib.Core.Path.{_≡_};
 ghost use mathlib.Core.List.{[]};
 ghost use Prim.Native.Nat.{_+_, _-_, _/_, _<_, _≤_, _^_};
 ghost use lib.ListN.{length};
-ghost use Rattle.table.specs.Tables.{tables, isNode, recordWord, kindOf, startOf, endOf, firstOf, countOf, widthOf, width, childAt, nameStart, nameLength, nameBytes};
+ghost use Rattle.table.specs.Tables.{tables, isNode, recordWord, kindOf, firstOf, countOf, widthOf, width, childAt, nameStart, nameLength, nameBytes};
 ghost use Rattle.base.specs.Lists.{part};
 ghost use Rattle.table.specs.Decode.{refOf};
 ghost use Rattle.table.specs.Names.{sameBytes, classOf};
@@ -13,6 +13,7 @@ ghost use Rattle.literal.specs.Order.{compared};
 ghost use Rattle.literal.specs.Text.{textsCompared};
 use crate::Key;
 use crate::NameClass;
+use crate::node_kind;
 use literal::Comparison;
 use literal::LiteralRef;
 use literal::order::compare;
@@ -48,18 +49,6 @@ pub fn kind_of(nodes: &[u32], node: u32) -> u32
     record_word(nodes, 5, 0, node)
 }
 
-pub fn start_of(nodes: &[u32], node: u32) -> u32
-    ensures { λ r. ⌜ r ≡ startOf (old nodes) node ⌝ }
-{
-    record_word(nodes, 5, 1, node)
-}
-
-pub fn end_of(nodes: &[u32], node: u32) -> u32
-    ensures { λ r. ⌜ r ≡ endOf (old nodes) node ⌝ }
-{
-    record_word(nodes, 5, 2, node)
-}
-
 pub fn first_of(nodes: &[u32], node: u32) -> u32
     ensures { λ r. ⌜ r ≡ firstOf (old nodes) node ⌝ }
 {
@@ -85,26 +74,19 @@ fn width_by(kind: u32, words: u32) -> usize
     ensures { λ r. ⌜ (r ≡ widthOf kind words) × (r < 2 ^ 33) ⌝ }
 {
     let count = words as usize;
-    if kind == 9 {
+    if kind == node_kind::OBJECT {
         return count * 2;
     }
-    if kind == 7 {
+    if kind == node_kind::ARRAY {
         return count;
     }
-    if kind == 8 {
+    if kind == node_kind::SET {
         return count;
     }
     0
 }
 
-// The child entries of a node.
-pub fn width_of(nodes: &[u32], node: u32) -> usize
-    ensures { λ r. ⌜ (r ≡ width (old nodes) node) × (r < 2 ^ 33) ⌝ }
-{
-    width_by(kind_of(nodes, node), count_of(nodes, node))
-}
-
-// Those of node i + 1, which is there.
+// The child entries of node i + 1, which is there.
 pub(crate) fn width_at(nodes: &[u32], i: usize) -> usize
     requires { ⌜ i < length (now nodes) / 5 ⌝ }
     ensures { λ r. ⌜ (r ≡ width (old nodes) (i + 1)) × (r < 2 ^ 33) ⌝ }
@@ -112,13 +94,13 @@ pub(crate) fn width_at(nodes: &[u32], i: usize) -> usize
     width_by(node_word(nodes, i, 0), node_word(nodes, i, 4))
 }
 
-pub fn name_start(names: &[u32], name: u32) -> u32
+pub(crate) fn name_start(names: &[u32], name: u32) -> u32
     ensures { λ r. ⌜ r ≡ nameStart (old names) name ⌝ }
 {
     record_word(names, 2, 0, name)
 }
 
-pub fn name_length(names: &[u32], name: u32) -> u32
+pub(crate) fn name_length(names: &[u32], name: u32) -> u32
     ensures { λ r. ⌜ r ≡ nameLength (old names) name ⌝ }
 {
     record_word(names, 2, 1, name)
@@ -156,14 +138,6 @@ pub(crate) fn bytes_between(bytes: &[u8], start: usize, end: usize) -> &[u8]
     bytes_at(bytes, start, end - start)
 }
 
-// A node's own text, lent back.
-pub fn node_text<'a>(nodes: &[u32], text: &'a [u8], node: u32) -> &'a [u8]
-    ensures { λ r. ⌜ now r ≡ part (old text) (startOf (old nodes) node) (endOf (old nodes) node - startOf (old nodes) node) ⌝ }
-{
-    let start = start_of(nodes, node) as usize;
-    bytes_between(text, start, end_of(nodes, node) as usize)
-}
-
 // The literal that a node refers to, or that it is none.
 pub fn extract_literal_key(nodes: &[u32], node: u32) -> Key
     ensures { λ r. ⌜ r ≡ refOf (old nodes) node ⌝ }
@@ -172,22 +146,22 @@ pub fn extract_literal_key(nodes: &[u32], node: u32) -> Key
     let first = first_of(nodes, node) as usize;
     let count = count_of(nodes, node) as usize;
     match kind {
-        1 => Key::Literal(LiteralRef::String {
+        node_kind::STRING => Key::Literal(LiteralRef::String {
             start: first,
             count,
         }),
-        2 => Key::Literal(LiteralRef::RawString {
+        node_kind::RAW_STRING => Key::Literal(LiteralRef::RawString {
             start: first,
             count,
         }),
-        3 => Key::Literal(LiteralRef::Number { place: first }),
-        4 => {
+        node_kind::NUMBER => Key::Literal(LiteralRef::Number { place: first }),
+        node_kind::BOOL => {
             if first == 0 {
                 return Key::Literal(LiteralRef::False);
             }
             Key::Literal(LiteralRef::True)
         }
-        5 => Key::Literal(LiteralRef::Null),
+        node_kind::NULL => Key::Literal(LiteralRef::Null),
         _ => Key::Computed,
     }
 }

@@ -24,7 +24,7 @@ use Rattle.base.specs.Lists.{tabulate}
 use Rattle.planner.proofs.buffer.Filling.{length-tabulate, getD-tabulate}
 use Rattle.planner.specs.Simple.{keysOf, isLiteral, differing, admitted, admittedAll, admittedFields}
 use Rattle.planner.proofs.destructuring.NodeKinds.{Plain, plain-literal, plain-set, plain-other, plain-kind}
-use Rattle.value.specs.code.Post.{isMarked, markOf, itemsMarked, fieldsMarked, ChildrenAsks, EntriesAsk, MarkAsks, nodeMarks, KeysAsks}
+use Rattle.value.specs.code.Post.{isMarked, markOf, itemsMarked, fieldsMarked, ChildrenAsks, EntriesAsks, MarkAsks, nodeMarks, KeysAsks}
 use Rattle.value.proofs.Changing.{Changing, changing-zeros, changing-on}
 use Rattle.value.proofs.Admitted.{literal-kind, array-children, object-children}
 
@@ -64,10 +64,10 @@ node-place w v = let l = v .low in let h = v .high in let m = w .limits .nodes i
 
 -- items
 pub record MarkingItems (ch : List ℕ) (marks : List ℕ) (at₀ left₀ at left : ℕ) : Type 0 where
-  pub asks : EntriesAsk ch at 1 left
+  pub asks : EntriesAsks ch at 1 left
   pub same : itemsMarked ch marks at left ≡ itemsMarked ch marks at₀ left₀
 
-pub items-start : (ch : List ℕ) (marks : List ℕ) (at left : ℕ) → EntriesAsk ch at 1 left → MarkingItems ch marks at left at left
+pub items-start : (ch : List ℕ) (marks : List ℕ) (at left : ℕ) → EntriesAsks ch at 1 left → MarkingItems ch marks at left at left
 items-start ch marks at left a = record { asks = a; same = refl }
 
 items-step : (ch : List ℕ) (marks : List ℕ) (at left : ℕ) → 0 < left → itemsMarked ch marks at left ≡ (isMarked marks (childAt ch at) && itemsMarked ch marks (at + 1) (left - 1))
@@ -98,10 +98,10 @@ module _ {ch : List ℕ} {marks : List ℕ} {at₀ left₀ at left : ℕ} (go : 
 
 -- fields
 pub record MarkingFields (nodes ch : List ℕ) (marks : List ℕ) (at₀ left₀ at left : ℕ) : Type 0 where
-  pub asks : EntriesAsk ch at 2 left
+  pub asks : EntriesAsks ch at 2 left
   pub same : fieldsMarked nodes ch marks at left ≡ fieldsMarked nodes ch marks at₀ left₀
 
-pub fields-start : (nodes ch : List ℕ) (marks : List ℕ) (at left : ℕ) → EntriesAsk ch at 2 left → MarkingFields nodes ch marks at left at left
+pub fields-start : (nodes ch : List ℕ) (marks : List ℕ) (at left : ℕ) → EntriesAsks ch at 2 left → MarkingFields nodes ch marks at left at left
 fields-start nodes ch marks at left a = record { asks = a; same = refl }
 
 fields-step : (nodes ch : List ℕ) (marks : List ℕ) (at left : ℕ) → 0 < left
@@ -278,10 +278,10 @@ module _ (T : Tables) (b : Bool) (marks : List ℕ) (n : ℕ) (a : MarkAsks T b 
 
 -- over the lists themselves, so that `search` finds them
 module _ (nodes ch nu na st te : List ℕ) {b : Bool} {marks : List ℕ} {n : ℕ} (a : MarkAsks (tables nodes ch nu na st te) b marks n) {kind first size : ℕ} (is-kind : kind ≡ kindOf nodes n) (is-first : first ≡ firstOf nodes n) (is-size : size ≡ countOf nodes n) where
-  pub ask-items : kind ≡ 7 → EntriesAsk ch first 1 size
+  pub ask-items : kind ≡ 7 → EntriesAsks ch first 1 size
   ask-items k = record { T = tables nodes ch nu na st te; asks = items-there (tables nodes ch nu na st te) b marks n a is-kind is-first is-size k }
 
-  pub ask-fields : kind ≡ 9 → EntriesAsk ch first 2 size
+  pub ask-fields : kind ≡ 9 → EntriesAsks ch first 2 size
   ask-fields k = record { T = tables nodes ch nu na st te; asks = fields-there (tables nodes ch nu na st te) b marks n a is-kind is-first is-size k }
 
 -- the pass over all nodes

@@ -24,7 +24,7 @@ use Rattle.table.specs.Names.{isSame}
 use Rattle.planner.specs.Simple.{sameKey, hasKey, differing, addKey, keysOf}
 use Rattle.planner.proofs.fields.Objects.{key-literal}
 use Rattle.value.specs.Value.{filledField, valueOf, valueFieldsOf, valueAt, firstOf as firstUnder, under, within, sameKeys}
-use Rattle.value.specs.code.Post.{ChildrenAsks, sameLiterals, underFrom, underIn, KeyedObject, KeySetsAsk}
+use Rattle.value.specs.code.Post.{ChildrenAsks, sameLiterals, underFrom, underIn, KeyedObject, KeySetsAsks}
 use Rattle.value.proofs.Keys.{or-left, or-right, is-true, is-false, true-is, key→, key-refl, sets-by-count, sets-uneven}
 use Rattle.value.proofs.Admitted.{object-children, key-node}
 use Rattle.value.proofs.Marking.{fields-on, fields-fit, value-fits}
@@ -258,7 +258,7 @@ module _ (T : Tables) (n : ℕ) (o : KeyedObject T n) {first size : ℕ} (is-fir
   scan-found key e = rw (is-first, is-size) at e
 
 -- the key sets of two objects
-module _ {T : Tables} {a b : ℕ} (asks : KeySetsAsk T a b) where
+module _ {T : Tables} {a b : ℕ} (asks : KeySetsAsks T a b) where
   own-keys : ℕ → List Literal
   own-keys n = keysOf (fieldsOf T n)
 
@@ -279,14 +279,14 @@ module _ {T : Tables} {a b : ℕ} (asks : KeySetsAsk T a b) where
 
 -- the first i keys of one object are the other's
 pub record Covering (T : Tables) (a b first size i : ℕ) : Type 0 where
-  pub asks : KeySetsAsk T a b
+  pub asks : KeySetsAsks T a b
   pub is-first : first ≡ firstOf (T .nodes) a
   pub is-size : size ≡ countOf (T .nodes) a
   pub even : countOf (T .nodes) b ≡ size
   pub inside : i ≤ size
   pub same : within (keysOf (fields (expr T) (T .children) (first + i * 2) (size - i))) (keysOf (fieldsOf T b)) ≡ within (keysOf (fieldsOf T a)) (keysOf (fieldsOf T b))
 
-pub covering-start : {T : Tables} {a b first size other : ℕ} → KeySetsAsk T a b → first ≡ firstOf (T .nodes) a → size ≡ countOf (T .nodes) a → other ≡ countOf (T .nodes) b → other ≡ size → Covering T a b first size 0
+pub covering-start : {T : Tables} {a b first size other : ℕ} → KeySetsAsks T a b → first ≡ firstOf (T .nodes) a → size ≡ countOf (T .nodes) a → other ≡ countOf (T .nodes) b → other ≡ size → Covering T a b first size 0
 covering-start {T} {a} {b} {first} {size} asks is of at even =
     let z : first + 0 * 2 ≡ firstOf (T .nodes) a = omega arith in
     let y : size - 0 ≡ countOf (T .nodes) a = omega arith in

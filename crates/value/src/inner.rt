@@ -1,4 +1,4 @@
 // Each asks for a checked table.
+pub mod admitted;
 pub mod equality;
 pub mod fields;
-pub mod marks;

@@ -23,7 +23,7 @@ use Rattle.assignment.specs.declared.flatten.Flattened.the-variants.{Nex
 use Rattle.assignment.specs.Pairs.{Pair, pairEntries, pairsEntries, Flat, failed, paired, before, further, flatten}
 use Rattle.assignment.specs.code.Previewing.{Roomy, Scoped}
 use Rattle.assignment.specs.code.KeyMatching.{InOrder, FieldAsks, FieldSides, FieldOk}
-use Rattle.assignment.specs.code.Flattening.{Learns, Came, Flattens, FlattenAsks, ItemsAsks, ObjectFieldsAsks}
+use Rattle.assignment.specs.code.Flattening.{Learns, FlattenedAs, Flattens, FlattenAsks, ItemsAsks, ObjectFieldsAsks}
 use Rattle.assignment.specs.code.Flats.{nodesFlat, itemsFlat, objectsFlat, fieldsFlat, mostOf, mostItems, mostFields}
 use Rattle.assignment.proofs.preview.Previews.{roomy-kept}
 use Rattle.assignment.proofs.preview.Seen.{scoped-self, scoped-learns, learns-none, learns-more}
@@ -63,8 +63,8 @@ flattening-start {rest = rest} same T states start at = record {
 
 -- a callee's answer
 came-as : {f : (ℕ → Bool) → List ℕ → Flat} {T : Tables} {most : ℕ} {states start : List ℕ} {at : ℕ} {known mid : List ℕ} {done : Flattened} → Flattens f T most states start at known mid done
-    → (r : Flattened) → done ≡ r → (u : ℕ → Bool) (seen : List ℕ) → Scoped T u seen states → Came (f u seen) seen most states start at known mid r
-came-as {f} {T} {most} {states} {start} {at} {known} {mid} {done} a r e u seen s = subst (λ (x : Flattened). Came (f u seen) seen most states start at known mid x) e (a .each u seen s)
+    → (r : Flattened) → done ≡ r → (u : ℕ → Bool) (seen : List ℕ) → Scoped T u seen states → FlattenedAs (f u seen) seen most states start at known mid r
+came-as {f} {T} {most} {states} {start} {at} {known} {mid} {done} a r e u seen s = subst (λ (x : Flattened). FlattenedAs (f u seen) seen most states start at known mid x) e (a .each u seen s)
 
 module _ {T : Tables} (w : WellFormed T) {states : List ℕ} (ok : States T states) {g : (ℕ → Bool) → List ℕ → Flat} {most : ℕ} {mid : List ℕ} {here : ℕ} {known next : List ℕ} {done : Flattened}
     (a : Flattens g T most states mid here known next done) {there : ℕ} (e : done ≡ Next there) where

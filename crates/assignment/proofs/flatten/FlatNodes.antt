@@ -30,15 +30,15 @@ use Rattle.assignment.specs.declared.flatten.Flattened.{Flattened}
 use Rattle.assignment.specs.declared.flatten.Flattened.the-variants.{Next, Refused}
 use Rattle.assignment.specs.declared.judge.Pairing.{Pairing}
 use Rattle.assignment.specs.declared.judge.Pairing.the-variants.{Whole, Items, ByKey, Opposed}
-use Rattle.assignment.specs.declared.keys.Keys.{Keys}
-use Rattle.assignment.specs.declared.keys.Keys.the-variants as Keys
-use Rattle.assignment.specs.declared.keys.Keys.the-variants.{Matched}
+use Rattle.assignment.specs.declared.keys.ObjectPairs.{ObjectPairs}
+use Rattle.assignment.specs.declared.keys.ObjectPairs.the-variants as ObjectPairs
+use Rattle.assignment.specs.declared.keys.ObjectPairs.the-variants.{Matched}
 use Rattle.assignment.specs.declared.judge.Judgement.{Judgement}
 use Rattle.assignment.specs.declared.judge.Judgement.the-variants as Judged
 use Rattle.assignment.specs.declared.judge.Judgement.the-variants.{Compare, BindLeft, BindRight, Refuse}
 use Rattle.assignment.specs.Pairs.{pair, pairsEntries, Flat, failed, flatOutcome, items as itemsShape, fields as fieldsShape, single, shapeOf, allLiteral, binds, side, flatten, flattenAll}
 use Rattle.assignment.specs.code.Previewing.{ReadAsks, Scoped, SidesAsks}
-use Rattle.assignment.specs.code.Flattening.{Bound, Flattens, Came, SideAsks, Compared, ObjectFieldsAsks, FlattenAsks, ByKeyAsks, ArraysAsks, ItemsAsks}
+use Rattle.assignment.specs.code.Flattening.{Bound, Flattens, FlattenedAs, SideAsks, Compared, ObjectFieldsAsks, FlattenAsks, ByKeyAsks, ArraysAsks, ItemsAsks}
 use Rattle.assignment.specs.code.Judging.{pairingOf, Judges}
 use Rattle.assignment.specs.code.KeyMatching.{KeysMatched, MatchedBy}
 use Rattle.assignment.specs.code.Flats.{sideFlat, nodesFlat, arraysFlat, objectsFlat, itemsFlat, fieldsFlat, mostOf, mostItems}
@@ -273,11 +273,11 @@ module _ {T : Tables} {states : List ℕ} {left right at : ℕ} (a : ArraysAsks 
         flattens-as (λ u seen s. rw (is-left, is-right, is-size) (simp z)) (let m = most-less in omega arith) f
 
 -- two objects by their keys
-module _ {T : Tables} {states : List ℕ} {left right at : ℕ} (a : ByKeyAsks T states left right at) {order : List ℕ} {keys : Keys} (m : KeysMatched T left right order keys) where
+module _ {T : Tables} {states : List ℕ} {left right at : ℕ} (a : ByKeyAsks T states left right at) {order : List ℕ} {keys : ObjectPairs} (m : KeysMatched T left right order keys) where
   pub ask-fields : {total : ℕ} → keys ≡ Matched total → ObjectFieldsAsks T states left right order total at
   ask-fields {total} e = record { asks = a .asks; object = a .keyed .both .right-ok .object; keys = subst (MatchedBy T left right order) e (m .told) }
 
-  pub objects-refused : {answer : PlanAnswer} → keys ≡ Keys.Refused answer → (before : List ℕ) → Flattens (objectsFlat T left right) T (mostOf T right) states before at states before (Refused answer)
+  pub objects-refused : {answer : PlanAnswer} → keys ≡ ObjectPairs.Refused answer → (before : List ℕ) → Flattens (objectsFlat T left right) T (mostOf T right) states before at states before (Refused answer)
   objects-refused {answer} e before = let f = subst (MatchedBy T left right order) e (m .told) in flattens-none T (mostOf T right) states before at (λ u seen s. f u seen)
 
 -- the whole call
@@ -290,9 +290,9 @@ module _ (T : Tables) {left right : ℕ} (g : GoodPair T left right) (s : Scope)
   ask-flatten = record { pair-ok = g; states-ok = scoped .wild; room = let f = tree-few T (g .table) right (g .second) in omega arith }
 
   module _ {before known mid : List ℕ} {done : Flattened} (f : Flattens (nodesFlat T left right) T (mostOf T right) states before 0 known mid done) where
-    came : (r : Flattened) → done ≡ r → Came (flatten (isUnbound s RespectParent) (expr T right) (expr T left) []) [] (mostOf T right) states before 0 known mid r
+    came : (r : Flattened) → done ≡ r → FlattenedAs (flatten (isUnbound s RespectParent) (expr T right) (expr T left) []) [] (mostOf T right) states before 0 known mid r
     unfolding nodesFlat
-    came r e = subst (λ (x : Flattened). Came (flatten (isUnbound s RespectParent) (expr T right) (expr T left) []) [] (mostOf T right) states before 0 known mid x) e (f .each (isUnbound s RespectParent) [] scoped)
+    came r e = subst (λ (x : Flattened). FlattenedAs (flatten (isUnbound s RespectParent) (expr T right) (expr T left) []) [] (mostOf T right) states before 0 known mid x) e (f .each (isUnbound s RespectParent) [] scoped)
 
     pub pairs-refused : {answer : PlanAnswer} {later : List ℕ} → done ≡ Refused answer → length mid ≡ length before → later ≡ replicate (length mid) 0
         → Answered (flatOutcome (flatten (isUnbound s RespectParent) (expr T right) (expr T left) [])) before later answer

@@ -17,7 +17,7 @@ use Rattle.assignment.specs.declared.flatten.Flattened.{Flattened}
 use Rattle.assignment.specs.declared.flatten.Flattened.the-variants.{Next, Refused}
 use Rattle.assignment.specs.Pairs.{pair, pairsEntries, Flat, paired, binds}
 use Rattle.assignment.specs.code.Previewing.{Scoped, Previewed, Learnt}
-use Rattle.assignment.specs.code.Flattening.{Came, Flattens, SideAsks, Compared, Bound}
+use Rattle.assignment.specs.code.Flattening.{FlattenedAs, Flattens, SideAsks, Compared, Bound}
 use Rattle.assignment.specs.code.Flats.{FailedAs, sideFlat}
 use Rattle.planner.specs.Entries.{readEntries, Wrote, putEntries}
 use Rattle.assignment.proofs.preview.Seen.{plan-scoped, after-scoped, learns-none, learns-bound}
@@ -30,7 +30,7 @@ pub flattens-as : {f g : (ℕ → Bool) → List ℕ → Flat} {T : Tables} {mos
     → ((u : ℕ → Bool) (seen : List ℕ) → Scoped T u seen states → f u seen ≡ g u seen) → most ≤ bound → Flattens f T most states before at later after r → Flattens g T bound states before at later after r
 flattens-as {f} {g} {T} {most} {bound} {states} {before} {at} {later} {after} {r} same le a = record { each = λ u seen s. go r u seen (same u seen s) (a .each u seen s) }
   where
-    go : (r : Flattened) (u : ℕ → Bool) (seen : List ℕ) → f u seen ≡ g u seen → Came (f u seen) seen most states before at later after r → Came (g u seen) seen bound states before at later after r
+    go : (r : Flattened) (u : ℕ → Bool) (seen : List ℕ) → f u seen ≡ g u seen → FlattenedAs (f u seen) seen most states before at later after r → FlattenedAs (g u seen) seen bound states before at later after r
     go (Next k) u seen e c = record {
       pairs = c .pairs;
       names = c .names;

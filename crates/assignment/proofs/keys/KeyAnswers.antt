@@ -13,9 +13,9 @@ use Rattle.planner.specs.declared.PlanAnswer.the-variants.{ObjectFieldCountMism
 use Rattle.base.specs.Refusal.{objectFieldCountMismatch, objectKeyNotFound}
 use Rattle.planner.specs.code.Post.{OrderAsks, OrderedBy}
 use Rattle.assignment.specs.declared.flatten.Flattened.the-variants.{Refused}
-use Rattle.assignment.specs.declared.keys.Keys.{Keys}
-use Rattle.assignment.specs.declared.keys.Keys.the-variants as Keys
-use Rattle.assignment.specs.declared.keys.Keys.the-variants.{Matched}
+use Rattle.assignment.specs.declared.keys.ObjectPairs.{ObjectPairs}
+use Rattle.assignment.specs.declared.keys.ObjectPairs.the-variants as ObjectPairs
+use Rattle.assignment.specs.declared.keys.ObjectPairs.the-variants.{Matched}
 use Rattle.assignment.specs.Pairs.{failed, distinctKeys}
 use Rattle.assignment.specs.code.KeyMatching.{missingFrom, InOrder, LiteralNode, MissingAsks, KeysAsks, KeysMatched}
 use Rattle.assignment.specs.code.Flats.{objectsFlat, fieldsFlat}
@@ -35,7 +35,7 @@ module _ {T : Tables} {left right : ℕ} (a : KeysAsks T left right) {left-first
     by-keys = subst (OrderedBy T (firstOf (T .nodes) left) (countOf (T .nodes) left) order) (total-distinct in-order) (in-order .ordered)
 
     module _ {count : ℕ} (is-right : count ≡ countOf (T .nodes) right) where
-      pub keys-differ : (keys ≡ count → ⊥) → KeysMatched T left right order (Keys.Refused (ObjectFieldCountMismatch left keys count))
+      pub keys-differ : (keys ≡ count → ⊥) → KeysMatched T left right order (ObjectPairs.Refused (ObjectFieldCountMismatch left keys count))
       unfolding objectsFlat
       keys-differ differ =
           let d = total-distinct in-order in
@@ -64,7 +64,7 @@ module _ {T : Tables} {left right : ℕ} (a : KeysAsks T left right) {left-first
               rw (is-first, is-right) (simp z (check-missing T (a .both .left-ok) (firstOf (T .nodes) right) (countOf (T .nodes) right) (rw (is-first, is-right) at literal-at) (fieldsFlat T left (firstOf (T .nodes) right) (countOf (T .nodes) right) u seen)))
 
           module _ {key : ℕ} (is-key : key ≡ missingFrom T left first count) where
-            pub key-missing : (key ≡ 0 → ⊥) → KeysMatched T left right order (Keys.Refused (ObjectKeyNotFound key))
+            pub key-missing : (key ≡ 0 → ⊥) → KeysMatched T left right order (ObjectPairs.Refused (ObjectKeyNotFound key))
             key-missing gone = let z = ne-eqb (missingFrom T left first count) 0 (λ e. gone (is-key ∙ e)) in record { ordered = by-keys; told = λ u seen. record { refusal = objectKeyNotFound key; is = flat-is u seen ∙ rw is-key (simp z); line = refl } }
 
             pub keys-same : key ≡ 0 → KeysMatched T left right order (Matched keys)

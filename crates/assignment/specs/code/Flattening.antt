@@ -58,13 +58,13 @@ pub record Stopped (o : Flat) (states₀ before : List ℕ) (at : ℕ) (states a
   pub wrote : Wrote before at (pairsEntries pairs) after end
   pub learns : Learns names states₀ states
 
-abbrev pub Came : Flat → List ℕ → ℕ → List ℕ → List ℕ → ℕ → List ℕ → List ℕ → Flattened → Type 0
-Came o seen most states₀ before at states after (Next r) = Reached o seen most states₀ before at states after r
-Came o seen most states₀ before at states after (Refused a) = Stopped o states₀ before at states after a
+abbrev pub FlattenedAs : Flat → List ℕ → ℕ → List ℕ → List ℕ → ℕ → List ℕ → List ℕ → Flattened → Type 0
+FlattenedAs o seen most states₀ before at states after (Next r) = Reached o seen most states₀ before at states after r
+FlattenedAs o seen most states₀ before at states after (Refused a) = Stopped o states₀ before at states after a
 
 -- f of a scope's answers and the names planned so far, at most `most` entries; whatever scope the states stand for
 pub record Flattens (f : (ℕ → Bool) → List ℕ → Flat) (T : Tables) (most : ℕ) (states₀ before : List ℕ) (at : ℕ) (states after : List ℕ) (r : Flattened) : Type 0 where
-  pub each : (unbound : ℕ → Bool) (seen : List ℕ) → Scoped T unbound seen states₀ → Came (f unbound seen) seen most states₀ before at states after r
+  pub each : (unbound : ℕ → Bool) (seen : List ℕ) → Scoped T unbound seen states₀ → FlattenedAs (f unbound seen) seen most states₀ before at states after r
 
 pub record SideAsks (T : Tables) (states : List ℕ) (pattern value at : ℕ) : Type 0 where
   pub pair-ok : GoodPair T pattern value

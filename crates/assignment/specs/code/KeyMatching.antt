@@ -15,9 +15,9 @@ use Rattle.planner.specs.Layout.{entry, Slot}
 use Rattle.planner.specs.code.Passes.{valueNode, orderOf}
 use Rattle.planner.specs.code.Post.{OrderedBy}
 use Rattle.assignment.specs.declared.flatten.Flattened.the-variants.{Refused}
-use Rattle.assignment.specs.declared.keys.Keys.{Keys}
-use Rattle.assignment.specs.declared.keys.Keys.the-variants as Keys
-use Rattle.assignment.specs.declared.keys.Keys.the-variants.{Matched}
+use Rattle.assignment.specs.declared.keys.ObjectPairs.{ObjectPairs}
+use Rattle.assignment.specs.declared.keys.ObjectPairs.the-variants as ObjectPairs
+use Rattle.assignment.specs.declared.keys.ObjectPairs.the-variants.{Matched}
 use Rattle.planner.specs.Held.{heldUnder}
 use Rattle.assignment.specs.Pairs.{allLiteral, distinctKeys}
 use Rattle.assignment.specs.code.Flats.{FailedAs, fieldsFlat, objectsFlat}
@@ -106,11 +106,11 @@ pub record SameKeys (T : Tables) (left right : ℕ) (order : List ℕ) (total : 
   pub listed : firstOf (T .nodes) right + countOf (T .nodes) right * 2 ≤ 512
   pub flat : (unbound : ℕ → Bool) (seen : List ℕ) → objectsFlat T left right unbound seen ≡ fieldsFlat T left (firstOf (T .nodes) right) (countOf (T .nodes) right) unbound seen
 
-abbrev pub MatchedBy : Tables → ℕ → ℕ → List ℕ → Keys → Type 0
+abbrev pub MatchedBy : Tables → ℕ → ℕ → List ℕ → ObjectPairs → Type 0
 MatchedBy T left right order (Matched total) = SameKeys T left right order total
-MatchedBy T left right order (Keys.Refused a) = (unbound : ℕ → Bool) (seen : List ℕ) → FailedAs (objectsFlat T left right unbound seen) a
+MatchedBy T left right order (ObjectPairs.Refused a) = (unbound : ℕ → Bool) (seen : List ℕ) → FailedAs (objectsFlat T left right unbound seen) a
 
 -- the left object's fields in order, whatever the answer
-pub record KeysMatched (T : Tables) (left right : ℕ) (order : List ℕ) (r : Keys) : Type 0 where
+pub record KeysMatched (T : Tables) (left right : ℕ) (order : List ℕ) (r : ObjectPairs) : Type 0 where
   pub ordered : OrderedBy T (firstOf (T .nodes) left) (countOf (T .nodes) left) order (distinctKeys (fieldsOf T left))
   pub told : MatchedBy T left right order r

@@ -10,7 +10,7 @@ use Rattle.table.specs.Expr.{Expr, Exprs}
 use Rattle.table.specs.Decode.{expr, items, literalAt, fieldsOf}
 use Rattle.table.specs.code.Sound.{Node, WellFormed}
 use Rattle.checks.specs.declared.LiteralStructureCheck.{LiteralStructureCheck}
-use Rattle.checks.specs.declared.texts.Keys.{Keys}
+use Rattle.checks.specs.declared.texts.ComparedKeys.{ComparedKeys}
 use Rattle.planner.specs.Layout.{FieldOrder, noFields}
 use Rattle.planner.specs.code.Passes.{keyNode, valueNode, orderOf}
 use Rattle.planner.specs.code.Ordering.{FieldsIn}
@@ -30,14 +30,14 @@ abbrev pub itemsAt : Tables → ℕ → ℕ → Exprs
 itemsAt T at left = items (expr T) (T .children) at left
 
 -- `left` items of the value node's, and as many of a pattern's
-pub record ItemsAsk (T : Tables) (value at place left : ℕ) : Type 0 where
+pub record ItemsAsks (T : Tables) (value at place left : ℕ) : Type 0 where
   pub table : WellFormed T
   pub patterns : (i : ℕ) → i < left → Node T (childAt (T .children) (at + i))
   pub values : (i : ℕ) → i < left → Node T (childAt (T .children) (place + i)) × (childAt (T .children) (place + i) < value)
   pub small : (at + left < 2 ^ 40) × (place + left < 2 ^ 40)
 
 -- two objects
-pub record ObjectsAsk (T : Tables) (pattern value : ℕ) : Type 0 where
+pub record ObjectsAsks (T : Tables) (pattern value : ℕ) : Type 0 where
   pub pair : GoodPair T pattern value
   pub pattern-object : kindOf (T .nodes) pattern ≡ 9
   pub value-object : kindOf (T .nodes) value ≡ 9
@@ -55,11 +55,11 @@ pub record KeysCompared (T : Tables) (pattern value : ℕ) (order : List ℕ) (l
   pub few : total ≤ 256
   pub same-texts : same ≡ sameKeys (orderOfNode T pattern .literals) (fieldsOf T value)
 
-abbrev pub KeysComparedBy : Tables → ℕ → ℕ → List ℕ → Keys → Type 0
+abbrev pub KeysComparedBy : Tables → ℕ → ℕ → List ℕ → ComparedKeys → Type 0
 KeysComparedBy T pattern value order r = KeysCompared T pattern value order (r .literals) (r .total) (r .same)
 
-pub record FieldsAsk (T : Tables) (pattern value : ℕ) (order : List ℕ) (literals total : ℕ) : Type 0 where
-  pub objects : ObjectsAsk T pattern value
+pub record FieldsAsks (T : Tables) (pattern value : ℕ) (order : List ℕ) (literals total : ℕ) : Type 0 where
+  pub objects : ObjectsAsks T pattern value
   pub ordered : FieldsIn T (firstOf (T .nodes) pattern) (countOf (T .nodes) pattern) order literals total
   pub few : total ≤ 256
 
@@ -70,7 +70,7 @@ fieldsStructure T pattern value = andThen (structureFields (fieldsOf T value) (p
 -- field i of the value
 pub record FieldAsks (T : Tables) (pattern value : ℕ) (order : List ℕ) (literals i : ℕ) : Type 0 where
   pub total : ℕ
-  pub asks : FieldsAsk T pattern value order literals total
+  pub asks : FieldsAsks T pattern value order literals total
   pub inside : i < countOf (T .nodes) value
 
 abbrev pub fieldStructure : Tables → ℕ → ℕ → ℕ → LiteralStructureCheck
@@ -81,7 +81,7 @@ fieldStructure T pattern value i =
 pub record PartnerAsks (T : Tables) (pattern : ℕ) (order : List ℕ) (literals key : ℕ) : Type 0 where
   pub value : ℕ
   pub total : ℕ
-  pub asks : FieldsAsk T pattern value order literals total
+  pub asks : FieldsAsks T pattern value order literals total
   pub node : Node T key
 
 -- the pattern's node under an equal key, or 0

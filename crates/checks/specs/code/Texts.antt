@@ -16,7 +16,7 @@ use Rattle.table.specs.Tables.{Tables, kindOf}
 use Rattle.table.specs.Decode.{literalNode}
 use Rattle.planner.specs.code.Passes.{fieldKey}
 use Rattle.planner.specs.code.Post.{OrderAsks, OrderedBy}
-use Rattle.checks.specs.declared.texts.Keys.{Keys}
+use Rattle.checks.specs.declared.texts.ComparedKeys.{ComparedKeys}
 use Rattle.checks.specs.Structure.{textOr, insertText, sortTexts, sameTexts}
 
 abbrev pub isGreater : Comparison → Bool
@@ -107,7 +107,7 @@ agreeFrom lit a b q (suc k) = isEqual (textAt lit (lit (getD a q 0)) b q) && agr
 abbrev pub textsAgree : (ℕ → Option Literal) → List ℕ → ℕ → List ℕ → ℕ → Bool
 textsAgree lit a m b n = eqb m n && agreeFrom lit a b 0 m
 
-pub record BothAsk (T : Tables) (first : ℕ) (order : List ℕ) (total from size : ℕ) : Type 0 where
+pub record BothAsks (T : Tables) (first : ℕ) (order : List ℕ) (total from size : ℕ) : Type 0 where
   pub pattern : OrderedAsks T first order total
   pub value : OrderAsks T from size
 
@@ -117,5 +117,5 @@ pub record TextsCompared (T : Tables) (first : ℕ) (order : List ℕ) (total fr
   pub counted : literals ≡ length (textsFrom (orderedKey T first order) 0 total)
   pub same-texts : same ≡ sameTexts (sortTexts (textsFrom (orderedKey T first order) 0 total)) (sortTexts (textsFrom (fieldKey T from) 0 size))
 
-abbrev pub TextsComparedBy : Tables → ℕ → List ℕ → ℕ → ℕ → ℕ → Keys → Type 0
+abbrev pub TextsComparedBy : Tables → ℕ → List ℕ → ℕ → ℕ → ℕ → ComparedKeys → Type 0
 TextsComparedBy T first order total from size r = TextsCompared T first order total from size (r .literals) (r .total) (r .same)

@@ -20,7 +20,7 @@ use Rattle.planner.specs.Simple.{simple}
 use Rattle.value.specs.Value.{Value, valueOf, valueAt, nodeIn}
 use Rattle.value.specs.code.Post.{ValueNode}
 use Rattle.matching.specs.declared.inner.Matched.{Matched}
-use Rattle.matching.specs.Matching.{Env, Outcome, matched, missed, fault, run}
+use Rattle.matching.specs.Matching.{Env, MatchOutcome, matched, missed, fault, run}
 
 -- `scratch` holds entries, four words each; `places` has for each node the place of its entry.
 abbrev pub nodeAt : List ℕ → ℕ → ℕ
@@ -106,7 +106,7 @@ pub record ListOk (T : Tables) (list : List ℕ) : Type 0 where
   pub each : (i : ℕ) → (getD list i 0 ≡ 0 → ⊥) → ValueNode T (getD list i 0)
 
 -- carrying the entries of a pattern node out on a value node, from the values in a list
-unfoldable pub runAt : Tables → List ℕ → List ℕ → ℕ → ℕ → List ℕ → Outcome
+unfoldable pub runAt : Tables → List ℕ → List ℕ → ℕ → ℕ → List ℕ → MatchOutcome
 runAt T scratch places n value list = run (readPlan (kindAt scratch places) (expr T n)) (valueOf (expr T value)) (envOf T list)
 
 -- a pattern node whose entries are carried out; `rest` levels of depth are left
@@ -135,7 +135,7 @@ pub record FieldsAsks (T : Tables) (scratch places : List ℕ) (n value rest : �
   pub object : kindOf (T .nodes) n ≡ 9
 
 -- What it came to: the list of the names' values, or a miss. After a miss the list is free: working space of values' nodes.
-pub record Came (T : Tables) (o : Outcome) (after : List ℕ) (r : Bool) : Type 0 where
+pub record Came (T : Tables) (o : MatchOutcome) (after : List ℕ) (r : Bool) : Type 0 where
   pub hit : r ≡ true → o ≡ matched (envOf T after)
   pub miss : r ≡ false → o ≡ missed
   pub list-ok : ListOk T after
@@ -176,18 +176,18 @@ pub record PatternAsks (T : Tables) (scratch : List ℕ) (count value : ℕ) (li
   pub list-ok : ListOk T list
   pub no-fault : run (plan unbound (expr T root) []) (valueOf (expr T value)) (envOf T list) ≡ fault → ⊥
 
-abbrev pub isMatch : Outcome → Bool
+abbrev pub isMatch : MatchOutcome → Bool
 isMatch (matched env) = true
 isMatch missed = false
 isMatch fault = false
 
 -- the nodes of the names' values after a match; without one those at the start
-abbrev pub listAfter : Outcome → List ℕ → List ℕ
+abbrev pub listAfter : MatchOutcome → List ℕ → List ℕ
 listAfter (matched env) start = tabulate (λ i. nodeIn (env (i + 1))) 0 128
 listAfter missed start = start
 listAfter fault start = start
 
-pub record Ended (o : Outcome) (start : List ℕ) (r : Matched) : Type 0 where
+pub record Ended (o : MatchOutcome) (start : List ℕ) (r : Matched) : Type 0 where
   pub told : r .matched ≡ isMatch o
   pub names : r .list ≡ listAfter o start
 

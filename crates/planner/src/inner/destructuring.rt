@@ -10,6 +10,7 @@ use crate::inner::names::span_of;
 use crate::inner::plans::lay_out;
 use scope::Scope;
 use scope::ScopingMode;
+use table::node_kind;
 use table::reading::child_at;
 use table::reading::first_of;
 use table::reading::kind_of;
@@ -41,7 +42,7 @@ fn decide(
     requires { ⌜ Walks (given nodes children numbers names strings text) (now states) node ⌝ }
     ensures { λ _. ⌜ new binders ≡ bindersOf (unboundIn (old states)) (expr (lent nodes children numbers names strings text) node) (old binders) ⌝ }
 {
-    if kind_of(nodes, node) == 6 {
+    if kind_of(nodes, node) == node_kind::NAME {
         decide_name(states, binders, node, first_of(nodes, node));
         return;
     }

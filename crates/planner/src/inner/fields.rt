@@ -17,7 +17,7 @@ use table::reading::compare_literal_to_node;
 use table::reading::extract_literal_key;
 
 // How many of the fields in order have literal keys, and how many there are.
-pub struct Sizes {
+struct Sizes {
     pub literals: usize,
     pub total: usize,
 }

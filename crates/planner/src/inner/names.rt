@@ -7,6 +7,7 @@ ghost use Rattle.table.specs.Decode.{expr};
 ghost use Rattle.planner.specs.Names.{occurrences, firstNode};
 ghost use Rattle.planner.specs.code.Post.{NameNumber, Walks, WalksChildren};
 ghost use Rattle.planner.specs.code.Validation.{markedIn, occurrencesBelow, SpanOf};
+use table::node_kind;
 use table::reading::child_at;
 use table::reading::count_of;
 use table::reading::first_of;
@@ -26,10 +27,10 @@ pub(crate) fn span_of(nodes: &[u32], node: u32, sets: bool, keys: bool) -> Span
     let kind = kind_of(nodes, node);
     let at = first_of(nodes, node) as usize;
     let left = count_of(nodes, node) as usize;
-    if kind == 7 {
+    if kind == node_kind::ARRAY {
         return Span { at, step: 1, left };
     }
-    if kind == 8 {
+    if kind == node_kind::SET {
         if sets {
             return Span { at, step: 1, left };
         }
@@ -39,7 +40,7 @@ pub(crate) fn span_of(nodes: &[u32], node: u32, sets: bool, keys: bool) -> Span
             left: 0,
         };
     }
-    if kind == 9 {
+    if kind == node_kind::OBJECT {
         if keys {
             return Span {
                 at,
@@ -86,7 +87,7 @@ pub fn first_name(
     requires { ⌜ Walks (given nodes children numbers names strings text) (now flags) node ⌝ }
     ensures { λ r. ⌜ r ≡ firstNode (markedIn (old flags)) (occurrences sets keys (expr (lent nodes children numbers names strings text) node)) ⌝ }
 {
-    if kind_of(nodes, node) == 6 {
+    if kind_of(nodes, node) == node_kind::NAME {
         return marked_node(flags, node, first_of(nodes, node));
     }
     let span = span_of(nodes, node, sets, keys);

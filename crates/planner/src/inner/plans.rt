@@ -7,8 +7,10 @@ ghost use Rattle.planner.specs.Entries.{WroteIn};
 ghost use Rattle.planner.specs.code.Passes.{nameEntryKind, leafEntryKind, layOut, layOutItems, layOutOrdered};
 ghost use Rattle.planner.specs.code.Post.{NameNumber, LayAsks, LayObjectAsks, LayItemsAsks, LayOrderedAsks};
 use crate::buffer::put_entry;
+use crate::entry_kind;
 use crate::fields::field_at;
 use crate::inner::fields::order_fields;
+use table::node_kind;
 use table::reading::child_at;
 use table::reading::count_of;
 use table::reading::first_of;
@@ -21,22 +23,22 @@ fn name_kind(states: &[u8; 128], binders: &[u32; 128], node: u32, name: u32) -> 
 {
     let at = name as usize - 1;
     if states[at] == 2 {
-        return 2;
+        return entry_kind::IGNORE;
     }
     if binders[at] == node {
-        return 1;
+        return entry_kind::BIND;
     }
-    3
+    entry_kind::COMPARE_EXPRESSION
 }
 
 // The kind of entry of a node that has no entries below it, names aside.
 fn leaf_kind(kind: u32) -> u32
     ensures { λ r. ⌜ r ≡ leafEntryKind kind ⌝ }
 {
-    if kind <= 5 {
-        return 4;
+    if kind <= node_kind::LAST_LITERAL {
+        return entry_kind::COMPARE_LITERAL;
     }
-    3
+    entry_kind::COMPARE_EXPRESSION
 }
 
 // The entries of a node's plan from entry `at` on; the next entry's place.
@@ -59,14 +61,14 @@ pub(crate) fn lay_out(
 {
     let kind = kind_of(nodes, node);
     let first = first_of(nodes, node);
-    if kind == 6 {
+    if kind == node_kind::NAME {
         let bound = name_kind(states, binders, node, first);
         put_entry(plan, at, bound, node, 0, key);
         return at + 1;
     }
-    if kind == 7 {
+    if kind == node_kind::ARRAY {
         let count = count_of(nodes, node);
-        put_entry(plan, at, 5, node, count, key);
+        put_entry(plan, at, entry_kind::ARRAY, node, count, key);
         return lay_items(
             nodes,
             children,
@@ -83,7 +85,7 @@ pub(crate) fn lay_out(
             at + 1,
         );
     }
-    if kind == 9 {
+    if kind == node_kind::OBJECT {
         return lay_object(
             nodes,
             children,
@@ -178,7 +180,7 @@ fn lay_object(
         count,
         &mut order,
     );
-    put_entry(plan, at, 6, node, total, key);
+    put_entry(plan, at, entry_kind::OBJECT, node, total, key);
     lay_fields(
         nodes,
         children,

@@ -23,7 +23,7 @@ use Rattle.operation.specs.declared.row.Row.{Row}
 use Rattle.operation.specs.Rows.{rowLine}
 use Rattle.sheet.specs.Lines.{lineLength}
 use Rattle.sheet.specs.Listing.{entryLine, lineBytes, linesBytes, printed, printedCount, Printed}
-use Rattle.sheet.specs.code.Post.{writePair, entriesIn, entryLines, answerLines, EntriesAsked, refusalBytes}
+use Rattle.sheet.specs.code.Post.{writePair, entriesIn, entryLines, answerLines, EntriesAsks, refusalBytes}
 
 -- the numbers of a line
 pub row-is : (answer : PlanAnswer) {a : PlanAnswer} {l : Line} → answer ≡ a → l ≡ lineOf a → l ≡ lineOf answer
@@ -126,7 +126,7 @@ pub record Entering (out₀ plan : List ℕ) (count i : ℕ) (out : List ℕ) : 
   pub long : length out ≡ length out₀
   pub same : stored out (lineLength 4 + i * lineLength 4) (linesBytes (entryLines plan i (count - i))) ≡ stored out₀ (lineLength 4) (linesBytes (entryLines plan 0 count))
 
-pub entering-start : {out plan : List ℕ} {count : ℕ} → EntriesAsked out plan count → Entering out plan count 0 out
+pub entering-start : {out plan : List ℕ} {count : ℕ} → EntriesAsks out plan count → Entering out plan count 0 out
 entering-start {out} {plan} {count} asked =
     let z : count - 0 ≡ count = omega arith in
     record { inside = omega arith; space = asked .space; held = asked .held; long = refl; same = rw z }

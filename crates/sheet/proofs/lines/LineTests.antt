@@ -20,7 +20,7 @@ use Rattle.base.specs.Lists.{allFrom, tabulate}
 use Rattle.table.proofs.tests.Scan.{Scan, scan-start, scan-ends, all-on, all-fails}
 use Rattle.planner.proofs.buffer.Filling.{filling-next, length-tabulate, getD-tabulate}
 use Rattle.sheet.specs.Lines.{numberAt, isLineFeed, columnOk, isLine, lineLength, lineOk, linesOk, signedLength, numberLineLength, isNumberLine, numberLineOk, numberLinesOk, wordAt, numberWord}
-use Rattle.sheet.specs.code.Post.{Inside, WordRead, Filled, Read, LinesAsked, LineAsked, NumbersAsked, NumberAsked}
+use Rattle.sheet.specs.code.Post.{Inside, WordRead, Filled, Read, LinesAsks, LineAsks, NumbersAsks, NumberAsks}
 
 -- a column, by what was read
 module _ (sheet : List ℕ) (at w : ℕ) (before : List ℕ) (inside : at + 6 ≤ length sheet) {column : Column}
@@ -89,7 +89,7 @@ no-words : {f : ℕ → ℕ} {words : ℕ} {good : Bool} (array : List ℕ) → 
 no-words array e = record { ok = e; filled = λ t. absurd (false≢true t) }
 
 -- the columns of a line, then LF
-module _ {sheet : List ℕ} {at columns i : ℕ} {before : List ℕ} (asked : LineAsked sheet at columns i before) where
+module _ {sheet : List ℕ} {at columns i : ℕ} {before : List ℕ} (asked : LineAsks sheet at columns i before) where
   few : columns ≤ 6
   few = asked .asked .few
 
@@ -160,7 +160,7 @@ module _ {sheet : List ℕ} {at columns i : ℕ} {before : List ℕ} (asked : Li
         record { ok = rw (← scan-ends (go .scan) le) is; filled = λ _. rw n at (go .filled) }
 
 -- the lines
-module _ (sheet : List ℕ) {at columns count : ℕ} {before : List ℕ} (asked : LinesAsked at columns count before) where
+module _ (sheet : List ℕ) {at columns count : ℕ} {before : List ℕ} (asked : LinesAsks at columns count before) where
   pub lines-start : Going (lineOk sheet at columns) (wordAt sheet at (lineLength columns) columns) count 0 (0 * columns) before before
   lines-start =
       let z : 0 * columns ≡ 0 = omega arith in
@@ -168,7 +168,7 @@ module _ (sheet : List ℕ) {at columns count : ℕ} {before : List ℕ} (asked 
 
   module _ {i : ℕ} {here : List ℕ} (go : Going (lineOk sheet at columns) (wordAt sheet at (lineLength columns) columns) count i (i * columns) before here) where
     module _ (lt : i < count) where
-      pub line-asked : LineAsked sheet at columns i here
+      pub line-asked : LineAsks sheet at columns i here
       line-asked =
           let le : (i + 1) * columns ≤ count * columns = mul-le-mul-right columns (omega arith) in
           record {
@@ -191,7 +191,7 @@ module _ (sheet : List ℕ) {at columns count : ℕ} {before : List ℕ} (asked 
         record { ok = scan-ends (go .scan) le; filled = λ _. rw n at (go .filled) }
 
 -- a number's line
-module _ {sheet : List ℕ} {at i : ℕ} {before : List ℕ} (asked : NumberAsked sheet at i before) where
+module _ {sheet : List ℕ} {at i : ℕ} {before : List ℕ} (asked : NumberAsks sheet at i before) where
   pub number-part-fits : Fits w64 (i * numberLineLength)
   number-part-fits = part-fits (asked .asked .lines) i (omega arith)
 
@@ -226,13 +226,13 @@ module _ {sheet : List ℕ} {at i : ℕ} {before : List ℕ} (asked : NumberAske
     unfolding isNumberLine
     number-unread {after} e = no-words after (rw (← is, e))
 
-module _ (sheet : List ℕ) {at count : ℕ} {before : List ℕ} (asked : NumbersAsked at count before) where
+module _ (sheet : List ℕ) {at count : ℕ} {before : List ℕ} (asked : NumbersAsks at count before) where
   pub numbers-start : Going (numberLineOk sheet at) (numberWord sheet at) count 0 (0 * 2) before before
   numbers-start = record { scan = scan-start (numberLineOk sheet at) 0 count; filled = filled-none (numberWord sheet at) before; long = refl }
 
   module _ {i : ℕ} {here : List ℕ} (go : Going (numberLineOk sheet at) (numberWord sheet at) count i (i * 2) before here) where
     module _ (lt : i < count) where
-      pub number-asked : NumberAsked sheet at i here
+      pub number-asked : NumberAsks sheet at i here
       number-asked = record {
         asked = record { lines = up-to (asked .lines) i lt; room = omega (arith, asked .room, go .long) };
         before = go .filled;

@@ -19,7 +19,7 @@ use Rattle.sheet.specs.declared.space.Tried.the-variants as Tried
 use Rattle.sheet.specs.Sheet.{markWord, namesPlace, stringsPlace, textPlace, endPlace, marksOf}
 use Rattle.sheet.specs.Listing.{listingOf, Printed}
 use Rattle.sheet.specs.code.Header.{Headed}
-use Rattle.sheet.specs.code.Post.{isSmall, Overlaid, refusalBytes, plannedBytes, TriedBy, Space, Roomy, TablesAsked, TablesRead, Tabled}
+use Rattle.sheet.specs.code.Post.{isSmall, Overlaid, refusalBytes, plannedBytes, TriedBy, Space, Roomy, TablesAsks, TablesRead, SheetHeld}
 use Rattle.sheet.proofs.lines.LineTests.{filled-first}
 
 -- space for the tables
@@ -56,7 +56,7 @@ roomy s nodes children numbers names a b d e =
     record { nodes-room = omega (arith, s); children-room = omega (arith, s); numbers-room = omega (arith, s); names-room = omega (arith, s) }
 
 pub tables-asked : {sheet : List ℕ} {h : Header} → Headed sheet h → {n k m x : ℕ} → Space (h .counts) n k m x
-    → (nodes children numbers names : List ℕ) → length nodes ≡ n * 5 → length children ≡ k → length numbers ≡ m * 2 → length names ≡ x * 3 → TablesAsked h nodes children numbers names
+    → (nodes children numbers names : List ℕ) → length nodes ≡ n * 5 → length children ≡ k → length numbers ≡ m * 2 → length names ≡ x * 3 → TablesAsks h nodes children numbers names
 tables-asked headed s nodes children numbers names a b d e =
     record { limited = headed .limited; places-are = headed .places-are; roomy = roomy s nodes children numbers names a b d e }
 
@@ -70,8 +70,8 @@ module _ {sheet : List ℕ} {h : Header} (headed : Headed sheet h) {nodes childr
   unfolding listingOf
   tables-refused t p = rw (headed .parses, told-no (read .ok) t) p
 
-  pub tabled : not r ≡ false → {n k m x : ℕ} → Space (h .counts) n k m x → length nodes ≡ n * 5 → length children ≡ k → length numbers ≡ m * 2 → length names ≡ x * 3 → Tabled sheet h nodes children numbers names marks
-  tabled t s a b d e = record {
+  pub sheet-held : not r ≡ false → {n k m x : ℕ} → Space (h .counts) n k m x → length nodes ≡ n * 5 → length children ≡ k → length numbers ≡ m * 2 → length names ≡ x * 3 → SheetHeld sheet h nodes children numbers names marks
+  sheet-held t s a b d e = record {
     headed = headed;
     good = told-yes (read .ok) t;
     roomy = roomy s nodes children numbers names a b d e;
@@ -111,7 +111,7 @@ marks-all f count few {marks} m = ext-getD 0 marks (first ++ rest) long each
     each k lt = at-k k (omega (arith, m .long, length-replicate {A = ℕ} 128 0)) (ltb k count) refl
 
 -- the tables, the strings, the text and the scope
-module _ {sheet : List ℕ} {h : Header} {nodes children numbers names marks : List ℕ} (t : Tabled sheet h nodes children numbers names marks) where
+module _ {sheet : List ℕ} {h : Header} {nodes children numbers names marks : List ℕ} (t : SheetHeld sheet h nodes children numbers names marks) where
   pub nodes-inside : h .counts .nodes * 5 ≤ length nodes
   nodes-inside = t .roomy .nodes-room
 

@@ -10,7 +10,7 @@ use lib.Seq.{getD-set-other}
 use mir.Syntax.{w8, w64}
 use mir.Val.{Fits}
 use Rattle.table.proofs.tests.Scan.{Scan, scan-start, scan-on, scan-fails, scan-ends}
-use Rattle.sheet.specs.code.Post.{Filled, nameWord, rowMark, rowMarkOk, NamesAsked, MarksAsked, Overlaid, MarksRead}
+use Rattle.sheet.specs.code.Post.{Filled, nameWord, rowMark, rowMarkOk, NamesAsks, MarksAsks, Overlaid, MarksRead}
 use Rattle.sheet.proofs.lines.LineTests.{filled-none, filled-on}
 
 -- an array whose first words are written anew
@@ -28,7 +28,7 @@ pub overlaid-first : {f : ℕ → ℕ} {x count : ℕ} {before here : List ℕ} 
 overlaid-first old le = record { each = λ k lt. old .first .each k (omega arith) }
 
 -- names
-module _ {rows : List ℕ} {count : ℕ} (asked : NamesAsked rows count) where
+module _ {rows : List ℕ} {count : ℕ} (asked : NamesAsks rows count) where
   pub words-fit : Fits w64 (count * 2)
   words-fit = record { fits = omega (arith, asked .few) }
 
@@ -56,7 +56,7 @@ pub record Marking (rows : List ℕ) (count x : ℕ) (before here : List ℕ) : 
 pub marking-start : (rows : List ℕ) (count : ℕ) (before : List ℕ) → Marking rows count 0 before before
 marking-start rows count before = record { scan = scan-start (rowMarkOk rows) 0 count; marked = overlaid-none (rowMark rows) before }
 
-module _ {rows before : List ℕ} {count : ℕ} (asked : MarksAsked rows count before) {x : ℕ} {here : List ℕ} (go : Marking rows count x before here) where
+module _ {rows before : List ℕ} {count : ℕ} (asked : MarksAsks rows count before) {x : ℕ} {here : List ℕ} (go : Marking rows count x before here) where
   module _ (lt : x < count) where
     pub mark-part-fits : Fits w64 (x * 3)
     mark-part-fits = record { fits = omega (arith, asked .few) }

@@ -13,7 +13,7 @@ use Rattle.sheet.specs.declared.header.Header.{Header}
 use Rattle.sheet.specs.Lines.{numberAt, columnPlace, numberIn, lineLength, linesOk, numberLinesOk, wordAt, numberWord}
 use Rattle.sheet.specs.Sheet.{markWord, markOk, marksOk}
 use Rattle.sheet.specs.code.Header.{tablesOk}
-use Rattle.sheet.specs.code.Post.{Filled, Read, LinesAsked, NumbersAsked, nameWord, rowMark, rowMarkOk, NamesAsked, MarksAsked, Overlaid, MarksRead, namesOk, NamesRead, TablesAsked, TablesRead}
+use Rattle.sheet.specs.code.Post.{Filled, Read, LinesAsks, NumbersAsks, nameWord, rowMark, rowMarkOk, NamesAsks, MarksAsks, Overlaid, MarksRead, namesOk, NamesRead, TablesAsks, TablesRead}
 use Rattle.sheet.proofs.lines.LineTests.{word-in-line}
 
 -- the words of names and marks
@@ -46,11 +46,11 @@ module _ (sheet : List ℕ) (at count : ℕ) {rows : List ℕ} (words : Filled (
   marks-words m = record { long = m .long; first = record { each = λ k lt. m .first .each k lt ∙ mark-word k lt }; rest = m .rest }
 
 -- the lines of names
-module _ {at count : ℕ} {names : List ℕ} (asked : LinesAsked at 3 count names) (few : count ≤ 128) {rows : List ℕ} (long : length rows ≡ length names) where
-  pub marks-asked : (marks : List ℕ) → length marks ≡ 128 → MarksAsked rows count marks
+module _ {at count : ℕ} {names : List ℕ} (asked : LinesAsks at 3 count names) (few : count ≤ 128) {rows : List ℕ} (long : length rows ≡ length names) where
+  pub marks-asked : (marks : List ℕ) → length marks ≡ 128 → MarksAsks rows count marks
   marks-asked marks long-2 = record { few = few; there = omega (arith, asked .room); room = omega arith }
 
-  pub words-asked : NamesAsked rows count
+  pub words-asked : NamesAsks rows count
   words-asked = record { few = few; there = omega (arith, asked .room) }
 
 names-unread : {sheet : List ℕ} {at count : ℕ} (names before marks : List ℕ) → false ≡ namesOk sheet at count → NamesRead sheet at count names before marks false
@@ -80,17 +80,17 @@ module _ (sheet : List ℕ) (at count : ℕ) {rows : List ℕ} {l : Bool} (read 
     }
 
 -- what is asked of the space
-module _ {h : Header} {nodes children numbers names : List ℕ} (asked : TablesAsked h nodes children numbers names) where
-  pub nodes-asked : LinesAsked (h .places .nodes) 5 (h .counts .nodes) nodes
+module _ {h : Header} {nodes children numbers names : List ℕ} (asked : TablesAsks h nodes children numbers names) where
+  pub nodes-asked : LinesAsks (h .places .nodes) 5 (h .counts .nodes) nodes
   nodes-asked = rw (asked .places-are) (record { lines = record { below = omega (arith, asked .limited) }; few = omega arith; room = asked .roomy .nodes-room })
 
-  pub children-asked : LinesAsked (h .places .children) 1 (h .counts .children) children
+  pub children-asked : LinesAsks (h .places .children) 1 (h .counts .children) children
   children-asked = rw (asked .places-are) (record { lines = record { below = omega (arith, asked .limited) }; few = omega arith; room = omega (arith, asked .roomy) })
 
-  pub numbers-asked : NumbersAsked (h .places .numbers) (h .counts .numbers) numbers
+  pub numbers-asked : NumbersAsks (h .places .numbers) (h .counts .numbers) numbers
   numbers-asked = rw (asked .places-are) (record { lines = record { below = omega (arith, asked .limited) }; room = asked .roomy .numbers-room })
 
-  pub names-asked : LinesAsked (h .places .names) 3 (h .counts .names) names
+  pub names-asked : LinesAsks (h .places .names) 3 (h .counts .names) names
   names-asked = rw (asked .places-are) (record { lines = record { below = omega (arith, asked .limited) }; few = omega arith; room = asked .roomy .names-room })
 
   -- one table after the other

@@ -43,21 +43,21 @@ pub record Read (f : ℕ → ℕ) (words : ℕ) (good : Bool) (array : List ℕ)
   pub filled : r ≡ true → Filled f words array
 
 -- so many lines, or line i after those before it
-pub record LinesAsked (at columns count : ℕ) (out : List ℕ) : Type 0 where
+pub record LinesAsks (at columns count : ℕ) (out : List ℕ) : Type 0 where
   pub lines : Inside at (lineLength columns) count
   pub few : columns ≤ 6
   pub room : count * columns ≤ length out
 
-pub record LineAsked (sheet : List ℕ) (at columns i : ℕ) (out : List ℕ) : Type 0 where
-  pub asked : LinesAsked at columns (i + 1) out
+pub record LineAsks (sheet : List ℕ) (at columns i : ℕ) (out : List ℕ) : Type 0 where
+  pub asked : LinesAsks at columns (i + 1) out
   pub before : Filled (wordAt sheet at (lineLength columns) columns) (i * columns) out
 
-pub record NumbersAsked (at count : ℕ) (out : List ℕ) : Type 0 where
+pub record NumbersAsks (at count : ℕ) (out : List ℕ) : Type 0 where
   pub lines : Inside at numberLineLength count
   pub room : count * 2 ≤ length out
 
-pub record NumberAsked (sheet : List ℕ) (at i : ℕ) (out : List ℕ) : Type 0 where
-  pub asked : NumbersAsked at (i + 1) out
+pub record NumberAsks (sheet : List ℕ) (at i : ℕ) (out : List ℕ) : Type 0 where
+  pub asked : NumbersAsks at (i + 1) out
   pub before : Filled (numberWord sheet at) (i * 2) out
 
 -- names and marks, from three words a name
@@ -70,11 +70,11 @@ rowMark rows x = getD rows (x * 3 + 2) 0
 abbrev pub rowMarkOk : List ℕ → ℕ → Bool
 rowMarkOk rows x = leb (rowMark rows x) 31
 
-pub record NamesAsked (rows : List ℕ) (count : ℕ) : Type 0 where
+pub record NamesAsks (rows : List ℕ) (count : ℕ) : Type 0 where
   pub few : count ≤ 128
   pub there : count * 3 ≤ length rows
 
-pub record MarksAsked (rows : List ℕ) (count : ℕ) (marks : List ℕ) : Type 0 where
+pub record MarksAsks (rows : List ℕ) (count : ℕ) (marks : List ℕ) : Type 0 where
   pub few : count ≤ 128
   pub there : count * 3 ≤ length rows
   pub room : count ≤ length marks
@@ -116,7 +116,7 @@ entryLines plan i k = map entryLine (readEntries plan i k)
 abbrev pub answerLines : Line → List ℕ → List Line
 answerLines first plan = first ∷ entryLines plan 0 (entriesIn first)
 
-pub record EntriesAsked (out plan : List ℕ) (count : ℕ) : Type 0 where
+pub record EntriesAsks (out plan : List ℕ) (count : ℕ) : Type 0 where
   pub space : count * lineLength 4 + lineLength 4 ≤ length out
   pub held : count * 4 ≤ length plan
 
@@ -170,7 +170,7 @@ pub record Roomy (c : Counts) (nodes children numbers names : List ℕ) : Type 0
   pub numbers-room : c .numbers * 2 ≤ length numbers
   pub names-room : c .names * 3 ≤ length names
 
-pub record TablesAsked (h : Header) (nodes children numbers names : List ℕ) : Type 0 where
+pub record TablesAsks (h : Header) (nodes children numbers names : List ℕ) : Type 0 where
   pub limited : Limited (h .counts)
   pub places-are : h .places ≡ placesOf (h .counts)
   pub roomy : Roomy (h .counts) nodes children numbers names
@@ -187,7 +187,7 @@ pub record TablesRead (sheet : List ℕ) (c : Counts) (nodes children numbers na
   pub held : r ≡ true → TablesHeld sheet c nodes children numbers names before marks
 
 -- a sheet of good layout, whose tables are in arrays
-pub record Tabled (sheet : List ℕ) (h : Header) (nodes children numbers names marks : List ℕ) : Type 0 where
+pub record SheetHeld (sheet : List ℕ) (h : Header) (nodes children numbers names marks : List ℕ) : Type 0 where
   pub headed : Headed sheet h
   pub good : tablesOk sheet (h .counts) ≡ true
   pub roomy : Roomy (h .counts) nodes children numbers names

@@ -16,7 +16,7 @@ use Rattle.planner.specs.code.Post.{GoodPair}
 use Rattle.some_in.specs.SomeIn.{valuePlanned}
 
 -- a pattern, and `left` items from child entry `at` on
-pub record ItemsAsk (T : Tables) (pattern at left : ℕ) : Type 0 where
+pub record ItemsAsks (T : Tables) (pattern at left : ℕ) : Type 0 where
   pub table : WellFormed T
   pub node : Node T pattern
   pub each : (i : ℕ) → i < left → Node T (childAt (T .children) (at + i))

@@ -18,9 +18,9 @@ use Rattle.table.specs.Decode.{expr}
 use Rattle.base.specs.Lists.{allFrom, noRepeat}
 use Rattle.base.specs.Refusal.{Tested, passed, refused}
 use Rattle.table.specs.Rules.{withinLimits, wholeRecords, nameOk, nameOkAt, numberOk, entryOk, spanOk, childrenBelow, nodeOk, nodeOkAt, usedPlaces, scopeOk, followsRules, shallow, namesDiffer}
-use Rattle.table.specs.code.Marks.{PlacesAsk}
-use Rattle.table.specs.code.Depths.{DepthsAsk, DepthsTold}
-use Rattle.table.specs.code.Passes.{listsOk, nodesOk, headOk, headOkAt, childrenBelowAt, NodesAsk}
+use Rattle.table.specs.code.Distinct.{PlacesAsks}
+use Rattle.table.specs.code.Depths.{DepthsAsks, DepthsTold}
+use Rattle.table.specs.code.Passes.{listsOk, nodesOk, headOk, headOkAt, childrenBelowAt, NodesAsks}
 use Rattle.table.specs.Check.{checked, testedOf, TableAnswered, TableLaws}
 use Rattle.table.specs.code.Sound.{WellFormed}
 use Rattle.table.proofs.tests.Bools.{and-true, told-no, told-yes}
@@ -62,7 +62,7 @@ two-passes : (T : Tables) → allFrom (nodeOkAt T) 0 (nodeCount T) ≡ (allFrom 
 unfolding nodeOk headOk
 two-passes T = all-both (headOkAt T) (childrenBelowAt T) (nodeOkAt T) (λ j. sym (and-assoc (spanOk T (j + 1)) _ _)) 0 (nodeCount T)
 
-module _ (nodes ch nums names strings text : List ℕ) (ask : NodesAsk (tables nodes ch nums names strings text)) where
+module _ (nodes ch nums names strings text : List ℕ) (ask : NodesAsks (tables nodes ch nums names strings text)) where
   pub entry-bound : (i : ℕ) → i < length ch → getD ch i 0 ≤ 512
   entry-bound i lt =
       let e = from-zero (entryOk (tables nodes ch nums names strings text)) (length ch) (ask .entries) i lt in
@@ -76,7 +76,7 @@ module _ (nodes ch nums names strings text : List ℕ) (ask : NodesAsk (tables n
     nodes-heads t = rw (two-passes (tables nodes ch nums names strings text), told-no heads t)
 
     module _ (t : not a ≡ false) where
-      pub heads-places : PlacesAsk nodes
+      pub heads-places : PlacesAsks nodes
       heads-places = record {
         few = ask .few;
         low = λ n low high i lt.
@@ -127,7 +127,7 @@ module _ (nodes ch nums names strings text : List ℕ) where
         lists-pass : listsOk (tables nodes ch nums names strings text) ≡ true
         lists-pass = told-yes (lists ∙ same-lists) t
 
-        pub ask-nodes : NodesAsk (tables nodes ch nums names strings text)
+        pub ask-nodes : NodesAsks (tables nodes ch nums names strings text)
         unfolding listsOk
         ask-nodes =
             let w = and-true (wholeRecords (tables nodes ch nums names strings text)) _ lists-pass in
@@ -157,7 +157,7 @@ module _ (nodes ch nums names strings text : List ℕ) (s : Scope) {a : Bool} (l
       well : WellFormed (tables nodes ch nums names strings text)
       well = well-formed (tables nodes ch nums names strings text) s (told-yes limits t) (told-yes rules u)
 
-      pub ask-depths : DepthsAsk nodes ch
+      pub ask-depths : DepthsAsks nodes ch
       ask-depths = record { few = well .limits .nodes; below = λ n low high i lt. well .below n (record { low = low; high = high }) i lt }
 
       pub few-names : length names / 2 ≤ 128

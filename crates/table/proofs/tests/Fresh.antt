@@ -14,7 +14,7 @@ use mir.Syntax.{w64}
 use Rattle.table.specs.Tables.{firstOf, width}
 use Rattle.base.specs.Lists.{elem, noRepeat}
 use Rattle.table.specs.Rules.{placesFrom, usedPlaces}
-use Rattle.table.specs.code.Marks.{freshAll, markAll, PlacesMarked, PlacesAsk}
+use Rattle.table.specs.code.Distinct.{freshAll, markAll, PlacesMarked, PlacesAsks}
 use Rattle.table.proofs.tests.Bools.{crossed}
 
 data Below (k : ℕ) : List ℕ → Type 0 where
@@ -176,7 +176,7 @@ module _ {first count i : ℕ} {before used : List ℕ} (go : Marking first coun
 
 -- `places_apart`: the same of the nodes that are left
 pub record Apart (nodes : List ℕ) (n : ℕ) (used : List ℕ) : Type 0 where
-  pub ask : PlacesAsk nodes
+  pub ask : PlacesAsks nodes
   pub few : length nodes / 5 ≤ 512
   pub inside : n ≤ length nodes / 5
   pub same : freshAll (usedPlaces nodes (n + 1) (length nodes / 5 - n)) used ≡ noRepeat (usedPlaces nodes 1 (length nodes / 5))
@@ -197,7 +197,7 @@ below-used k nodes n (suc count) h =
     (below-places k (firstOf nodes n) (width nodes n) (rw z at (h 0 (omega arith))))
     (below-used k nodes (n + 1) count (λ j lt. let e : n + (j + 1) ≡ n + 1 + j = omega arith in rw e at (h (j + 1) (omega arith))))
 
-pub apart-start : (nodes : List ℕ) → PlacesAsk nodes → Apart nodes 0 (replicate 512 0)
+pub apart-start : (nodes : List ℕ) → PlacesAsks nodes → Apart nodes 0 (replicate 512 0)
 apart-start nodes ask =
     let z : length nodes / 5 - 0 ≡ length nodes / 5 = omega arith in
     let low = below-used 512 nodes 1 (length nodes / 5) (λ j lt. ask .low (1 + j) (omega arith) (omega arith)) in

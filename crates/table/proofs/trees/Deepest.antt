@@ -16,7 +16,7 @@ use Rattle.table.specs.Tables.{Tables, kindOf, firstOf, countOf, width, 
 use Rattle.table.specs.Expr.{Expr, depth, depthAll, depthFields}
 use Rattle.table.specs.Decode.{items, fields, leafOf, namedBy, isWildcard, literalAt, expr}
 use Rattle.table.specs.code.Sound.{Node, WellFormed}
-use Rattle.table.specs.code.Depths.{deepest, listedDepth, ChildrenAsk, DepthsAsk, Depths, shallowAt, DepthsTold}
+use Rattle.table.specs.code.Depths.{deepest, listedDepth, ChildrenAsks, DepthsAsks, Depths, shallowAt, DepthsTold}
 use Rattle.table.proofs.tests.Scan.{Scan, scan-start, scan-on, scan-fails, scan-ends}
 use Rattle.table.proofs.trees.Trees.{width-array, width-set, width-object, width-leaf, expr-name, expr-array, expr-set, expr-object, expr-leaf}
 
@@ -97,12 +97,12 @@ deepest-same f g ch at (suc k) same =
 
 -- `deepest_of`: the greatest so far, with those of the children that are left
 pub record Deepening (children depths : List ℕ) (first count i deep : ℕ) : Type 0 where
-  pub ask : ChildrenAsk children first count
+  pub ask : ChildrenAsks children first count
   pub room : first + count < 2 ^ 64
   pub inside : i ≤ count
   pub same : max deep (deepest (listedDepth depths) children (first + i) (count - i)) ≡ deepest (listedDepth depths) children first count
 
-pub deepening-start : (children depths : List ℕ) (first count : ℕ) → ChildrenAsk children first count → Deepening children depths first count 0 0
+pub deepening-start : (children depths : List ℕ) (first count : ℕ) → ChildrenAsks children first count → Deepening children depths first count 0 0
 deepening-start children depths first count ask =
     let a : first + 0 ≡ first = omega arith in
     let b : count - 0 ≡ count = omega arith in
@@ -130,14 +130,14 @@ module _ {children depths : List ℕ} {first count i deep : ℕ} (go : Deepening
 
 -- `depths_ok`: the depths of the nodes that are passed
 pub record Deep (nodes children : List ℕ) (n : ℕ) (depths : List ℕ) : Type 0 where
-  pub ask : DepthsAsk nodes children
+  pub ask : DepthsAsks nodes children
   pub few : length nodes / 5 ≤ 512
   pub inside : n ≤ length nodes / 5
   pub scan : (d : ℕ → ℕ) → Depths nodes children d → Scan (shallowAt d) 0 (length nodes / 5) n
   pub known : (d : ℕ → ℕ) → Depths nodes children d → (c : ℕ) → 1 ≤ c → c ≤ n → getD depths (c - 1) 0 ≡ d c
   pub long : length depths ≡ 512
 
-pub deep-start : (nodes children : List ℕ) → DepthsAsk nodes children → Deep nodes children 0 (replicate 512 0)
+pub deep-start : (nodes children : List ℕ) → DepthsAsks nodes children → Deep nodes children 0 (replicate 512 0)
 deep-start nodes children ask = record {
   ask = ask;
   few = ask .few;
@@ -149,7 +149,7 @@ deep-start nodes children ask = record {
 
 module _ {nodes children : List ℕ} {n : ℕ} {depths : List ℕ} (go : Deep nodes children n depths) where
   module _ (lt : n < length nodes / 5) {first count : ℕ} (f : first ≡ firstOf nodes (n + 1)) (w : count ≡ width nodes (n + 1)) where
-    pub ask-children : first < 2 ^ 32 → count < 2 ^ 33 → ChildrenAsk children first count
+    pub ask-children : first < 2 ^ 32 → count < 2 ^ 33 → ChildrenAsks children first count
     ask-children small narrow = record {
       room = omega arith;
       nodes = λ i l.

@@ -18,12 +18,12 @@ abbrev pub listedDepth : List ℕ → ℕ → ℕ
 listedDepth depths n = getD depths (n - 1) 0
 
 -- `deepest_of`: each child entry is a node's number
-pub record ChildrenAsk (children : List ℕ) (first count : ℕ) : Type 0 where
+pub record ChildrenAsks (children : List ℕ) (first count : ℕ) : Type 0 where
   pub room : first + count < 2 ^ 64
   pub nodes : (i : ℕ) → i < count → (1 ≤ childAt children (first + i)) × (childAt children (first + i) ≤ 512)
 
 -- `depths_ok`: few nodes, and a child is a node of a lower number
-pub record DepthsAsk (nodes children : List ℕ) : Type 0 where
+pub record DepthsAsks (nodes children : List ℕ) : Type 0 where
   pub few : length nodes / 5 ≤ 512
   pub below : (n : ℕ) → 1 ≤ n → n ≤ length nodes / 5 → (i : ℕ) → i < width nodes n
       → (1 ≤ childAt children (firstOf nodes n + i)) × (childAt children (firstOf nodes n + i) < n)

@@ -30,7 +30,7 @@ abbrev pub childrenBelowAt : Tables → ℕ → Bool
 childrenBelowAt T j = childrenBelow T (j + 1)
 
 -- `nodes_ok`: within the limits, and the child entries are numbers of nodes
-pub record NodesAsk (T : Tables) : Type 0 where
+pub record NodesAsks (T : Tables) : Type 0 where
   pub few : nodeCount T ≤ 512
   pub short : length (T .children) ≤ 512
   pub entries : allFrom (entryOk T) 0 (length (T .children)) ≡ true

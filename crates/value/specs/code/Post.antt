@@ -40,7 +40,7 @@ pub record ChildrenAsks (T : Tables) (at step left : ℕ) : Type 0 where
   pub listed : at + left * step ≤ length (T .children)
 
 -- the same of child entries alone, of some good table
-pub record EntriesAsk (children : List ℕ) (at step left : ℕ) : Type 0 where
+pub record EntriesAsks (children : List ℕ) (at step left : ℕ) : Type 0 where
   pub T : Tables
   pub asks : ChildrenAsks (tables (T .nodes) children (T .numbers) (T .names) (T .strings) (T .text)) at step left
 
@@ -82,7 +82,7 @@ pub record KeyedObject (T : Tables) (n : ℕ) : Type 0 where
   pub literal : (i : ℕ) → i < countOf (T .nodes) n → kindOf (T .nodes) (keyNode T (firstOf (T .nodes) n) i) ≤ 5
   pub differ : differing (keysOf (fieldsOf T n)) ≡ true
 
-pub record KeySetsAsk (T : Tables) (a b : ℕ) : Type 0 where
+pub record KeySetsAsks (T : Tables) (a b : ℕ) : Type 0 where
   pub left : KeyedObject T a
   pub right : KeyedObject T b
 

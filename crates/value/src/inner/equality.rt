@@ -6,6 +6,7 @@ ghost use Rattle.value.specs.Value.{valueOf, valueFieldsOf, same, sameIt
 ghost use Rattle.value.specs.code.Post.{valuesFrom, SameAsks, SameItemsAsks, SameFieldsAsks};
 use crate::inner::fields::same_literals;
 use crate::inner::fields::value_under;
+use table::node_kind;
 use table::reading::child_at;
 use table::reading::count_of;
 use table::reading::first_of;
@@ -25,7 +26,7 @@ pub fn same_value(
     ensures { λ r. let T = lent nodes children numbers names strings text in ⌜ r ≡ same (valueOf (expr T a)) (valueOf (expr T b)) ⌝ }
 {
     let kind = kind_of(nodes, a);
-    if kind <= 5 {
+    if kind <= node_kind::LAST_LITERAL {
         return same_literals(nodes, numbers, strings, text, a, b);
     }
     if kind_of(nodes, b) != kind {
@@ -35,7 +36,7 @@ pub fn same_value(
     if count_of(nodes, b) != count {
         return false;
     }
-    if kind == 7 {
+    if kind == node_kind::ARRAY {
         let at = first_of(nodes, a) as usize;
         let from = first_of(nodes, b) as usize;
         return same_items(

@@ -4,7 +4,7 @@ ghost use mathlib.Core.Path.{_≡_};
 ghost use Rattle.table.specs.Decode.{literalAt, fieldsOf};
 ghost use Rattle.planner.specs.Simple.{keysOf};
 ghost use Rattle.value.specs.Value.{sameKeys};
-ghost use Rattle.value.specs.code.Post.{sameLiterals, ChildrenAsks, underFrom, underIn, KeyedObject, KeySetsAsk};
+ghost use Rattle.value.specs.code.Post.{sameLiterals, ChildrenAsks, underFrom, underIn, KeyedObject, KeySetsAsks};
 use literal::Comparison;
 use table::reading::child_at;
 use table::reading::compare_literals;
@@ -107,7 +107,7 @@ pub fn same_key_sets(
     a: u32,
     b: u32,
 ) -> bool
-    requires { ⌜ KeySetsAsk (given nodes children numbers names strings text) a b ⌝ }
+    requires { ⌜ KeySetsAsks (given nodes children numbers names strings text) a b ⌝ }
     ensures { λ r. let T = lent nodes children numbers names strings text in ⌜ r ≡ sameKeys (keysOf (fieldsOf T a)) (keysOf (fieldsOf T b)) ⌝ }
 {
     let first = first_of(nodes, a) as usize;

@@ -23,11 +23,11 @@ use Rattle.assignment.proofs.flatten.flatten_objects.Reads as flatten-o
 use Rattle.assignment.proofs.flatten.flatten_objects.Kinds as flatten-objects-kinds
 use Rattle.assignment.proofs.flatten.+flatten+flatten_arrays+flatten_fields+flatten_items+flatten_objects.Lts-flatten_objects as flatten-objects-lts
 use Rattle.assignment.proofs.flatten.bind_planned.Reads as bind-planned-reads
-use Rattle.assignment.proofs.flatten.bind_side.Reads as bind-side-reads
+use Rattle.assignment.proofs.flatten.bind_unplanned.Reads as bind-side-reads
 use Rattle.assignment.proofs.flatten.compare_sides.Reads as compare-sides-reads
 use Rattle.assignment.proofs.judge.judge.Reads as judge-reads
 use Rattle.assignment.proofs.keys.field_sides.Reads as field-sides-reads
-use Rattle.assignment.proofs.keys.match_keys.Reads as match-keys-reads
+use Rattle.assignment.proofs.keys.collect_object_pairs.Reads as match-keys-reads
 use Rattle.table.proofs.reading.child_at.Reads as child-at-reads
 use Rattle.table.proofs.reading.count_of.Reads as count-of-reads
 use Rattle.table.proofs.reading.first_of.Reads as first-of-reads

@@ -20,7 +20,7 @@ use Rattle.checks.proofs.inner.check_structure.Reads as check-structure
 use Rattle.checks.proofs.inner.check_structure.Kinds as check-structure-kinds
 use Rattle.checks.proofs.inner.+check_field+check_fields+check_items+check_object+check_structure.Lts-check_structure as check-structure-lts
 use Rattle.checks.proofs.inner.partner_of.Reads as partner-of-reads
-use Rattle.checks.proofs.texts.compare_keys.Reads as compare-keys-reads
+use Rattle.checks.proofs.texts.compare_object_keys.Reads as compare-keys-reads
 use Rattle.table.proofs.reading.child_at.Reads as child-at-reads
 use Rattle.table.proofs.reading.count_of.Reads as count-of-reads
 use Rattle.table.proofs.reading.first_of.Reads as first-of-reads

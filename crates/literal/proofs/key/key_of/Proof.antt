@@ -1,6 +1,6 @@
 use Rattle.literal.proofs.Keys.{key-at}
 use Rattle.literal.specs.Reading.{literalOf}
-use Rattle.literal.specs.code.Key.{keyOf}
+use Rattle.literal.specs.code.SortKey.{keyOf}
 use borrow.Author.Needs.{needs}
 use Rattle.literal.proofs.key.key_of.Statement.{statement}
 use Rattle.literal.proofs.key.key_of.Tie as tie

@@ -4,7 +4,7 @@ use Rattle.some_in.proofs.collection.check_collection.Statement.{statem
 use Rattle.some_in.proofs.collection.check_collection.Tie as tie
 use Rattle.some_in.proofs.collection.check_collection.Reads as reads
 use Rattle.some_in.proofs.collection.check_collection.Lts as lts
-use Rattle.some_in.proofs.collection.check_items.Reads as check-items-reads
+use Rattle.some_in.proofs.collection.check_collection_items.Reads as check-items-reads
 use Rattle.table.proofs.reading.count_of.Reads as count-of-reads
 use Rattle.table.proofs.reading.first_of.Reads as first-of-reads
 use Rattle.table.proofs.reading.kind_of.Reads as kind-of-reads

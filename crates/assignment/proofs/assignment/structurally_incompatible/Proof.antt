@@ -1,0 +1,26 @@
+use Rattle.assignment.proofs.laws.Shapes.{array-against, object-against, single-against}
+use borrow.Author.Needs.{needs}
+use Rattle.assignment.proofs.assignment.structurally_incompatible.Statement.{statement}
+use Rattle.assignment.proofs.assignment.structurally_incompatible.Tie as tie
+use Rattle.assignment.proofs.assignment.structurally_incompatible.Reads as reads
+use Rattle.assignment.proofs.assignment.structurally_incompatible.Lts as lts
+use Rattle.table.proofs.reading.kind_of.Reads as kind-of-reads
+
+kind-of-requires : tie.Need-kind-of-requires
+kind-of-requires c κs = search needs
+
+kind-of-requires-2 : tie.Need-kind-of-requires-2
+kind-of-requires-2 c κs = search needs
+
+returns : tie.Need-returns
+returns c = search (array-against, needs)
+
+returns-2 : tie.Need-returns-2
+returns-2 c = search (object-against, needs)
+
+returns-3 : tie.Need-returns-3
+returns-3 c = search (single-against, needs)
+
+pub structurally-incompatible-spec : {M : Type 1} → statement M
+structurally-incompatible-spec =
+    tie.close (tie.spec kind-of-requires kind-of-requires-2 returns returns-2 returns-3)

@@ -1,0 +1,38 @@
+use Rattle.some_in.proofs.Collections.{items-empty, items-fit, first-pair, items-first}
+use borrow.Author.Needs.{needs}
+use Rattle.some_in.proofs.collection.check_collection_items.Statement.{statement}
+use Rattle.some_in.proofs.collection.check_collection_items.Tie as tie
+use Rattle.some_in.proofs.collection.check_collection_items.Reads as reads
+use Rattle.some_in.proofs.collection.check_collection_items.Lts as lts
+use Rattle.checks.proofs.inner.check_literal_structure.Reads as check-literal-structure-reads
+use Rattle.some_in.proofs.collection.any_fits.Reads as any-fits-reads
+use Rattle.table.proofs.reading.child_at.Reads as child-at-reads
+
+returns : tie.Need-returns
+returns c = search (items-empty, needs)
+
+any-fits-requires : tie.Need-any-fits-requires
+any-fits-requires c κs = search needs
+
+returns-2 : tie.Need-returns-2
+returns-2 c = search (items-fit, needs)
+
+child-at-requires : tie.Need-child-at-requires
+child-at-requires c κs = search needs
+
+check-literal-structure-requires : tie.Need-check-literal-structure-requires
+check-literal-structure-requires c κs = search (first-pair, needs)
+
+returns-3 : tie.Need-returns-3
+returns-3 c = search (items-first, needs)
+
+pub check-collection-items-spec : {M : Type 1} → statement M
+check-collection-items-spec =
+    tie.close
+    (tie.spec
+    returns
+    any-fits-requires
+    returns-2
+    child-at-requires
+    check-literal-structure-requires
+    returns-3)
