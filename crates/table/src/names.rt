@@ -12,6 +12,12 @@ ghost use Rattle.table.specs.Tables.{tables, nameBytes};
 ghost use Rattle.table.specs.code.NameOrder.{Ascending, FoundName};
 ghost use Rattle.table.specs.Rules.{namesDiffer};
 
+fn wide(name: u8) -> u32
+    ensures { λ r. ⌜ r ≡ name ⌝ }
+{
+    name as u32
+}
+
 // The place of bytes among `count` names in order, by binary search; 128 if a name has the same.
 fn find_name(names: &[u32], text: &[u8], order: &[u8; 128], count: usize, bytes: &[u8]) -> usize
     requires { ⌜ Ascending (nameBytes (now names) (now text)) (now order) count × (count < 128) ⌝ }
@@ -21,7 +27,7 @@ fn find_name(names: &[u32], text: &[u8], order: &[u8; 128], count: usize, bytes:
     let mut high = count;
     while low < high {
         let middle = low + (high - low) / 2;
-        let other = name_bytes(names, text, order[middle] as u32);
+        let other = name_bytes(names, text, wide(order[middle]));
         match compare_bytes(bytes, other) {
             Comparison::Less => high = middle,
             Comparison::Greater => low = middle + 1,
