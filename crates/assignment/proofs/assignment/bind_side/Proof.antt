@@ -4,13 +4,13 @@ use Rattle.assignment.proofs.assignment.bind_side.Statement.{statement}
 use Rattle.assignment.proofs.assignment.bind_side.Tie as tie
 use Rattle.assignment.proofs.assignment.bind_side.Reads as reads
 use Rattle.assignment.proofs.assignment.bind_side.Lts as lts
-use Rattle.assignment.proofs.assignment.incompatible.Reads as incompatible-reads
+use Rattle.assignment.proofs.assignment.structurally_incompatible.Reads as structurally-incompatible-reads
 use Rattle.assignment.proofs.entries.deliver.Reads as deliver-reads
 use Rattle.checks.proofs.inner.check_literal_structure.Reads as check-literal-structure-reads
 use Rattle.planner.proofs.buffer.clear.Reads as clear-reads
 
-incompatible-requires : tie.Need-incompatible-requires
-incompatible-requires c κs = search needs
+structurally-incompatible-requires : tie.Need-structurally-incompatible-requires
+structurally-incompatible-requires c κs = search needs
 
 clear-requires : tie.Need-clear-requires
 clear-requires c κs = search needs
@@ -76,7 +76,7 @@ pub bind-side-spec : {M : Type 1} → statement M
 bind-side-spec =
     tie.close
     (tie.spec
-    incompatible-requires
+    structurally-incompatible-requires
     clear-requires
     same-length
     returns

@@ -23,11 +23,11 @@ use Rattle.assignment.proofs.flatten.flatten_objects.Reads as flatten-o
 use Rattle.assignment.proofs.flatten.flatten_objects.Kinds as flatten-objects-kinds
 use Rattle.assignment.proofs.flatten.+flatten+flatten_arrays+flatten_fields+flatten_items+flatten_objects.Lts-flatten_objects as flatten-objects-lts
 use Rattle.assignment.proofs.flatten.bind_planned.Reads as bind-planned-reads
-use Rattle.assignment.proofs.flatten.bind_unplanned.Reads as bind-side-reads
+use Rattle.assignment.proofs.flatten.bind_unplanned.Reads as bind-unplanned-reads
 use Rattle.assignment.proofs.flatten.compare_sides.Reads as compare-sides-reads
 use Rattle.assignment.proofs.judge.judge.Reads as judge-reads
 use Rattle.assignment.proofs.keys.field_sides.Reads as field-sides-reads
-use Rattle.assignment.proofs.keys.collect_object_pairs.Reads as match-keys-reads
+use Rattle.assignment.proofs.keys.collect_object_pairs.Reads as collect-object-pairs-reads
 use Rattle.table.proofs.reading.child_at.Reads as child-at-reads
 use Rattle.table.proofs.reading.count_of.Reads as count-of-reads
 use Rattle.table.proofs.reading.first_of.Reads as first-of-reads
@@ -124,7 +124,7 @@ flatten-objects-below t =
     flatten-objects.Pre
 
 abbrev flatten-calls : ℕ → flatten-lts.Claims
-flatten-calls t = (judge-reads.Asked, judge-reads.Learnt, compare-sides-reads.Asked, compare-sides-reads.Learnt, bind-planned-reads.Asked, bind-planned-reads.Learnt, bind-side-reads.Asked, bind-side-reads.Learnt, flatten-arrays-below t, flatten-arrays.Post, flatten-objects-below t, flatten-objects.Post)
+flatten-calls t = (judge-reads.Asked, judge-reads.Learnt, compare-sides-reads.Asked, compare-sides-reads.Learnt, bind-planned-reads.Asked, bind-planned-reads.Learnt, bind-unplanned-reads.Asked, bind-unplanned-reads.Learnt, flatten-arrays-below t, flatten-arrays.Post, flatten-objects-below t, flatten-objects.Post)
 
 abbrev flatten-arrays-calls : ℕ → flatten-arrays-lts.Claims
 flatten-arrays-calls t = (count-of-reads.Asked, count-of-reads.Learnt, first-of-reads.Asked, first-of-reads.Learnt, flatten-items-below t, flatten-items.Post)
@@ -136,7 +136,7 @@ abbrev flatten-items-calls : ℕ → flatten-items-lts.Claims
 flatten-items-calls t = (child-at-reads.Asked, child-at-reads.Learnt, flatten-below t, flatten.Post)
 
 abbrev flatten-objects-calls : ℕ → flatten-objects-lts.Claims
-flatten-objects-calls t = (match-keys-reads.Asked, match-keys-reads.Learnt, flatten-fields-below t, flatten-fields.Post)
+flatten-objects-calls t = (collect-object-pairs-reads.Asked, collect-object-pairs-reads.Learnt, flatten-fields-below t, flatten-fields.Post)
 
 flatten-judge-requires : (t : ℕ) → flatten-lts.Need-judge-requires (flatten-calls t) (flatten-at t) flatten.Post
 flatten-judge-requires t c κs = (search (ask-sides, needs), search needs)
@@ -174,8 +174,8 @@ flatten-returns-2 t c = (flat-bind-left (c .before .before .before .before .befo
 flatten-enum-told-3 : (t : ℕ) → flatten-lts.Need-enum-told-3 (flatten-calls t) (flatten-at t) flatten.Post
 flatten-enum-told-3 t c = search needs
 
-flatten-bind-side-requires : (t : ℕ) → flatten-lts.Need-bind-side-requires (flatten-calls t) (flatten-at t) flatten.Post
-flatten-bind-side-requires t c κs = (search (ask-bind-right, needs), search (roomy-kept, needs))
+flatten-bind-unplanned-requires : (t : ℕ) → flatten-lts.Need-bind-unplanned-requires (flatten-calls t) (flatten-at t) flatten.Post
+flatten-bind-unplanned-requires t c κs = (search (ask-bind-right, needs), search (roomy-kept, needs))
 
 flatten-same-length-5 : (t : ℕ) → flatten-lts.Need-same-length-5 (flatten-calls t) (flatten-at t) flatten.Post
 flatten-same-length-5 t c = search needs
@@ -184,7 +184,7 @@ flatten-same-length-6 : (t : ℕ) → flatten-lts.Need-same-length-6 (flatten-ca
 flatten-same-length-6 t c = search needs
 
 flatten-returns-3 : (t : ℕ) → flatten-lts.Need-returns-3 (flatten-calls t) (flatten-at t) flatten.Post
-flatten-returns-3 t c = (flat-bind-right (c .before .before .before .before .before .before .before .before .before .before .before .before .before .before .before .before .before .before .before .before .before .before .before .before .before .pre .1 .0) (c .before .before .before .before .before .before .before .before .before .before .before .before .before .judge .ensures) (search needs) (c .before .before .before .before .bind-side .ensures .0), (tt, tt))
+flatten-returns-3 t c = (flat-bind-right (c .before .before .before .before .before .before .before .before .before .before .before .before .before .before .before .before .before .before .before .before .before .before .before .before .before .pre .1 .0) (c .before .before .before .before .before .before .before .before .before .before .before .before .before .judge .ensures) (search needs) (c .before .before .before .before .bind-unplanned .ensures .0), (tt, tt))
 
 flatten-enum-told-4 : (t : ℕ) → flatten-lts.Need-enum-told-4 (flatten-calls t) (flatten-at t) flatten.Post
 flatten-enum-told-4 t c = search needs
@@ -387,22 +387,22 @@ flatten-items-same-length-4 t c = search needs
 flatten-items-returns-2 : (t : ℕ) → flatten-items-lts.Need-returns-2 (flatten-items-calls t) (flatten-items-at t) flatten-items.Post flatten-items-Inv-loop flatten-items-μ-loop
 flatten-items-returns-2 t c = (search (items-over, needs), (tt, tt))
 
-flatten-objects-match-keys-requires : (t : ℕ) → flatten-objects-lts.Need-match-keys-requires (flatten-objects-calls t) (flatten-objects-at t) flatten-objects.Post
-flatten-objects-match-keys-requires t c κs = search needs
+flatten-objects-collect-object-pairs-requires : (t : ℕ) → flatten-objects-lts.Need-collect-object-pairs-requires (flatten-objects-calls t) (flatten-objects-at t) flatten-objects.Post
+flatten-objects-collect-object-pairs-requires t c κs = search needs
 
 flatten-objects-enum-known-total : (t : ℕ) → flatten-objects-lts.Need-enum-known-total (flatten-objects-calls t) (flatten-objects-at t) flatten-objects.Post
 flatten-objects-enum-known-total t c = search needs
 
 flatten-objects-flatten-fields-requires :
     (t : ℕ) → flatten-objects-lts.Need-flatten-fields-requires (
-      match-keys-reads.Asked,
-      match-keys-reads.Learnt,
+      collect-object-pairs-reads.Asked,
+      collect-object-pairs-reads.Learnt,
       flatten-fields-below t,
       flatten-fields.Post,
     ) (flatten-objects-at t) flatten-objects.Post
 flatten-objects-flatten-fields-requires t c κs =
     let s = c .before .before .before .before .before .before .before .before .before .before .before .before .before .before .before .before .before .before in
-    (parts-fall (s .pre .1 .0 .asks .pair-ok .second .low) (s .pre .0), (ask-fields (s .pre .1 .0) (c .before .before .before .before .before .before .before .before .match-keys .ensures) (search needs), s .pre .1 .1))
+    (parts-fall (s .pre .1 .0 .asks .pair-ok .second .low) (s .pre .0), (ask-fields (s .pre .1 .0) (c .before .before .before .before .before .before .before .before .collect-object-pairs .ensures) (search needs), s .pre .1 .1))
 
 flatten-objects-same-length : (t : ℕ) → flatten-objects-lts.Need-same-length (flatten-objects-calls t) (flatten-objects-at t) flatten-objects.Post
 flatten-objects-same-length t c = search needs
@@ -435,8 +435,8 @@ pub +flatten+flatten-arrays+flatten-fields+flatten-items+flatten-objects-spec :
       compare-sides-reads.Learnt,
       bind-planned-reads.Asked,
       bind-planned-reads.Learnt,
-      bind-side-reads.Asked,
-      bind-side-reads.Learnt,
+      bind-unplanned-reads.Asked,
+      bind-unplanned-reads.Learnt,
       flatten-arrays-below t,
       flatten-arrays.Post,
       flatten-objects-below t,
@@ -456,7 +456,7 @@ pub +flatten+flatten-arrays+flatten-fields+flatten-items+flatten-objects-spec :
     (flatten-same-length-4 t)
     (flatten-returns-2 t)
     (flatten-enum-told-3 t)
-    (flatten-bind-side-requires t)
+    (flatten-bind-unplanned-requires t)
     (flatten-same-length-5 t)
     (flatten-same-length-6 t)
     (flatten-returns-3 t)
@@ -556,10 +556,10 @@ pub +flatten+flatten-arrays+flatten-fields+flatten-items+flatten-objects-spec :
     (flatten-items-same-length-4 t)
     (flatten-items-returns-2 t))
     λ t. flatten-objects-lts.spec
-    (match-keys-reads.Asked, match-keys-reads.Learnt, flatten-fields-below t, flatten-fields.Post)
+    (collect-object-pairs-reads.Asked, collect-object-pairs-reads.Learnt, flatten-fields-below t, flatten-fields.Post)
     (flatten-objects-at t)
     flatten-objects.Post
-    (flatten-objects-match-keys-requires t)
+    (flatten-objects-collect-object-pairs-requires t)
     (flatten-objects-enum-known-total t)
     (flatten-objects-flatten-fields-requires t)
     (flatten-objects-same-length t)

@@ -20,7 +20,7 @@ use Rattle.checks.proofs.inner.check_structure.Reads as check-structure
 use Rattle.checks.proofs.inner.check_structure.Kinds as check-structure-kinds
 use Rattle.checks.proofs.inner.+check_field+check_fields+check_items+check_object+check_structure.Lts-check_structure as check-structure-lts
 use Rattle.checks.proofs.inner.partner_of.Reads as partner-of-reads
-use Rattle.checks.proofs.texts.compare_object_keys.Reads as compare-keys-reads
+use Rattle.checks.proofs.texts.compare_object_keys.Reads as compare-object-keys-reads
 use Rattle.table.proofs.reading.child_at.Reads as child-at-reads
 use Rattle.table.proofs.reading.count_of.Reads as count-of-reads
 use Rattle.table.proofs.reading.first_of.Reads as first-of-reads
@@ -116,7 +116,7 @@ abbrev check-structure-calls : ℕ → check-structure-lts.Claims
 check-structure-calls t = (kind-of-reads.Asked, kind-of-reads.Learnt, count-of-reads.Asked, count-of-reads.Learnt, first-of-reads.Asked, first-of-reads.Learnt, check-items-below t, check-items.Post, check-object-below t, check-object.Post)
 
 abbrev check-object-calls : ℕ → check-object-lts.Claims
-check-object-calls t = (compare-keys-reads.Asked, compare-keys-reads.Learnt, check-fields-below t, check-fields.Post)
+check-object-calls t = (compare-object-keys-reads.Asked, compare-object-keys-reads.Learnt, check-fields-below t, check-fields.Post)
 
 check-field-first-of-requires : (t : ℕ) → check-field-lts.Need-first-of-requires (check-field-calls t) (check-field-at t) check-field.Post
 check-field-first-of-requires t c κs = search needs
@@ -300,8 +300,8 @@ check-structure-returns-4 t c = (search needs, (tt, tt))
 check-structure-returns-5 : (t : ℕ) → check-structure-lts.Need-returns-5 (check-structure-calls t) (check-structure-at t) check-structure.Post
 check-structure-returns-5 t c = (search (kinds-plain, needs), (tt, tt))
 
-check-object-compare-keys-requires : (t : ℕ) → check-object-lts.Need-compare-keys-requires (check-object-calls t) (check-object-at t) check-object.Post
-check-object-compare-keys-requires t c κs = search needs
+check-object-compare-object-keys-requires : (t : ℕ) → check-object-lts.Need-compare-object-keys-requires (check-object-calls t) (check-object-at t) check-object.Post
+check-object-compare-object-keys-requires t c κs = search needs
 
 check-object-returns : (t : ℕ) → check-object-lts.Need-returns (check-object-calls t) (check-object-at t) check-object.Post
 check-object-returns t c = (search (objects-empty, needs), (tt, tt))
@@ -313,14 +313,14 @@ check-object-check-fields-requires : (t : ℕ) → check-object-lts.Need-check-f
 check-object-check-fields-requires t c κs =
     let compared = c .before .before .before .before .before .before .before .before in
     let start = compared .before .before .before .before .before .before .before .before .before .before in
-    (search (fields-fall, needs), ask-fields (start .pre .1) (compared .compare-keys .ensures .0))
+    (search (fields-fall, needs), ask-fields (start .pre .1) (compared .compare-object-keys .ensures .0))
 
 check-object-returns-3 : (t : ℕ) → check-object-lts.Need-returns-3 (check-object-calls t) (check-object-at t) check-object.Post
 check-object-returns-3 t c =
     let tests = c .before .before .before .before in
     let compared = tests .before .before .before .before .before in
     let start = compared .before .before .before .before .before .before .before .before .before .before in
-    (objects-fields (start .pre .1) (compared .compare-keys .ensures .0) (tests .before .if2 .left) (tests .if3 .taken) (c .check-fields .ensures .0), (tt, tt))
+    (objects-fields (start .pre .1) (compared .compare-object-keys .ensures .0) (tests .before .if2 .left) (tests .if3 .taken) (c .check-fields .ensures .0), (tt, tt))
 
 check-object-returns-4 : (t : ℕ) → check-object-lts.Need-returns-4 (check-object-calls t) (check-object-at t) check-object.Post
 check-object-returns-4 t c = (search (objects-differ, needs), (tt, tt))
@@ -401,14 +401,14 @@ pub +check-field+check-fields+check-items+check-object+check-structure-spec :
     (check-items-loop-again t)
     (check-items-returns-2 t))
     (λ t. check-object-lts.spec (
-      compare-keys-reads.Asked,
-      compare-keys-reads.Learnt,
+      compare-object-keys-reads.Asked,
+      compare-object-keys-reads.Learnt,
       check-fields-below t,
       check-fields.Post,
     )
     (check-object-at t)
     check-object.Post
-    (check-object-compare-keys-requires t)
+    (check-object-compare-object-keys-requires t)
     (check-object-returns t)
     (check-object-returns-2 t)
     (check-object-check-fields-requires t)

@@ -4,7 +4,7 @@ use Rattle.some_in.proofs.collection.check_collection.Statement.{statem
 use Rattle.some_in.proofs.collection.check_collection.Tie as tie
 use Rattle.some_in.proofs.collection.check_collection.Reads as reads
 use Rattle.some_in.proofs.collection.check_collection.Lts as lts
-use Rattle.some_in.proofs.collection.check_collection_items.Reads as check-items-reads
+use Rattle.some_in.proofs.collection.check_collection_items.Reads as check-collection-items-reads
 use Rattle.table.proofs.reading.count_of.Reads as count-of-reads
 use Rattle.table.proofs.reading.first_of.Reads as first-of-reads
 use Rattle.table.proofs.reading.kind_of.Reads as kind-of-reads
@@ -27,8 +27,8 @@ count-of-requires c κs = search needs
 cast-left : tie.Need-cast-left
 cast-left c = search needs
 
-check-items-requires : tie.Need-check-items-requires
-check-items-requires c κs = search (ask-items, needs)
+check-collection-items-requires : tie.Need-check-collection-items-requires
+check-collection-items-requires c κs = search (ask-items, needs)
 
 returns-2 : tie.Need-returns-2
 returns-2 c = search (collection-items, needs)
@@ -43,5 +43,5 @@ check-collection-spec =
     cast-at
     count-of-requires
     cast-left
-    check-items-requires
+    check-collection-items-requires
     returns-2)
