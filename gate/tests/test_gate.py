@@ -12,6 +12,7 @@ SCRIPT = pathlib.Path(__file__).resolve().parent.parent.parent / "test"
 GREEN = "echo proving; echo '3 passed, 0 failed'"
 RED = "echo '2 passed, 1 failed'; exit 1"
 COMPARED = "compared 20000 with target/staticlib/libsheet.a"
+MEASURED = "stack measured with target/staticlib/libsheet.a"
 UNITTEST = """\
 import os, unittest
 class Stub(unittest.TestCase):
@@ -34,6 +35,7 @@ class Gate(unittest.TestCase):
         self.write("gate/test_gate.py", UNITTEST.format(planner=""))
         self.write("tools/test_tools.py", UNITTEST.format(planner="plansheet"))
         self.command("examples/run", "echo example run")
+        self.command("examples/stack", 'echo "stack measured with $PLAN_SHEET_LIBRARY"')
         self.command("oracle/compare", 'echo "compared $1 with $PLAN_SHEET_LIBRARY"')
         self.command("../bin/rt", GREEN)
         self.command("../bin/cargo", "exit 1")
@@ -64,7 +66,7 @@ class Gate(unittest.TestCase):
         self.sources()
         status, lines = self.gate()
         self.assertEqual((status, lines[-1]), (0, "3 passed, 0 failed"))
-        for line in ("proving", "mistakes read", "example run", COMPARED):
+        for line in ("proving", "mistakes read", "example run", MEASURED, COMPARED):
             self.assertIn(line, lines)
         self.assertFalse([line for line in lines if line.startswith(("failed", "not run"))])
 
@@ -81,6 +83,7 @@ class Gate(unittest.TestCase):
             "gate/test_gate.py": UNITTEST.format(planner="another"),
             "tools/test_tools.py": UNITTEST.format(planner="another"),
             "examples/run": "#!/bin/sh\nexit 3\n",
+            "examples/stack": "#!/bin/sh\nexit 1\n",
             "oracle/compare": "#!/bin/sh\nexit 1\n",
         }
         for path, text in parts.items():
