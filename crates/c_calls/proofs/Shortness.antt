@@ -83,7 +83,7 @@ run-outcome-short T s mode pattern value values =
     test : (t : Bool) (r : Refusal) (o : RunOutcome) → ShortRefusal r → (t ≡ true → ShortRun o) → ShortRun (Run.require t r o)
     test = require-is Run.refused ShortRun (λ r p. p)
 
-carried-short : (o : Matching.Outcome) → ShortLine (ranLine (carriedResult o))
+carried-short : (o : Matching.MatchOutcome) → ShortLine (ranLine (carriedResult o))
 carried-short (Matching.matched env) = short (omega arith) (omega arith) (omega arith) (omega arith)
 carried-short Matching.missed = short (omega arith) (omega arith) (omega arith) (omega arith)
 carried-short Matching.fault = short (omega arith) (omega arith) (omega arith) (omega arith)

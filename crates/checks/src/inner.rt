@@ -2,9 +2,9 @@
 ghost use Rattle.table.specs.Lent.{given, lent};
 ghost use mathlib.Core.Path.{_≡_};
 ghost use Rattle.table.specs.Decode.{expr, literalAt};
-ghost use Rattle.checks.specs.Structure.{held, structure, structureAll};
+ghost use Rattle.checks.specs.Structure.{held, structure};
 ghost use Rattle.planner.specs.code.Post.{GoodPair};
-ghost use Rattle.checks.specs.code.Post.{itemsAt, ItemsAsks, ObjectsAsks, WorkingSpaces, patternsOf, FieldsAsks, fieldsStructure, FieldAsks, fieldStructure, PartnerAsks, PartnerIs};
+ghost use Rattle.checks.specs.code.Post.{itemsStructure, ItemsAsks, ObjectsAsks, WorkingSpaces, patternsOf, FieldsAsks, fieldsStructure, FieldAsks, fieldStructure, PartnerAsks, PartnerIs};
 use crate::LiteralStructureCheck;
 use crate::texts::compare_object_keys;
 use planner::fields::field_at;
@@ -135,7 +135,7 @@ fn check_items(
     others: &mut [u32; 256],
 ) -> LiteralStructureCheck
     requires { ⌜ ItemsAsks (given nodes children numbers names strings text) value at place left ⌝ }
-    ensures { λ r. let T = lent nodes children numbers names strings text in ⌜ (r ≡ structureAll (itemsAt T place left) (itemsAt T at left)) × WorkingSpaces keys others ⌝ }
+    ensures { λ r. ⌜ (r ≡ itemsStructure (lent nodes children numbers names strings text) place at left) × WorkingSpaces keys others ⌝ }
 {
     let mut i: usize = 0;
     while i < left {

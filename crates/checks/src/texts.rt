@@ -3,12 +3,11 @@ ghost use Rattle.base.specs.Lent.{old, new};
 ghost use Rattle.table.specs.Lent.{given, lent, lentLiteral, lentReferred};
 ghost use mathlib.Core.Path.{_≡_};
 ghost use Prim.Native.Nat.{_≤_};
-ghost use Rattle.literal.specs.Reading.{literalOf};
 ghost use Rattle.literal.specs.Text.{textsCompared};
 ghost use Rattle.table.specs.Decode.{literalNode};
 ghost use Rattle.planner.specs.code.Passes.{fieldKey};
 ghost use Rattle.planner.specs.code.Post.{OrderAsks};
-ghost use Rattle.checks.specs.code.Texts.{isGreater, TextAsks, TextPlace, AddKeyAsks, KeyAdded, SortedKeys, orderedKey, OrderedAsks, textsAgree, BothAsks, TextsComparedBy};
+ghost use Rattle.checks.specs.code.Texts.{isGreater, TextAsksIn, TextPlace, AddKeyAsks, KeyAdded, SortedKeys, orderedKey, OrderedAsks, textsAgree, BothAsks, TextsComparedBy};
 ghost use Rattle.checks.specs.code.Post.{WorkingSpaces, ObjectsAsks, KeysComparedBy};
 use base::words::insert_at;
 use literal::Comparison;
@@ -59,7 +58,7 @@ fn find_text(
     size: usize,
     key: LiteralRef,
 ) -> usize
-    requires { ⌜ TextAsks (literalNode (now nodes) (now numbers) (now strings) (now text)) (now keys) size (literalOf (now numbers) (now strings) (now text) key) ⌝ }
+    requires { ⌜ TextAsksIn nodes numbers strings text keys size key ⌝ }
     ensures { λ r. ⌜ TextPlace (lentLiteral nodes numbers strings text) (old keys) size (lentReferred numbers strings text key) r ⌝ }
 {
     let mut low: usize = 0;

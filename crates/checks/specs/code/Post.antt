@@ -16,7 +16,7 @@ use Rattle.planner.specs.code.Passes.{keyNode, valueNode, orderOf}
 use Rattle.planner.specs.code.Ordering.{FieldsIn}
 use Rattle.planner.specs.code.Post.{GoodPair}
 use Rattle.planner.specs.Held.{valueOrder}
-use Rattle.checks.specs.Structure.{andThen, sameKeys, computedKeys, held, partner, structure, structureFields}
+use Rattle.checks.specs.Structure.{andThen, sameKeys, computedKeys, held, partner, structure, structureAll, structureFields}
 
 -- a buffer to work in: nothing is said of its words at exit
 abbrev pub WorkingSpace : Slices → Type 0
@@ -28,6 +28,10 @@ WorkingSpaces x y = WorkingSpace x × WorkingSpace y
 -- `left` items from child entry `at` on
 abbrev pub itemsAt : Tables → ℕ → ℕ → Exprs
 itemsAt T at left = items (expr T) (T .children) at left
+
+-- so many items of a value and of a pattern
+abbrev pub itemsStructure : Tables → ℕ → ℕ → ℕ → LiteralStructureCheck
+itemsStructure T place at left = structureAll (itemsAt T place left) (itemsAt T at left)
 
 -- `left` items of the value node's, and as many of a pattern's
 pub record ItemsAsks (T : Tables) (value at place left : ℕ) : Type 0 where

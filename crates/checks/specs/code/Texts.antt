@@ -7,8 +7,11 @@ use mathlib.Core.Option.{Option, some}
 use mathlib.Core.Option as Option
 use lib.Dec.{eqb}
 use lib.ListN.{length, getD, take, drop}
+use Rattle.base.specs.Lent.{Slice}
 use Rattle.base.specs.code.Search.{Between}
 use Rattle.literal.specs.Literal.{Literal}
+use Rattle.literal.specs.Reading.{literalOf}
+use Rattle.literal.specs.declared.LiteralRef.{LiteralRef}
 use Rattle.literal.specs.declared.Comparison.{Comparison}
 use Rattle.literal.specs.declared.Comparison.the-variants.{Less, Equal, Greater, NoLiteral}
 use Rattle.literal.specs.Text.{keyText, textsCompared}
@@ -53,6 +56,11 @@ pub record TextAsks (lit : ℕ → Option Literal) (keys : List ℕ) (size : ℕ
   pub few : size ≤ 256
   pub own : Literal
   pub literal : key ≡ some own
+
+-- the same of what a function is lent
+abbrev pub TextAsksIn : Slice → Slice → Slice → Slice → Slice → ℕ → LiteralRef → Type 0
+TextAsksIn nodes numbers strings text keys size key =
+    TextAsks (literalNode (nodes .now) (numbers .now) (strings .now) (text .now)) (keys .now) size (literalOf (numbers .now) (strings .now) (text .now) key)
 
 -- the first place, from low to high, whose text does not come before the key's
 abbrev pub TextBetween : (ℕ → Option Literal) → List ℕ → Option Literal → ℕ → ℕ → ℕ → Type 0

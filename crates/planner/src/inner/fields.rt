@@ -40,7 +40,7 @@ fn compare_keys(
     j: usize,
 ) -> Comparison
     requires { ⌜ first + j * 2 < 2 ^ 64 ⌝ }
-    ensures { λ r. let at = lentLiteral nodes numbers strings text in ⌜ r ≡ compared (lentReferred numbers strings text key) (at (childAt (old children) (first + j * 2))) ⌝ }
+    ensures { λ r. ⌜ r ≡ compared (lentReferred numbers strings text key) (lentLiteral nodes numbers strings text (childAt (old children) (first + j * 2))) ⌝ }
 {
     let other = child_at(children, first + j * 2);
     compare_literal_to_node(nodes, numbers, strings, text, key, other)
