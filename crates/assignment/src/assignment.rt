@@ -177,7 +177,7 @@ fn colon_equals_in(
     ensures { λ r. ⌜ ColonEqualsIn plan scratch (lent nodes children numbers names strings text) scope left right r ⌝ }
 {
     let mut binders = [0u32; 128];
-    let count = plan_pattern(
+    let planned = plan_pattern(
         nodes,
         children,
         numbers,
@@ -191,6 +191,7 @@ fn colon_equals_in(
         scratch,
         0,
     );
+    let count = planned.next;
     colon_equals_from(
         nodes,
         children,

@@ -65,7 +65,7 @@ pub(crate) fn preview_binding_plan(
     ensures { λ r. ⌜ PreviewedIn scratch binders (lent nodes children numbers names strings text) (old states) node (r .count) (r .binds) ⌝ }
 {
     clear(binders);
-    let count = create_destructuring_plan_with_tracking(
+    let planned = create_destructuring_plan_with_tracking(
         nodes,
         children,
         numbers,
@@ -78,6 +78,7 @@ pub(crate) fn preview_binding_plan(
         scratch,
         0,
     );
+    let count = planned.next;
     let binds = introduces_binding(scratch, count);
     Preview { count, binds }
 }

@@ -7,6 +7,7 @@ pub mod Simple
 pub mod Parameters
 pub mod Operations
 pub mod Short
+pub mod Steps
 pub mod Laws
 pub mod code
 pub mod Entries

@@ -32,7 +32,7 @@ fn deliver_pattern(
     ensures { λ r. ⌜ AnsweredIn plan (plannedIf validate (lent nodes children numbers names strings text) scope scoping root) r ⌝ }
 {
     let mut binders = [0u32; 128];
-    let count = plan_pattern(
+    let planned = plan_pattern(
         nodes,
         children,
         numbers,
@@ -46,6 +46,7 @@ fn deliver_pattern(
         plan,
         0,
     );
+    let count = planned.next;
     if !validate {
         return close(plan, 0, count);
     }

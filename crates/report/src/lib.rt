@@ -69,7 +69,7 @@ fn mark_planned(
 {
     let mut binders = [0u32; 128];
     let mut scratch = [0u32; 2048];
-    let count = plan_pattern(
+    let planned = plan_pattern(
         nodes,
         children,
         numbers,
@@ -83,6 +83,7 @@ fn mark_planned(
         &mut scratch,
         0,
     );
+    let count = planned.next;
     mark_bound(nodes, &scratch, count, list);
 }
 

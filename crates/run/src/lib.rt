@@ -95,7 +95,7 @@ fn carry_out(
 {
     let mut binders = [0u32; 128];
     let mut scratch = [0u32; 2048];
-    let count = plan_pattern(
+    let planned = plan_pattern(
         nodes,
         children,
         numbers,
@@ -109,6 +109,7 @@ fn carry_out(
         &mut scratch,
         0,
     );
+    let count = planned.next;
     copy_entries(plan, 0, &scratch, count);
     close(plan, 0, count);
     if plan.len() / 4 < count {

@@ -42,7 +42,7 @@ fn plan_validated(
     ensures { λ r. ⌜ Validated (lent nodes children numbers names strings text) scope root at (old plan) (new plan) (r .end) (r .name) ⌝ }
 {
     let mut binders = [0u32; 128];
-    let end = plan_pattern(
+    let planned = plan_pattern(
         nodes,
         children,
         numbers,
@@ -56,6 +56,7 @@ fn plan_validated(
         plan,
         at,
     );
+    let end = planned.next;
     let name = validate_pattern_bindings(
         nodes,
         children,

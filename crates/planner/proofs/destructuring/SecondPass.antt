@@ -1,4 +1,4 @@
--- The second pass: entries by binders, in plan order.
+-- The second pass: entries by binders, in plan order, and its steps.
 use Prim.Native.Nat.{ℕ, suc, _+_, _-_, _*_, _^_, _≤_, _<_}
 use mathlib.Core.Path.{_≡_, refl, sym, ap, subst, _∙_}
 use mathlib.Core.List.{List, [], _∷_, _++_, append-assoc, append-nil}
@@ -17,7 +17,8 @@ use Rattle.table.proofs.trees.Trees.{expr-name, expr-array, items-step, items-e
 use Rattle.planner.specs.Layout.{Entry, entry}
 use Rattle.planner.specs.Entries.{Wrote}
 use Rattle.planner.specs.code.Passes.{nameKind, nameEntryKind, leafEntryKind, layOut, layOutAll, layOutItems, layOutOrdered, concatAt}
-use Rattle.planner.specs.code.Post.{NameNumber, LayAsks, LayObjectAsks, LayItemsAsks, LayOrderedAsks}
+use Rattle.planner.specs.code.Post.{NameNumber, StepRoom, LayAsks, LayObjectAsks, LayItemsAsks, LayOrderedAsks}
+use Rattle.planner.proofs.destructuring.Counting.{enter-fits, enter-room, entered, Counting, counting-start, counting-one, counting-on, counting-ends}
 use Rattle.planner.proofs.destructuring.NodeKinds.{Plain, plain-literal, plain-set, plain-other, plain-kind}
 use Rattle.planner.proofs.destructuring.Walking as Walking
 use Rattle.planner.proofs.buffer.Copies.{wrote-none, wrote-append, wrote-long}
@@ -54,6 +55,16 @@ module _ (T : Tables) (states binders : List ℕ) (n key at : ℕ) (a : LayAsks 
   pub next-fits : Fits w64 (at + 1)
   next-fits = let r = a .room in let s = lay-some binders (expr T n) key in record { fits = omega arith }
 
+  pub lay-fits : (steps : ℕ) → StepRoom steps (length (layOut binders (expr T n) key)) → Fits w64 (steps + 1)
+  lay-fits steps r = enter-fits r (lay-some binders (expr T n) key)
+
+  -- an object's steps below it
+  pub object-room : (steps : ℕ) → StepRoom steps (length (layOut binders (expr T n) key)) → StepRoom (steps + 1) (length (layOut binders (expr T n) key) - 1)
+  object-room steps r = enter-room r (length (layOut binders (expr T n) key) - 1) (let s = lay-some binders (expr T n) key in omega arith)
+
+  pub object-counted : (steps : ℕ) {after : ℕ} → after ≡ steps + 1 + (length (layOut binders (expr T n) key) - 1) → after ≡ steps + length (layOut binders (expr T n) key)
+  object-counted steps e = let s = lay-some binders (expr T n) key in omega arith
+
   module _ {kind : ℕ} (is-kind : kind ≡ kindOf (T .nodes) n) where
     node-kind : {k : ℕ} → kind ≡ k → kindOf (T .nodes) n ≡ k
     node-kind e = sym is-kind ∙ e
@@ -83,6 +94,18 @@ module _ (T : Tables) (states binders : List ℕ) (n key at : ℕ) (a : LayAsks 
               let tree : expr T n ≡ name n (firstOf (T .nodes) n) = expr-name T (a .walks .table) n (a .walks .node) (node-kind k) ∙ simp q in
               rw tree (put (nameKind binders n (firstOf (T .nodes) n)) (simp (sym wild ∙ q)))
 
+      pub name-counted : (steps : ℕ) → kind ≡ 6 → steps + 1 ≡ steps + length (layOut binders (expr T n) key)
+      unfolding layOut
+      name-counted steps k = ap (λ (m : ℕ). steps + m) (go (isWildcard T (firstOf (T .nodes) n)) refl)
+        where
+          go : (b : Bool) → isWildcard T (firstOf (T .nodes) n) ≡ b → 1 ≡ length (layOut binders (expr T n) key)
+          go true q =
+              let tree : expr T n ≡ wildcard n = expr-name T (a .walks .table) n (a .walks .node) (node-kind k) ∙ simp q in
+              rw tree
+          go false q =
+              let tree : expr T n ≡ name n (firstOf (T .nodes) n) = expr-name T (a .walks .table) n (a .walks .node) (node-kind k) ∙ simp q in
+              rw tree
+
       module _ {size : ℕ} (is-size : size ≡ countOf (T .nodes) n) (k : kind ≡ 7) where
         tree : expr T n ≡ array n (items (expr T) (T .children) first size)
         tree = rw (is-first, is-size) (expr-array T (a .walks .table) n (a .walks .node) (node-kind k))
@@ -93,6 +116,16 @@ module _ (T : Tables) (states binders : List ℕ) (n key at : ℕ) (a : LayAsks 
           walks = Walking.ask-items T states n (a .walks) is-kind is-first is-size k f s;
           room = let r = rw tree at (a .room) in omega arith;
         }
+
+        array-steps : 1 + length (layOutItems binders T first size) ≡ length (layOut binders (expr T n) key)
+        unfolding layOut
+        array-steps = let e = ap (λ (e : Expr). length (layOut binders e key)) tree in omega arith
+
+        pub items-room : (steps : ℕ) → StepRoom steps (length (layOut binders (expr T n) key)) → StepRoom (steps + 1) (length (layOutItems binders T first size))
+        items-room steps r = enter-room r (length (layOutItems binders T first size)) array-steps
+
+        pub array-counted : (steps : ℕ) {after : ℕ} → after ≡ steps + 1 + length (layOutItems binders T first size) → after ≡ steps + length (layOut binders (expr T n) key)
+        array-counted steps e = entered steps (length (layOut binders (expr T n) key)) (length (layOutItems binders T first size)) array-steps e
 
         pub laid-array : {before mid after : List ℕ} {r : ℕ} → Wrote before at (entry 5 n size key ∷ []) mid (at + 1) → Wrote mid (at + 1) (layOutItems binders T first size) after r → Wrote before at (layOut binders (expr T n) key) after r
         unfolding layOut
@@ -113,6 +146,17 @@ module _ (T : Tables) (states binders : List ℕ) (n key at : ℕ) (a : LayAsks 
         go e t (plain-literal l h) = rw t (put 4 (sym (leaf-low kind (omega arith))))
         go e t (plain-set es h) = rw t (put 3 (sym (leaf-high kind (omega arith))))
         go e t (plain-other h) = rw t (put 3 (sym (leaf-high kind (omega arith))))
+
+    pub plain-counted : (steps : ℕ) → (kind ≡ 6 → ⊥) → (kind ≡ 7 → ⊥) → (kind ≡ 9 → ⊥) → steps + 1 ≡ steps + length (layOut binders (expr T n) key)
+    unfolding layOut
+    plain-counted steps not-6 not-7 not-9 =
+        let q = plain-kind T (a .walks .table) n (a .walks .node) (λ e. not-6 (is-kind ∙ e)) (λ e. not-7 (is-kind ∙ e)) (λ e. not-9 (is-kind ∙ e)) in
+        ap (λ (m : ℕ). steps + m) (go (q .0) (q .1) (q .2))
+      where
+        go : (e : Expr) → expr T n ≡ e → Plain (kindOf (T .nodes) n) n e → 1 ≡ length (layOut binders (expr T n) key)
+        go e t (plain-literal l h) = rw t
+        go e t (plain-set es h) = rw t
+        go e t (plain-other h) = rw t
 
 pub object-next-fits : (T : Tables) (states binders : List ℕ) (n key at : ℕ) → LayObjectAsks T states binders n key at → Fits w64 (at + 1)
 object-next-fits T states binders n key at a = next-fits T states binders n key at (a .asks)
@@ -154,6 +198,23 @@ module _ {T : Tables} {states binders : List ℕ} {parent from left : ℕ} {befo
       same = append-assoc (go .entries) (layOut binders (expr T child) 0) (layOutItems binders T (place + 1) (more - 1)) ∙ (ap (λ (es : List Entry). go .entries ++ es) (sym step) ∙ go .same);
     }
 
+    -- its steps
+    item-steps : length (layOutItems binders T place more) ≡ length (layOut binders (expr T child) 0) + length (layOutItems binders T (place + 1) (more - 1))
+    item-steps = ap length step ∙ length-append (layOut binders (expr T child) 0) (layOutItems binders T (place + 1) (more - 1))
+
+    module _ (start all steps : ℕ) (counting : Counting start all steps (length (layOutItems binders T place more))) where
+      pub item-room : StepRoom steps (length (layOut binders (expr T child) 0))
+      item-room = counting-one counting (length (layOut binders (expr T child) 0)) (length (layOutItems binders T (place + 1) (more - 1))) item-steps
+
+      pub item-counted : {next : ℕ} → next ≡ steps + length (layOut binders (expr T child) 0) → Counting start all next (length (layOutItems binders T (place + 1) (more - 1)))
+      item-counted e = counting-on counting (length (layOut binders (expr T child) 0)) (length (layOutItems binders T (place + 1) (more - 1))) item-steps e
+
+  pub items-counted : (start all steps : ℕ) → Counting start all steps (length (layOutItems binders T place more)) → more ≤ 0 → steps ≡ start + all
+  unfolding layOut
+  items-counted start all steps counting no-more =
+      let e : layOutItems binders T place more ≡ [] = ap (λ (es : Exprs). layOutAll binders es) (items-end (expr T) (T .children) place more no-more) in
+      counting-ends counting (ap length e)
+
   pub laying-long : length mid ≡ length before
   laying-long = wrote-long (go .wrote)
 
@@ -179,6 +240,10 @@ pub ordering-start : (T : Tables) (states binders : List ℕ) (parent first : �
 ordering-start T states binders parent first order total before at a =
     let z : total - 0 ≡ total = omega arith in
     record { asks = a; inside = omega arith; entries = []; wrote = wrote-none before at; same = rw z }
+
+pub fields-counting : (T : Tables) (binders : List ℕ) (first : ℕ) (order : List ℕ) (total steps : ℕ) → StepRoom steps (length (layOutOrdered binders T first order 0 total))
+    → Counting steps (length (layOutOrdered binders T first order 0 total)) steps (length (layOutOrdered binders T first order 0 (total - 0)))
+fields-counting T binders first order total steps r = let z : total - 0 ≡ total = omega arith in rw z (counting-start r)
 
 module _ {T : Tables} {states binders : List ℕ} {parent first : ℕ} {order : List ℕ} {total : ℕ} {before : List ℕ} {at q : ℕ} {mid : List ℕ} {here : ℕ} (go : LayingFields T states binders parent first order total before at q mid here) where
   pub ordering-long : length mid ≡ length before
@@ -229,6 +294,24 @@ module _ {T : Tables} {states binders : List ℕ} {parent first : ℕ} {order : 
         wrote = wrote-append (go .wrote) l;
         same = append-assoc (go .entries) (layOut binders (expr T value) key) (layOutOrdered binders T first order (q + 1) (total - (q + 1))) ∙ (ap (λ (es : List Entry). go .entries ++ es) (sym field-step) ∙ go .same);
       }
+
+      -- its steps
+      field-steps : length (layOutOrdered binders T first order q (total - q)) ≡ length (layOut binders (expr T value) key) + length (layOutOrdered binders T first order (q + 1) (total - (q + 1)))
+      field-steps = ap length field-step ∙ length-append (layOut binders (expr T value) key) (layOutOrdered binders T first order (q + 1) (total - (q + 1)))
+
+      module _ (start all steps : ℕ) (counting : Counting start all steps (length (layOutOrdered binders T first order q (total - q)))) where
+        pub field-room : StepRoom steps (length (layOut binders (expr T value) key))
+        field-room = counting-one counting (length (layOut binders (expr T value) key)) (length (layOutOrdered binders T first order (q + 1) (total - (q + 1)))) field-steps
+
+        pub field-counted : {next : ℕ} → next ≡ steps + length (layOut binders (expr T value) key) → Counting start all next (length (layOutOrdered binders T first order (q + 1) (total - (q + 1))))
+        field-counted e = counting-on counting (length (layOut binders (expr T value) key)) (length (layOutOrdered binders T first order (q + 1) (total - (q + 1)))) field-steps e
+
+  pub fields-counted : (start all steps : ℕ) → Counting start all steps (length (layOutOrdered binders T first order q (total - q))) → total ≤ q → steps ≡ start + all
+  unfolding concatAt
+  fields-counted start all steps counting done-all =
+      let z : total - q ≡ 0 = omega arith in
+      let e : layOutOrdered binders T first order q (total - q) ≡ [] = rw z in
+      counting-ends counting (ap length e)
 
   pub ordering-ends : total ≤ q → Wrote before at (layOutOrdered binders T first order 0 total) mid here
   unfolding concatAt

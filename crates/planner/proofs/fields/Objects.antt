@@ -19,7 +19,7 @@ use Rattle.table.proofs.trees.Trees.{expr-unfolds, expr-literal, expr-object, w
 use Rattle.planner.specs.Layout.{Entry, entry, literalKey, Slot, heldIn, FieldOrder, noFields, inOrder, addField, concat}
 use Rattle.planner.specs.Entries.{Wrote}
 use Rattle.planner.specs.code.Passes.{layOut, layOutFields, orderFrom, concatAt, layOutOrdered, keyNode, valueNode, fieldKey, fieldEntries, orderOf}
-use Rattle.planner.specs.code.Post.{LayObjectAsks, OrderAsks, OrderedBy, Arranged, LayOrderedAsks}
+use Rattle.planner.specs.code.Post.{StepRoom, LayObjectAsks, OrderAsks, OrderedBy, Arranged, LayOrderedAsks}
 use Rattle.planner.proofs.fields.FieldLoops.{arranged-first}
 use Rattle.planner.proofs.fields.FieldOrder as Fields
 use Rattle.planner.proofs.fields.FieldOrder.{AllSlots, insert-all, order-entries}
@@ -228,6 +228,15 @@ module _ (T : Tables) (states binders : List ℕ) (n key at : ℕ) (a : LayObjec
           (omega arith, rw e (c .0), rw e (c .1));
       room = let r = rw entries-of at (a .asks .room) in rw ordered-is (omega arith);
     }
+
+    fields-steps : length (layOut binders (expr T n) key) - 1 ≡ length (layOutOrdered binders T first order 0 total)
+    fields-steps = let l = ap length entries-of in let o = ap length ordered-is in omega arith
+
+    pub fields-room : {steps : ℕ} → StepRoom steps (length (layOut binders (expr T n) key) - 1) → StepRoom steps (length (layOutOrdered binders T first order 0 total))
+    fields-room r = rw (← fields-steps) r
+
+    pub fields-taken : (steps : ℕ) {later : ℕ} → later ≡ steps + length (layOutOrdered binders T first order 0 total) → later ≡ steps + (length (layOut binders (expr T n) key) - 1)
+    fields-taken steps e = rw fields-steps e
 
     pub laid-object : {before mid after : List ℕ} {r : ℕ} → Wrote before at (entry 6 n total key ∷ []) mid (at + 1) → Wrote mid (at + 1) (layOutOrdered binders T first order 0 total) after r → Wrote before at (layOut binders (expr T n) key) after r
     laid-object {before} {mid} {after} {r} p l =

@@ -1,5 +1,5 @@
 -- The planning operations, answer by answer.
-use Prim.Native.Nat.{ℕ, _-_}
+use Prim.Native.Nat.{ℕ, _+_, _-_}
 use mathlib.Core.Path.{_≡_, refl, sym, ap, subst, _∙_}
 use mathlib.Core.List.{List, [], _∷_}
 use mathlib.Core.Bool.{Bool, true, false, not}
@@ -27,8 +27,10 @@ use Rattle.base.specs.Refusal.{Refusal, refusalLine, passed, rootOutside}
 use Rattle.planner.specs.Answer.{lineOf}
 use Rattle.planner.specs.Plan.{DestructuringPlan, after}
 use Rattle.planner.specs.Layout.{entries}
+use Rattle.planner.specs.Steps.{writtenSteps, planSteps, steps}
 use Rattle.planner.specs.Entries.{Wrote}
 use Rattle.planner.specs.Operations.{Outcome, refused, answered, written, Answered, tableFirst, checkedFirst, planOf, patternPlanned}
+use Rattle.planner.specs.code.Passes.{unboundIn}
 use Rattle.planner.specs.code.Post.{NameNumber, statesOf, PlanAsks, PlannedBy, PatternAsks, PatternPlanned, GoodRoot, Closed}
 use Rattle.planner.proofs.laws.Binders.{bound-agree-of}
 use Rattle.planner.proofs.laws.SamePlan.{states-wild, same-plan, same-binders}
@@ -47,6 +49,10 @@ module _ (T : Tables) (s : Scope) (mode : ScopingMode) (root : ℕ) {start : Lis
       few = p .few;
       space = p .space;
     }
+
+    pub pattern-steps : {later : ℕ} → later ≡ steps (unboundIn states) (expr T root) → later ≡ steps (isUnbound s mode) (expr T root)
+    unfolding steps
+    pattern-steps e = e ∙ ap (λ (p : DestructuringPlan). writtenSteps (expr T root) + planSteps p) (same-plan T s mode states of (a .table) root (a .node) [])
 
 -- the names that the plan tracks have binders
 pub pattern-tracked : {T : Tables} {s : Scope} {mode : ScopingMode} {root at : ℕ} {before binders later : List ℕ} {r : ℕ} → WellFormed T → Node T root → PatternPlanned T s mode root at before binders later r

@@ -16,6 +16,7 @@ use Rattle.table.specs.declared.NameClass.{NameClass}
 use Rattle.table.specs.declared.NameClass.the-variants.{Underscore, InputOrData, Ordinary}
 use Rattle.table.specs.Expr as Expr
 use Rattle.table.specs.Expr.{Expr, literal, name, wildcard, array, object, other, Exprs, none, item, Fields, done, field, nodeOf, count}
+use Rattle.planner.specs.Steps.{writtenSteps}
 use Rattle.planner.specs.Layout.{Entry, entry, literalKey, FieldOrder, noFields, addField, inOrder, concat}
 
 -- `binders` has for each name number the node that binds it, or 0
@@ -81,6 +82,14 @@ unboundIn states x = eqb (getD states (x - 1) 0) 1
 -- the same of a table, by the states
 abbrev pub bindersBelow : List ℕ → Tables → ℕ → ℕ → ℕ → List ℕ → List ℕ
 bindersBelow states T at step k binders = bindersFrom (unboundIn states) (expr T) (T .children) at step k binders
+
+-- the steps of the first pass over them
+unfoldable pub stepsFrom : (ℕ → Expr) → List ℕ → ℕ → ℕ → ℕ → ℕ
+stepsFrom g ch at step zero = 0
+stepsFrom g ch at step (suc k) = writtenSteps (g (childAt ch at)) + stepsFrom g ch (at + step) step k
+
+abbrev pub stepsBelow : Tables → ℕ → ℕ → ℕ → ℕ
+stepsBelow T at step k = stepsFrom (expr T) (T .children) at step k
 
 -- the order of k fields from field number i on, by their keys
 unfoldable pub orderFrom : (ℕ → Option Literal) → ℕ → ℕ → FieldOrder ℕ → FieldOrder ℕ

@@ -7,6 +7,8 @@ use lib.Dec.{eqb, leb, ltb}
 use lib.ListN.{length, getD, take, drop, replicate}
 use lib.Seq.{sets}
 use Rattle.table.specs.Tables.{Tables, kindOf, childAt}
+use denote.Ref.{RefT}
+use denote.Triple.Both.{Both}
 use Rattle.base.specs.Lent.{Slices}
 use Rattle.scope.specs.declared.Scope.{Scope}
 use Rattle.scope.specs.declared.ScopingMode.{ScopingMode}
@@ -42,6 +44,13 @@ pub record WalksChildren (T : Tables) (states : List ℕ) (parent at step left :
   pub states-ok : States T states
   pub each : (i : ℕ) → i < left → Node T (childAt (T .children) (at + i * step)) × (childAt (T .children) (at + i * step) < parent)
   pub small : at + left * step < 2 ^ 40
+
+-- a counter with space for so many more steps; and a lent one that went on by so many
+pub record StepRoom (steps more : ℕ) : Type 0 where
+  pub room : steps + more ≤ 2 ^ 41
+
+abbrev pub Counts : Both (RefT ℕ) (RefT ℕ) → ℕ → Type 0
+Counts steps more = steps .exit .now ≡ steps .entry .now + more
 
 -- entries stand in a scratch from place `at` on, and r is the place after them
 pub record Laid (before : List ℕ) (at : ℕ) (es : List Entry) (after : List ℕ) (r : ℕ) : Type 0 where

@@ -1,10 +1,12 @@
-// The plan of a pattern of a checked table: the first pass, in written order, finds the node that binds each name.
+// The plan of a pattern of a checked table: the first pass, in written order, finds the node that binds each name. Each pass counts the nodes that it goes into.
 ghost use Rattle.base.specs.Lent.{old, new};
 ghost use Rattle.table.specs.Lent.{given, lent};
 ghost use mathlib.Core.Path.{_≡_};
 ghost use Rattle.table.specs.Decode.{expr};
-ghost use Rattle.planner.specs.code.Post.{NameNumber, Walks, WalksChildren, PlanAsks, PlannedIn, PatternAsks, PatternPlannedIn};
-ghost use Rattle.planner.specs.code.Passes.{unboundIn, bindName, bindersOf, bindersBelow};
+ghost use Rattle.scope.specs.Scope.{isUnbound};
+ghost use Rattle.planner.specs.Steps.{writtenSteps, steps};
+ghost use Rattle.planner.specs.code.Post.{NameNumber, Walks, WalksChildren, StepRoom, Counts, PlanAsks, PlannedIn, PatternAsks, PatternPlannedIn};
+ghost use Rattle.planner.specs.code.Passes.{unboundIn, bindName, bindersOf, bindersBelow, stepsBelow};
 use crate::context::name_states;
 use crate::inner::names::span_of;
 use crate::inner::plans::lay_out;
@@ -14,6 +16,12 @@ use table::node_kind;
 use table::reading::child_at;
 use table::reading::first_of;
 use table::reading::kind_of;
+
+// The place after a plan's entries, and how often the two passes went into a node.
+pub struct Progress {
+    pub next: usize,
+    pub steps: usize,
+}
 
 // A name binds at the first node that meets it unbound.
 fn decide_name(states: &[u8; 128], binders: &mut [u32; 128], node: u32, name: u32)
@@ -38,10 +46,14 @@ fn decide(
     states: &[u8; 128],
     binders: &mut [u32; 128],
     node: u32,
+    steps: &mut usize,
 )
-    requires { ⌜ Walks (given nodes children numbers names strings text) (now states) node ⌝ }
-    ensures { λ _. ⌜ new binders ≡ bindersOf (unboundIn (old states)) (expr (lent nodes children numbers names strings text) node) (old binders) ⌝ }
+    requires walks { ⌜ Walks (given nodes children numbers names strings text) (now states) node ⌝ }
+    requires room { ⌜ StepRoom (now steps) (writtenSteps (expr (given nodes children numbers names strings text) node)) ⌝ }
+    ensures bound { λ _. ⌜ new binders ≡ bindersOf (unboundIn (old states)) (expr (lent nodes children numbers names strings text) node) (old binders) ⌝ }
+    ensures counted { λ _. ⌜ Counts steps (writtenSteps (expr (lent nodes children numbers names strings text) node)) ⌝ }
 {
+    *steps += 1;
     if kind_of(nodes, node) == node_kind::NAME {
         decide_name(states, binders, node, first_of(nodes, node));
         return;
@@ -63,6 +75,7 @@ fn decide(
         at,
         step,
         left,
+        steps,
     );
 }
 
@@ -80,9 +93,12 @@ fn decide_children(
     at: usize,
     step: usize,
     left: usize,
+    steps: &mut usize,
 )
-    requires { ⌜ WalksChildren (given nodes children numbers names strings text) (now states) parent at step left ⌝ }
-    ensures { λ _. ⌜ new binders ≡ bindersBelow (old states) (lent nodes children numbers names strings text) at step left (old binders) ⌝ }
+    requires walks { ⌜ WalksChildren (given nodes children numbers names strings text) (now states) parent at step left ⌝ }
+    requires room { ⌜ StepRoom (now steps) (stepsBelow (given nodes children numbers names strings text) at step left) ⌝ }
+    ensures bound { λ _. ⌜ new binders ≡ bindersBelow (old states) (lent nodes children numbers names strings text) at step left (old binders) ⌝ }
+    ensures counted { λ _. ⌜ Counts steps (stepsBelow (lent nodes children numbers names strings text) at step left) ⌝ }
 {
     let mut place = at;
     let mut more = left;
@@ -98,13 +114,14 @@ fn decide_children(
             states,
             binders,
             child,
+            steps,
         );
         place += step;
         more -= 1;
     }
 }
 
-// A pattern's plan from no names: its entries from entry `at` on, as far as they fit. The next entry's place.
+// A pattern's plan from no names: its entries from entry `at` on, as far as they fit.
 pub fn create_destructuring_plan_with_tracking(
     nodes: &[u32],
     children: &[u32],
@@ -117,10 +134,12 @@ pub fn create_destructuring_plan_with_tracking(
     binders: &mut [u32; 128],
     plan: &mut [u32],
     at: usize,
-) -> usize
+) -> Progress
     requires { ⌜ PlanAsks (given nodes children numbers names strings text) (now states) root (now binders) at ⌝ }
-    ensures { λ r. ⌜ PlannedIn plan binders (lent nodes children numbers names strings text) (old states) root at r ⌝ }
+    ensures planned { λ r. ⌜ PlannedIn plan binders (lent nodes children numbers names strings text) (old states) root at (r .next) ⌝ }
+    ensures counted { λ r. ⌜ r .steps ≡ steps (unboundIn (old states)) (expr (lent nodes children numbers names strings text) root) ⌝ }
 {
+    let mut steps: usize = 0;
     decide(
         nodes,
         children,
@@ -131,8 +150,9 @@ pub fn create_destructuring_plan_with_tracking(
         states,
         binders,
         root,
+        &mut steps,
     );
-    lay_out(
+    let next = lay_out(
         nodes,
         children,
         numbers,
@@ -145,7 +165,9 @@ pub fn create_destructuring_plan_with_tracking(
         0,
         plan,
         at,
-    )
+        &mut steps,
+    );
+    Progress { next, steps }
 }
 
 // The plan of a pattern under a scope.
@@ -162,9 +184,10 @@ pub fn plan_pattern(
     binders: &mut [u32; 128],
     plan: &mut [u32],
     at: usize,
-) -> usize
+) -> Progress
     requires { ⌜ PatternAsks (given nodes children numbers names strings text) root (now binders) at ⌝ }
-    ensures { λ r. ⌜ PatternPlannedIn plan binders (lent nodes children numbers names strings text) scope scoping root at r ⌝ }
+    ensures planned { λ r. ⌜ PatternPlannedIn plan binders (lent nodes children numbers names strings text) scope scoping root at (r .next) ⌝ }
+    ensures counted { λ r. ⌜ r .steps ≡ steps (isUnbound scope scoping) (expr (lent nodes children numbers names strings text) root) ⌝ }
 {
     let states = name_states(names, text, scope, scoping);
     create_destructuring_plan_with_tracking(

@@ -2,10 +2,12 @@
 ghost use Rattle.base.specs.Lent.{old};
 ghost use Rattle.table.specs.Lent.{given, lent};
 ghost use mathlib.Core.Path.{_≡_};
+ghost use Prim.Native.Nat.{_-_};
+ghost use lib.ListN.{length};
 ghost use Rattle.table.specs.Decode.{expr};
 ghost use Rattle.planner.specs.Entries.{WroteIn};
 ghost use Rattle.planner.specs.code.Passes.{nameEntryKind, leafEntryKind, layOut, layOutItems, layOutOrdered};
-ghost use Rattle.planner.specs.code.Post.{NameNumber, LayAsks, LayObjectAsks, LayItemsAsks, LayOrderedAsks};
+ghost use Rattle.planner.specs.code.Post.{NameNumber, StepRoom, Counts, LayAsks, LayObjectAsks, LayItemsAsks, LayOrderedAsks};
 use crate::buffer::put_entry;
 use crate::entry_kind;
 use crate::fields::field_at;
@@ -55,10 +57,14 @@ pub(crate) fn lay_out(
     key: u32,
     plan: &mut [u32],
     at: usize,
+    steps: &mut usize,
 ) -> usize
-    requires { ⌜ LayAsks (given nodes children numbers names strings text) (now states) (now binders) node key at ⌝ }
-    ensures { λ r. ⌜ WroteIn plan at (layOut (old binders) (expr (lent nodes children numbers names strings text) node) key) r ⌝ }
+    requires asks { ⌜ LayAsks (given nodes children numbers names strings text) (now states) (now binders) node key at ⌝ }
+    requires room { ⌜ StepRoom (now steps) (length (layOut (now binders) (expr (given nodes children numbers names strings text) node) key)) ⌝ }
+    ensures laid { λ r. ⌜ WroteIn plan at (layOut (old binders) (expr (lent nodes children numbers names strings text) node) key) r ⌝ }
+    ensures counted { λ _. ⌜ Counts steps (length (layOut (old binders) (expr (lent nodes children numbers names strings text) node) key)) ⌝ }
 {
+    *steps += 1;
     let kind = kind_of(nodes, node);
     let first = first_of(nodes, node);
     if kind == node_kind::NAME {
@@ -83,6 +89,7 @@ pub(crate) fn lay_out(
             count as usize,
             plan,
             at + 1,
+            steps,
         );
     }
     if kind == node_kind::OBJECT {
@@ -99,6 +106,7 @@ pub(crate) fn lay_out(
             key,
             plan,
             at,
+            steps,
         );
     }
     put_entry(plan, at, leaf_kind(kind), node, 0, key);
@@ -120,9 +128,12 @@ fn lay_items(
     left: usize,
     plan: &mut [u32],
     at: usize,
+    steps: &mut usize,
 ) -> usize
-    requires { ⌜ LayItemsAsks (given nodes children numbers names strings text) (now states) (now binders) parent from left at ⌝ }
-    ensures { λ r. ⌜ WroteIn plan at (layOutItems (old binders) (lent nodes children numbers names strings text) from left) r ⌝ }
+    requires asks { ⌜ LayItemsAsks (given nodes children numbers names strings text) (now states) (now binders) parent from left at ⌝ }
+    requires room { ⌜ StepRoom (now steps) (length (layOutItems (now binders) (given nodes children numbers names strings text) from left)) ⌝ }
+    ensures laid { λ r. ⌜ WroteIn plan at (layOutItems (old binders) (lent nodes children numbers names strings text) from left) r ⌝ }
+    ensures counted { λ _. ⌜ Counts steps (length (layOutItems (old binders) (lent nodes children numbers names strings text) from left)) ⌝ }
 {
     let mut place = from;
     let mut more = left;
@@ -142,6 +153,7 @@ fn lay_items(
             0,
             plan,
             here,
+            steps,
         );
         place += 1;
         more -= 1;
@@ -149,6 +161,7 @@ fn lay_items(
     here
 }
 
+// An object that `lay_out` went into and counted.
 fn lay_object(
     nodes: &[u32],
     children: &[u32],
@@ -162,9 +175,12 @@ fn lay_object(
     key: u32,
     plan: &mut [u32],
     at: usize,
+    steps: &mut usize,
 ) -> usize
-    requires { ⌜ LayObjectAsks (given nodes children numbers names strings text) (now states) (now binders) node key at ⌝ }
-    ensures { λ r. ⌜ WroteIn plan at (layOut (old binders) (expr (lent nodes children numbers names strings text) node) key) r ⌝ }
+    requires asks { ⌜ LayObjectAsks (given nodes children numbers names strings text) (now states) (now binders) node key at ⌝ }
+    requires room { ⌜ StepRoom (now steps) (length (layOut (now binders) (expr (given nodes children numbers names strings text) node) key) - 1) ⌝ }
+    ensures laid { λ r. ⌜ WroteIn plan at (layOut (old binders) (expr (lent nodes children numbers names strings text) node) key) r ⌝ }
+    ensures counted { λ _. ⌜ Counts steps (length (layOut (old binders) (expr (lent nodes children numbers names strings text) node) key) - 1) ⌝ }
 {
     let first = first_of(nodes, node) as usize;
     let count = count_of(nodes, node) as usize;
@@ -196,6 +212,7 @@ fn lay_object(
         total as usize,
         plan,
         at + 1,
+        steps,
     )
 }
 
@@ -215,9 +232,12 @@ fn lay_fields(
     total: usize,
     plan: &mut [u32],
     at: usize,
+    steps: &mut usize,
 ) -> usize
-    requires { ⌜ LayOrderedAsks (given nodes children numbers names strings text) (now states) (now binders) parent first (now order) total at ⌝ }
-    ensures { λ r. ⌜ WroteIn plan at (layOutOrdered (old binders) (lent nodes children numbers names strings text) first (old order) 0 total) r ⌝ }
+    requires asks { ⌜ LayOrderedAsks (given nodes children numbers names strings text) (now states) (now binders) parent first (now order) total at ⌝ }
+    requires room { ⌜ StepRoom (now steps) (length (layOutOrdered (now binders) (given nodes children numbers names strings text) first (now order) 0 total)) ⌝ }
+    ensures laid { λ r. ⌜ WroteIn plan at (layOutOrdered (old binders) (lent nodes children numbers names strings text) first (old order) 0 total) r ⌝ }
+    ensures counted { λ _. ⌜ Counts steps (length (layOutOrdered (old binders) (lent nodes children numbers names strings text) first (old order) 0 total)) ⌝ }
 {
     let mut q: usize = 0;
     let mut here = at;
@@ -238,6 +258,7 @@ fn lay_fields(
             key,
             plan,
             here,
+            steps,
         );
         q += 1;
     }

@@ -16,7 +16,7 @@ plan-pattern-requires c κs = search needs
 mark-bound-requires : tie.Need-mark-bound-requires
 mark-bound-requires c κs =
     let s = c .before .before .before .before .before .before .before .before .before .before .before .before .before in
-    ask-bound _ (s .args .scope) (s .args .scoping) (s .args .pattern) (s .pre) (c .before .before .before .plan-pattern .ensures)
+    ask-bound _ (s .args .scope) (s .args .scoping) (s .args .pattern) (s .pre) (c .before .before .before .plan-pattern .ensures .0)
 
 same-length : tie.Need-same-length
 same-length c = search needs

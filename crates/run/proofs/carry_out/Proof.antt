@@ -31,12 +31,12 @@ same-length c = search needs
 returns : tie.Need-returns
 returns c =
     let s = c .before .before .before .before .before .before .before .before .before .before .before .before .before .before .before .before .before .before .before .before .before .before in
-    too-large _ _ _ _ _ (s .pre) (c .before .before .before .before .before .before .before .before .before .before .before .plan-pattern .ensures) (wrote-first _ _ _ (c .before .before .before .before .before .before .before .copy-entries .ensures)) (c .before .before .before .close .ensures) (c .if1 .taken)
+    too-large _ _ _ _ _ (s .pre) (c .before .before .before .before .before .before .before .before .before .before .before .plan-pattern .ensures .0) (wrote-first _ _ _ (c .before .before .before .before .before .before .before .copy-entries .ensures)) (c .before .before .before .close .ensures) (c .if1 .taken)
 
 match-values-requires : tie.Need-match-values-requires
 match-values-requires c κs =
     let s = c .before .before .before .before .before .before .before .before .before .before .before .before .before .before .before .before .before .before .before .before .before .before .before .before .before in
-    ask-values _ _ _ _ _ (s .pre) (c .before .before .before .before .before .before .before .before .before .before .before .before .before .before .plan-pattern .ensures)
+    ask-values _ _ _ _ _ (s .pre) (c .before .before .before .before .before .before .before .before .before .before .before .before .before .before .plan-pattern .ensures .0)
 
 same-length-2 : tie.Need-same-length-2
 same-length-2 c = search needs
@@ -47,7 +47,7 @@ same-length-3 c = search needs
 returns-2 : tie.Need-returns-2
 returns-2 c =
     let s = c .before .before .before .before .before .before .before .before .before .before .before .before .before .before .before .before .before .before .before .before .before .before .before .before .before .before .before .before in
-    carried _ _ _ _ _ (s .pre) (c .before .before .before .before .before .before .before .before .before .before .before .before .before .before .before .before .before .plan-pattern .ensures) (wrote-first _ _ _ (c .before .before .before .before .before .before .before .before .before .before .before .before .before .copy-entries .ensures)) (c .before .before .before .before .before .before .before .before .before .close .ensures) (c .before .before .before .before .before .before .if1 .left) (c .before .before .match-values .ensures)
+    carried _ _ _ _ _ (s .pre) (c .before .before .before .before .before .before .before .before .before .before .before .before .before .before .before .before .before .plan-pattern .ensures .0) (wrote-first _ _ _ (c .before .before .before .before .before .before .before .before .before .before .before .before .before .copy-entries .ensures)) (c .before .before .before .before .before .before .before .before .before .close .ensures) (c .before .before .before .before .before .before .if1 .left) (c .before .before .match-values .ensures)
 
 pub carry-out-spec : {M : Type 1} → statement M
 carry-out-spec =

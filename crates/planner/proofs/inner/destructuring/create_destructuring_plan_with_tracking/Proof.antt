@@ -1,4 +1,4 @@
-use Rattle.planner.proofs.destructuring.Tracked.{tracked-room, tracked}
+use Rattle.planner.proofs.destructuring.Tracked.{tracked-room, tracked, written-room, laid-room, tracked-steps}
 use borrow.Author.Needs.{needs}
 use Rattle.planner.proofs.inner.destructuring.create_destructuring_plan_with_tracking.Statement.{
   statement,
@@ -10,17 +10,17 @@ use Rattle.planner.proofs.inner.destructuring.decide.Reads as decide-re
 use Rattle.planner.proofs.inner.plans.lay_out.Reads as lay-out-reads
 
 decide-requires : tie.Need-decide-requires
-decide-requires c κs = search needs
+decide-requires c κs = (search needs, search (written-room, needs))
 
 lay-out-requires : tie.Need-lay-out-requires
-lay-out-requires c κs = search (tracked-room, needs)
+lay-out-requires c κs = (search (tracked-room, needs), search (laid-room, needs))
 
 -- src
 same-length : tie.Need-same-length
 same-length c = search needs
 
 returns : tie.Need-returns
-returns c = search (tracked, needs)
+returns c = (search (tracked, needs), search (tracked-steps, needs))
 
 pub create-destructuring-plan-with-tracking-spec : {M : Type 1} → statement M
 create-destructuring-plan-with-tracking-spec =

@@ -1,4 +1,4 @@
-use Rattle.planner.proofs.laws.Operations.{ask-plan, pattern-planned}
+use Rattle.planner.proofs.laws.Operations.{ask-plan, pattern-planned, pattern-steps}
 use borrow.Author.Needs.{needs}
 use Rattle.planner.proofs.inner.destructuring.plan_pattern.Statement.{statement}
 use Rattle.planner.proofs.inner.destructuring.plan_pattern.Tie as tie
@@ -19,7 +19,7 @@ same-length : tie.Need-same-length
 same-length c = search needs
 
 returns : tie.Need-returns
-returns c = search (pattern-planned, needs)
+returns c = (search (pattern-planned, needs), search (pattern-steps, needs))
 
 pub plan-pattern-spec : {M : Type 1} → statement M
 plan-pattern-spec =

@@ -1,7 +1,10 @@
 use Prim.Native.Nat.{_-_, _*_, ℕ, _<_}
 use Rattle.table.specs.Tables.{tables}
-use Rattle.planner.proofs.destructuring.SecondPass.{next-fits, object-next-fits, ask-object, ask-name, laid-name, ask-items, laid-array, laid-plain, LayingItems, laying-start, laying-child, laying-below, laying-on, laying-long, laying-fits, laying-ends, LayingFields, ordering-start, ordering-long, ordering-place, ordering-key, ordering-value, ordering-child, ordering-below, ordering-on, ordering-ends, object-falls, items-fall, fields-fall, child-falls}
-use Rattle.planner.proofs.fields.Objects.{ask-order, ask-ordered, laid-object}
+use Rattle.planner.proofs.destructuring.SecondPass.{next-fits, lay-fits, object-room, object-counted, name-counted, items-room, array-counted, plain-counted, item-room, item-counted, items-counted, fields-counting, field-room, field-counted, fields-counted, object-next-fits, ask-object, ask-name, laid-name, ask-items, laid-array, laid-plain, LayingItems, laying-start, laying-child, laying-below, laying-on, laying-long, laying-fits, laying-ends, LayingFields, ordering-start, ordering-long, ordering-place, ordering-key, ordering-value, ordering-child, ordering-below, ordering-on, ordering-ends, object-falls, items-fall, fields-fall, child-falls}
+use Rattle.planner.proofs.destructuring.Counting.{Counting, counting-start}
+use Rattle.planner.specs.code.Passes.{layOutItems, layOutOrdered}
+use lib.ListN.{length}
+use Rattle.planner.proofs.fields.Objects.{ask-order, ask-ordered, laid-object, fields-room, fields-taken}
 use borrow.Author.Needs.{needs}
 use borrow.Fn.Kinds.{In}
 use borrow.Fn.PlainCycle.{Measures, is, falls, and}
@@ -29,46 +32,46 @@ use Rattle.table.proofs.reading.kind_of.Reads as kind-of-reads
 use Rattle.planner.proofs.inner.plans.+lay_fields+lay_items+lay_object+lay_out.{statement}
 use Rattle.planner.proofs.inner.plans.+lay_fields+lay_items+lay_object+lay_out.Tie.{close}
 
-abbrev μ-lay-fields : Measures 10 lay-fields-kinds.ps ℕ
+abbrev μ-lay-fields : Measures 11 lay-fields-kinds.ps ℕ
 μ-lay-fields κs a = 4 * a .1 .1 .1 .1 .1 .1 .1 .1 .0 - 2
 
-abbrev μ-lay-items : Measures 9 lay-items-kinds.ps ℕ
+abbrev μ-lay-items : Measures 10 lay-items-kinds.ps ℕ
 μ-lay-items κs a = 4 * a .1 .1 .1 .1 .1 .1 .1 .1 .0 - 2
 
-abbrev μ-lay-object : Measures 9 lay-object-kinds.ps ℕ
+abbrev μ-lay-object : Measures 10 lay-object-kinds.ps ℕ
 μ-lay-object κs a = 4 * a .1 .1 .1 .1 .1 .1 .1 .1 .0 - 1
 
-abbrev μ-lay-out : Measures 9 lay-out-kinds.ps ℕ
+abbrev μ-lay-out : Measures 10 lay-out-kinds.ps ℕ
 μ-lay-out κs a = 4 * a .1 .1 .1 .1 .1 .1 .1 .1 .0
 
-abbrev lay-fields-at : ℕ → In 10 lay-fields-kinds.ps
+abbrev lay-fields-at : ℕ → In 11 lay-fields-kinds.ps
 lay-fields-at t =
-    and 10 lay-fields-kinds.ps (is 10 lay-fields-kinds.ps μ-lay-fields t) lay-fields.Pre
+    and 11 lay-fields-kinds.ps (is 11 lay-fields-kinds.ps μ-lay-fields t) lay-fields.Pre
 
-abbrev lay-fields-below : ℕ → In 10 lay-fields-kinds.ps
+abbrev lay-fields-below : ℕ → In 11 lay-fields-kinds.ps
 lay-fields-below t =
-    and 10 lay-fields-kinds.ps (falls 10 lay-fields-kinds.ps _<_ μ-lay-fields t) lay-fields.Pre
+    and 11 lay-fields-kinds.ps (falls 11 lay-fields-kinds.ps _<_ μ-lay-fields t) lay-fields.Pre
 
-abbrev lay-items-at : ℕ → In 9 lay-items-kinds.ps
-lay-items-at t = and 9 lay-items-kinds.ps (is 9 lay-items-kinds.ps μ-lay-items t) lay-items.Pre
+abbrev lay-items-at : ℕ → In 10 lay-items-kinds.ps
+lay-items-at t = and 10 lay-items-kinds.ps (is 10 lay-items-kinds.ps μ-lay-items t) lay-items.Pre
 
-abbrev lay-items-below : ℕ → In 9 lay-items-kinds.ps
+abbrev lay-items-below : ℕ → In 10 lay-items-kinds.ps
 lay-items-below t =
-    and 9 lay-items-kinds.ps (falls 9 lay-items-kinds.ps _<_ μ-lay-items t) lay-items.Pre
+    and 10 lay-items-kinds.ps (falls 10 lay-items-kinds.ps _<_ μ-lay-items t) lay-items.Pre
 
-abbrev lay-object-at : ℕ → In 9 lay-object-kinds.ps
+abbrev lay-object-at : ℕ → In 10 lay-object-kinds.ps
 lay-object-at t =
-    and 9 lay-object-kinds.ps (is 9 lay-object-kinds.ps μ-lay-object t) lay-object.Pre
+    and 10 lay-object-kinds.ps (is 10 lay-object-kinds.ps μ-lay-object t) lay-object.Pre
 
-abbrev lay-object-below : ℕ → In 9 lay-object-kinds.ps
+abbrev lay-object-below : ℕ → In 10 lay-object-kinds.ps
 lay-object-below t =
-    and 9 lay-object-kinds.ps (falls 9 lay-object-kinds.ps _<_ μ-lay-object t) lay-object.Pre
+    and 10 lay-object-kinds.ps (falls 10 lay-object-kinds.ps _<_ μ-lay-object t) lay-object.Pre
 
-abbrev lay-out-at : ℕ → In 9 lay-out-kinds.ps
-lay-out-at t = and 9 lay-out-kinds.ps (is 9 lay-out-kinds.ps μ-lay-out t) lay-out.Pre
+abbrev lay-out-at : ℕ → In 10 lay-out-kinds.ps
+lay-out-at t = and 10 lay-out-kinds.ps (is 10 lay-out-kinds.ps μ-lay-out t) lay-out.Pre
 
-abbrev lay-out-below : ℕ → In 9 lay-out-kinds.ps
-lay-out-below t = and 9 lay-out-kinds.ps (falls 9 lay-out-kinds.ps _<_ μ-lay-out t) lay-out.Pre
+abbrev lay-out-below : ℕ → In 10 lay-out-kinds.ps
+lay-out-below t = and 10 lay-out-kinds.ps (falls 10 lay-out-kinds.ps _<_ μ-lay-out t) lay-out.Pre
 
 abbrev lay-fields-calls : ℕ → lay-fields-lts.Claims
 lay-fields-calls t = (field-at-reads.Asked, field-at-reads.Learnt, child-at-reads.Asked, child-at-reads.Learnt, lay-out-below t, lay-out.Post)
@@ -83,13 +86,15 @@ abbrev lay-out-calls : ℕ → lay-out-lts.Claims
 lay-out-calls t = (kind-of-reads.Asked, kind-of-reads.Learnt, first-of-reads.Asked, first-of-reads.Learnt, name-kind-reads.Asked, name-kind-reads.Learnt, put-entry-reads.Asked, put-entry-reads.Learnt, count-of-reads.Asked, count-of-reads.Learnt, lay-items-below t, lay-items.Post, lay-object-below t, lay-object.Post, leaf-kind-reads.Asked, leaf-kind-reads.Learnt)
 
 abbrev lay-fields-Inv-loop : lay-fields-lts.InvT-loop
-lay-fields-Inv-loop nodes children numbers names strings text states binders parent first order total plan₀ at q₀ here₀ plan q here = LayingFields (tables nodes children numbers names strings text) states binders parent first order total plan₀ at q plan here
+lay-fields-Inv-loop nodes children numbers names strings text states binders parent first order total plan₀ at steps₀ q₀ here₀ plan steps q here =
+    LayingFields (tables nodes children numbers names strings text) states binders parent first order total plan₀ at q plan here
+    × Counting steps₀ (length (layOutOrdered binders (tables nodes children numbers names strings text) first order 0 total)) steps (length (layOutOrdered binders (tables nodes children numbers names strings text) first order q (total - q)))
 
 abbrev lay-fields-μ-loop : lay-fields-lts.MeasureT-loop
-lay-fields-μ-loop nodes children numbers names strings text states binders parent first order total plan₀ at q₀ here₀ plan q here = total - q
+lay-fields-μ-loop nodes children numbers names strings text states binders parent first order total plan₀ at steps₀ q₀ here₀ plan steps q here = total - q
 
 lay-fields-loop-holds : (t : ℕ) → lay-fields-lts.Need-loop-holds (lay-fields-calls t) (lay-fields-at t) lay-fields.Post lay-fields-Inv-loop lay-fields-μ-loop
-lay-fields-loop-holds t c = search (ordering-start, needs)
+lay-fields-loop-holds t c = (search (ordering-start, needs), search (fields-counting, needs))
 
 lay-fields-field-at-requires : (t : ℕ) → lay-fields-lts.Need-field-at-requires (lay-fields-calls t) (lay-fields-at t) lay-fields.Post lay-fields-Inv-loop lay-fields-μ-loop
 lay-fields-field-at-requires t c κs = search needs
@@ -111,12 +116,13 @@ lay-fields-child-at-requires-2 t c κs = search needs
 
 lay-fields-lay-out-requires : (t : ℕ) → lay-fields-lts.Need-lay-out-requires (lay-fields-calls t) (lay-fields-at t) lay-fields.Post lay-fields-Inv-loop lay-fields-μ-loop
 lay-fields-lay-out-requires t c κs =
-    let s = c .before .before .before .before .before in
-    let lt = c .before .before .before .before .loop-test .taken in
-    let i = c .before .before .before .field-at .ensures in
-    let k = c .before .before .child-at .ensures in
-    let v = c .before .child-at2 .ensures in
-    (child-falls (ordering-below (s .loop .inv) lt i k v) (s .before .before .before .before .before .before .before .before .pre .0), ordering-child (s .loop .inv) lt i k v)
+    let s = c .before .before .before .before .before .before in
+    let lt = c .before .before .before .before .before .loop-test .taken in
+    let i = c .before .before .before .before .field-at .ensures in
+    let k = c .before .before .before .child-at .ensures in
+    let v = c .before .before .child-at2 .ensures in
+    let go = s .loop .inv .0 in
+    (child-falls (ordering-below go lt i k v) (s .before .before .before .before .before .before .before .before .pre .0), (ordering-child go lt i k v, field-room go lt i k v _ _ _ (s .loop .inv .1)))
 
 lay-fields-add-q : (t : ℕ) → lay-fields-lts.Need-add-q (lay-fields-calls t) (lay-fields-at t) lay-fields.Post lay-fields-Inv-loop lay-fields-μ-loop
 lay-fields-add-q t c = search needs
@@ -126,29 +132,37 @@ lay-fields-loop-less t c = search needs
 
 lay-fields-loop-again : (t : ℕ) → lay-fields-lts.Need-loop-again (lay-fields-calls t) (lay-fields-at t) lay-fields.Post lay-fields-Inv-loop lay-fields-μ-loop
 lay-fields-loop-again t c =
-    let s = c .before .before .before .before .before .before .before .before in
-    ordering-on (s .loop .inv) (c .before .before .before .before .before .before .before .loop-test .taken) (c .before .before .before .before .before .before .field-at .ensures) (c .before .before .before .before .before .child-at .ensures) (c .before .before .before .before .child-at2 .ensures) (c .before .before .lay-out .ensures)
+    let s = c .before .before .before .before .before .before .before .before .before in
+    let lt = c .before .before .before .before .before .before .before .before .loop-test .taken in
+    let i = c .before .before .before .before .before .before .before .field-at .ensures in
+    let k = c .before .before .before .before .before .before .child-at .ensures in
+    let v = c .before .before .before .before .before .child-at2 .ensures in
+    let go = s .loop .inv .0 in
+    let laid = c .before .before .lay-out .ensures in
+    (ordering-on go lt i k v (laid .0), field-counted go lt i k v _ _ _ (s .loop .inv .1) (laid .1))
 
 lay-fields-same-length : (t : ℕ) → lay-fields-lts.Need-same-length (lay-fields-calls t) (lay-fields-at t) lay-fields.Post lay-fields-Inv-loop lay-fields-μ-loop
 lay-fields-same-length t c = search (ordering-long, needs)
 
 lay-fields-returns : (t : ℕ) → lay-fields-lts.Need-returns (lay-fields-calls t) (lay-fields-at t) lay-fields.Post lay-fields-Inv-loop lay-fields-μ-loop
-lay-fields-returns t c = search (ordering-ends, needs)
+lay-fields-returns t c = (search (ordering-ends, needs), search (fields-counted, needs))
 
 abbrev lay-items-Inv-loop : lay-items-lts.InvT-loop
-lay-items-Inv-loop nodes children numbers names strings text states binders parent from left plan₀ at place₀ more₀ here₀ plan place more here = LayingItems (tables nodes children numbers names strings text) states binders parent from left plan₀ at place more plan here
+lay-items-Inv-loop nodes children numbers names strings text states binders parent from left plan₀ at steps₀ place₀ more₀ here₀ plan steps place more here =
+    LayingItems (tables nodes children numbers names strings text) states binders parent from left plan₀ at place more plan here
+    × Counting steps₀ (length (layOutItems binders (tables nodes children numbers names strings text) from left)) steps (length (layOutItems binders (tables nodes children numbers names strings text) place more))
 
 abbrev lay-items-μ-loop : lay-items-lts.MeasureT-loop
-lay-items-μ-loop nodes children numbers names strings text states binders parent from left plan₀ at place₀ more₀ here₀ plan place more here = more
+lay-items-μ-loop nodes children numbers names strings text states binders parent from left plan₀ at steps₀ place₀ more₀ here₀ plan steps place more here = more
 
 lay-items-loop-holds : (t : ℕ) → lay-items-lts.Need-loop-holds (lay-items-calls t) (lay-items-at t) lay-items.Post lay-items-Inv-loop lay-items-μ-loop
-lay-items-loop-holds t c = search (laying-start, needs)
+lay-items-loop-holds t c = (search (laying-start, needs), search (counting-start, needs))
 
 lay-items-child-at-requires : (t : ℕ) → lay-items-lts.Need-child-at-requires (lay-items-calls t) (lay-items-at t) lay-items.Post lay-items-Inv-loop lay-items-μ-loop
 lay-items-child-at-requires t c κs = search needs
 
 lay-items-lay-out-requires : (t : ℕ) → lay-items-lts.Need-lay-out-requires (lay-items-calls t) (lay-items-at t) lay-items.Post lay-items-Inv-loop lay-items-μ-loop
-lay-items-lay-out-requires t c κs = (search (child-falls, laying-below, needs), search (laying-child, needs))
+lay-items-lay-out-requires t c κs = (search (child-falls, laying-below, needs), (search (laying-child, needs), search (item-room, needs)))
 
 lay-items-add-place : (t : ℕ) → lay-items-lts.Need-add-place (lay-items-calls t) (lay-items-at t) lay-items.Post lay-items-Inv-loop lay-items-μ-loop
 lay-items-add-place t c = search (laying-fits, needs)
@@ -160,13 +174,13 @@ lay-items-loop-less : (t : ℕ) → lay-items-lts.Need-loop-less (lay-items-call
 lay-items-loop-less t c = search needs
 
 lay-items-loop-again : (t : ℕ) → lay-items-lts.Need-loop-again (lay-items-calls t) (lay-items-at t) lay-items.Post lay-items-Inv-loop lay-items-μ-loop
-lay-items-loop-again t c = search (laying-on, needs)
+lay-items-loop-again t c = (search (laying-on, needs), search (item-counted, needs))
 
 lay-items-same-length : (t : ℕ) → lay-items-lts.Need-same-length (lay-items-calls t) (lay-items-at t) lay-items.Post lay-items-Inv-loop lay-items-μ-loop
 lay-items-same-length t c = search (laying-long, needs)
 
 lay-items-returns : (t : ℕ) → lay-items-lts.Need-returns (lay-items-calls t) (lay-items-at t) lay-items.Post lay-items-Inv-loop lay-items-μ-loop
-lay-items-returns t c = search (laying-ends, needs)
+lay-items-returns t c = (search (laying-ends, needs), search (items-counted, needs))
 
 lay-object-first-of-requires : (t : ℕ) → lay-object-lts.Need-first-of-requires (lay-object-calls t) (lay-object-at t) lay-object.Post
 lay-object-first-of-requires t c κs = search needs
@@ -193,13 +207,23 @@ lay-object-add-lay-fields : (t : ℕ) → lay-object-lts.Need-add-lay-fields (la
 lay-object-add-lay-fields t c = search (object-next-fits, needs)
 
 lay-object-lay-fields-requires : (t : ℕ) → lay-object-lts.Need-lay-fields-requires (lay-object-calls t) (lay-object-at t) lay-object.Post
-lay-object-lay-fields-requires t c κs = (search (fields-fall, needs), search (ask-ordered, c .before .before .before .before .before .before .order-fields .ensures, c .before .before .before .before .before .before .before .before .before .before .before .before .before .before .before .before .before .pre .1, needs))
+lay-object-lay-fields-requires t c κs =
+    let asks = c .before .before .before .before .before .before .before .before .before .before .before .before .before .before .before .before .before .before .pre .1 .0 in
+    let room = c .before .before .before .before .before .before .before .before .before .before .before .before .before .before .before .before .before .before .pre .1 .1 in
+    let arranged = c .before .before .before .before .before .before .before .order-fields .ensures in
+    (search (fields-fall, needs), (search (ask-ordered, arranged, asks, needs), search (fields-room, arranged, asks, room, needs)))
 
 lay-object-same-length : (t : ℕ) → lay-object-lts.Need-same-length (lay-object-calls t) (lay-object-at t) lay-object.Post
 lay-object-same-length t c = search needs
 
 lay-object-returns : (t : ℕ) → lay-object-lts.Need-returns (lay-object-calls t) (lay-object-at t) lay-object.Post
-lay-object-returns t c = search (laid-object, c .before .before .before .before .before .before .before .before .before .before .before .before .before .before .before .before .before .before .before .before .pre .1, needs)
+lay-object-returns t c =
+    let asks = c .before .before .before .before .before .before .before .before .before .before .before .before .before .before .before .before .before .before .before .before .before .pre .1 .0 in
+    let arranged = c .before .before .before .before .before .before .before .before .before .before .order-fields .ensures in
+    (search (laid-object, arranged, asks, needs), search (fields-taken, arranged, asks, needs))
+
+lay-out-add-steps : (t : ℕ) → lay-out-lts.Need-add-steps (lay-out-calls t) (lay-out-at t) lay-out.Post
+lay-out-add-steps t c = search (lay-fits, needs)
 
 lay-out-kind-of-requires : (t : ℕ) → lay-out-lts.Need-kind-of-requires (lay-out-calls t) (lay-out-at t) lay-out.Post
 lay-out-kind-of-requires t c κs = search needs
@@ -220,7 +244,7 @@ lay-out-same-length : (t : ℕ) → lay-out-lts.Need-same-length (lay-out-calls 
 lay-out-same-length t c = search needs
 
 lay-out-returns : (t : ℕ) → lay-out-lts.Need-returns (lay-out-calls t) (lay-out-at t) lay-out.Post
-lay-out-returns t c = search (laid-name, needs)
+lay-out-returns t c = (search (laid-name, needs), search (name-counted, needs))
 
 lay-out-count-of-requires : (t : ℕ) → lay-out-lts.Need-count-of-requires (lay-out-calls t) (lay-out-at t) lay-out.Post
 lay-out-count-of-requires t c κs = search needs
@@ -238,22 +262,25 @@ lay-out-add-lay-items : (t : ℕ) → lay-out-lts.Need-add-lay-items (lay-out-ca
 lay-out-add-lay-items t c = search (next-fits, needs)
 
 lay-out-lay-items-requires : (t : ℕ) → lay-out-lts.Need-lay-items-requires (lay-out-calls t) (lay-out-at t) lay-out.Post
-lay-out-lay-items-requires t c κs = (search (items-fall, needs), search (ask-items, needs))
+lay-out-lay-items-requires t c κs = (search (items-fall, needs), (search (ask-items, needs), search (items-room, needs)))
 
 lay-out-same-length-2 : (t : ℕ) → lay-out-lts.Need-same-length-2 (lay-out-calls t) (lay-out-at t) lay-out.Post
 lay-out-same-length-2 t c = search needs
 
 lay-out-returns-2 : (t : ℕ) → lay-out-lts.Need-returns-2 (lay-out-calls t) (lay-out-at t) lay-out.Post
-lay-out-returns-2 t c = search (laid-array, needs)
+lay-out-returns-2 t c =
+    let asks = c .before .before .before .before .before .before .before .before .before .before .before .before .before .before .before .before .before .before .before .before .before .before .pre .1 .0 in
+    let items = c .before .before .lay-items .ensures in
+    (search (laid-array, asks, items .0, c .before .before .before .before .before .before .before .put-entry2 .ensures, needs), search (array-counted, asks, items .1, needs))
 
 lay-out-lay-object-requires : (t : ℕ) → lay-out-lts.Need-lay-object-requires (lay-out-calls t) (lay-out-at t) lay-out.Post
-lay-out-lay-object-requires t c κs = (search (object-falls, needs), search (ask-object, needs))
+lay-out-lay-object-requires t c κs = (search (object-falls, needs), (search (ask-object, needs), search (object-room, needs)))
 
 lay-out-same-length-3 : (t : ℕ) → lay-out-lts.Need-same-length-3 (lay-out-calls t) (lay-out-at t) lay-out.Post
 lay-out-same-length-3 t c = search needs
 
 lay-out-returns-3 : (t : ℕ) → lay-out-lts.Need-returns-3 (lay-out-calls t) (lay-out-at t) lay-out.Post
-lay-out-returns-3 t c = search needs
+lay-out-returns-3 t c = (search needs, search (object-counted, needs))
 
 lay-out-leaf-kind-requires : (t : ℕ) → lay-out-lts.Need-leaf-kind-requires (lay-out-calls t) (lay-out-at t) lay-out.Post
 lay-out-leaf-kind-requires t c κs = search needs
@@ -268,7 +295,7 @@ lay-out-same-length-4 : (t : ℕ) → lay-out-lts.Need-same-length-4 (lay-out-ca
 lay-out-same-length-4 t c = search needs
 
 lay-out-returns-4 : (t : ℕ) → lay-out-lts.Need-returns-4 (lay-out-calls t) (lay-out-at t) lay-out.Post
-lay-out-returns-4 t c = search (laid-plain, needs)
+lay-out-returns-4 t c = (search (laid-plain, needs), search (plain-counted, needs))
 
 pub +lay-fields+lay-items+lay-object+lay-out-spec : {M : Type 1} → statement M
 +lay-fields+lay-items+lay-object+lay-out-spec =
@@ -361,6 +388,7 @@ pub +lay-fields+lay-items+lay-object+lay-out-spec : {M : Type 1} → statement M
     )
     (lay-out-at t)
     lay-out.Post
+    (lay-out-add-steps t)
     (lay-out-kind-of-requires t)
     (lay-out-first-of-requires t)
     (lay-out-name-kind-requires t)

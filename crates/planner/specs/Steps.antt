@@ -1,0 +1,60 @@
+-- The steps of a pattern call after the table check, one for each time that it goes into a node: a pass in written order, which finds the
+-- node that binds each name, and a pass in plan order, which writes the entries.
+use Prim.Native.Nat.{ℕ, _+_, _*_, _≤_}
+use mathlib.Core.Bool.{Bool}
+use mathlib.Core.List.{[]}
+use lib.ListN.{length}
+use Rattle.scope.specs.declared.Scope.{Scope}
+use Rattle.scope.specs.declared.ScopingMode.{ScopingMode}
+use Rattle.scope.specs.declared.ScopingMode.the-variants.{RespectParent}
+use Rattle.scope.specs.Scope.{isUnbound}
+use Rattle.table.specs.Tables.{Tables}
+use Rattle.table.specs.Expr.{Expr, literal, name, wildcard, array, set, object, other, Exprs, none, item, Fields, done, field, parts}
+use Rattle.table.specs.Decode.{expr}
+use Rattle.planner.specs.Plan.{DestructuringPlan, plan}
+use Rattle.planner.specs.Layout.{entries}
+use Rattle.planner.specs.Operations.{Outcome, refused, planned, patternOutcome, indexOutcome, parameterOutcome}
+
+-- In written order: every node but keys, the members of sets and what is inside other expressions; the values of fields that an equal key replaces too.
+unfoldable mutual
+  pub writtenSteps : Expr → ℕ
+  writtenSteps (literal n l) = 1
+  writtenSteps (name n x) = 1
+  writtenSteps (wildcard n) = 1
+  writtenSteps (array n es) = 1 + writtenStepsAll es
+  writtenSteps (set n es) = 1
+  writtenSteps (object n fs) = 1 + writtenStepsFields fs
+  writtenSteps (other n) = 1
+
+  pub writtenStepsAll : Exprs → ℕ
+  writtenStepsAll none = 0
+  writtenStepsAll (item e es) = writtenSteps e + writtenStepsAll es
+
+  pub writtenStepsFields : Fields → ℕ
+  writtenStepsFields done = 0
+  writtenStepsFields (field k v fs) = writtenSteps v + writtenStepsFields fs
+
+-- In plan order: a node is gone into to write its entry.
+abbrev pub planSteps : DestructuringPlan → ℕ
+planSteps p = length (entries p 0)
+
+unfoldable pub steps : (ℕ → Bool) → Expr → ℕ
+steps unbound e = writtenSteps e + planSteps (plan unbound e [])
+
+-- At least a plan's entries, and at most twice the pattern's nodes, keys counted.
+pub record StepLaws (unbound : ℕ → Bool) (e : Expr) : Type 0 where
+  pub least : length (entries (plan unbound e []) 0) ≤ steps unbound e
+  pub most : steps unbound e ≤ 2 * length (parts e)
+
+-- The same of an operation: if it plans, its entries are at most so many steps, and these at most twice so many nodes.
+abbrev pub StepsBetween : ℕ → ℕ → Outcome → Type 0
+StepsBetween n nodes (refused r) = Unit {0}
+StepsBetween n nodes (planned form side es) = (length es ≤ n) × (n ≤ 2 * nodes)
+
+abbrev pub StepsOfRoot : Tables → Scope → ScopingMode → ℕ → Outcome → Type 0
+StepsOfRoot T s mode root o = StepsBetween (steps (isUnbound s mode) (expr T root)) (length (parts (expr T root))) o
+
+pub record OutcomeSteps (T : Tables) (s : Scope) (root : ℕ) : Type 0 where
+  pub pattern : (mode : ScopingMode) → StepsOfRoot T s mode root (patternOutcome T s mode root)
+  pub index : StepsOfRoot T s RespectParent root (indexOutcome T s root)
+  pub parameter : (mode : ScopingMode) → StepsOfRoot T s mode root (parameterOutcome T s mode root)
