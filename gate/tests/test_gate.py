@@ -12,7 +12,7 @@ SCRIPT = pathlib.Path(__file__).resolve().parent.parent.parent / "test"
 GREEN = "echo proving; echo '3 passed, 0 failed'"
 RED = "echo '2 passed, 1 failed'; exit 1"
 COMPARED = "compared 20000 with target/staticlib/libsheet.a"
-MEASURED = "stack measured with target/staticlib/libsheet.a"
+MEASURED = "stack measured with target/examples/prefix/lib/libteluddru.a"
 UNITTEST = """\
 import os, unittest
 class Stub(unittest.TestCase):
@@ -35,7 +35,7 @@ class Gate(unittest.TestCase):
         self.write("gate/test_gate.py", UNITTEST.format(planner=""))
         self.write("tools/test_tools.py", UNITTEST.format(planner="plansheet"))
         self.command("examples/run", "echo example run")
-        self.command("examples/stack", 'echo "stack measured with $PLAN_SHEET_LIBRARY"')
+        self.command("examples/stack", 'echo "stack measured with $TELUDDRU_LIBRARY"')
         self.command("oracle/compare", 'echo "compared $1 with $PLAN_SHEET_LIBRARY"')
         self.command("../bin/rt", GREEN)
         self.command("../bin/cargo", "exit 1")
