@@ -5,23 +5,18 @@ use Rattle.c_calls.proofs.answer.put_word.Tie as tie
 use Rattle.c_calls.proofs.answer.put_word.Reads as reads
 use Rattle.c_calls.proofs.answer.put_word.Lts as lts
 
--- src/answer.rt:65:9
 returns : tie.Need-returns
 returns c = search (no-place, needs)
 
--- src/answer.rt:67:5
 mul-words : tie.Need-mul-words
 mul-words c = search needs
 
--- src/answer.rt:67:5
 slice-write-words : tie.Need-slice-write-words
 slice-write-words c = search needs
 
--- src/answer.rt:61:1
 same-length : tie.Need-same-length
 same-length c = search needs
 
--- src/answer.rt:61:1
 returns-2 : tie.Need-returns-2
 returns-2 c = search needs
 

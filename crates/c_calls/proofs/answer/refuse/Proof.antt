@@ -7,19 +7,15 @@ use Rattle.c_calls.proofs.answer.refuse.Lts as lts
 use Rattle.operation.proofs.row.row_from.Reads as row-from-reads
 use Rattle.c_calls.proofs.answer.tell.Reads as tell-reads
 
--- src/answer.rt:87:18
 row-from-requires : tie.Need-row-from-requires
 row-from-requires c κs = search needs
 
--- src/answer.rt:87:5
 tell-requires : tie.Need-tell-requires
 tell-requires c κs = search (seven-short, needs)
 
--- src/answer.rt:84:1
 same-length : tie.Need-same-length
 same-length c = search needs
 
--- src/answer.rt:84:1
 returns : tie.Need-returns
 returns c = search (seven-told, needs)
 

@@ -7,119 +7,90 @@ use Rattle.c_calls.proofs.answer.run_row.Lts as lts
 use Rattle.operation.proofs.row.row_from.Reads as row-from-reads
 use Rattle.table.proofs.refusal_number.Reads as refusal-number-reads
 
--- src/answer.rt:37:29
 enum-told : tie.Need-enum-told
 enum-told c = search needs
 
--- src/answer.rt:37:29
 row-from-requires : tie.Need-row-from-requires
 row-from-requires c κs = search needs
 
--- src/answer.rt:38:31
 enum-told-2 : tie.Need-enum-told-2
 enum-told-2 c = search needs
 
--- src/answer.rt:38:31
 row-from-requires-2 : tie.Need-row-from-requires-2
 row-from-requires-2 c κs = search needs
 
--- src/answer.rt:39:33
 enum-known-answer : tie.Need-enum-known-answer
 enum-known-answer c = search needs
 
--- src/answer.rt:39:54
 refusal-number-requires : tie.Need-refusal-number-requires
 refusal-number-requires c κs = search needs
 
--- src/answer.rt:39:54
 cast-row-from : tie.Need-cast-row-from
 cast-row-from c = search needs
 
--- src/answer.rt:39:45
 row-from-requires-3 : tie.Need-row-from-requires-3
 row-from-requires-3 c κs = search needs
 
--- src/answer.rt:40:35
 enum-told-3 : tie.Need-enum-told-3
 enum-told-3 c = search needs
 
--- src/answer.rt:40:35
 row-from-requires-4 : tie.Need-row-from-requires-4
 row-from-requires-4 c κs = search needs
 
--- src/answer.rt:41:36
 enum-told-4 : tie.Need-enum-told-4
 enum-told-4 c = search needs
 
--- src/answer.rt:41:36
 row-from-requires-5 : tie.Need-row-from-requires-5
 row-from-requires-5 c κs = search needs
 
--- src/answer.rt:42:40
 enum-told-5 : tie.Need-enum-told-5
 enum-told-5 c = search needs
 
--- src/answer.rt:42:40
 row-from-requires-6 : tie.Need-row-from-requires-6
 row-from-requires-6 c κs = search needs
 
--- src/answer.rt:43:33
 enum-told-6 : tie.Need-enum-told-6
 enum-told-6 c = search needs
 
--- src/answer.rt:43:33
 row-from-requires-7 : tie.Need-row-from-requires-7
 row-from-requires-7 c κs = search needs
 
--- src/answer.rt:44:40
 enum-told-7 : tie.Need-enum-told-7
 enum-told-7 c = search needs
 
--- src/answer.rt:44:40
 row-from-requires-8 : tie.Need-row-from-requires-8
 row-from-requires-8 c κs = search needs
 
--- src/answer.rt:45:35
 enum-known-answer-2 : tie.Need-enum-known-answer-2
 enum-known-answer-2 c = search needs
 
--- src/answer.rt:45:47
 row-from-requires-9 : tie.Need-row-from-requires-9
 row-from-requires-9 c κs = search needs
 
--- src/answer.rt:33:1
 returns : tie.Need-returns
 returns c = search (run-is, needs)
 
--- src/answer.rt:33:1
 returns-2 : tie.Need-returns-2
 returns-2 c = search (run-is, needs)
 
--- src/answer.rt:33:1
 returns-3 : tie.Need-returns-3
 returns-3 c = search (run-table, needs)
 
--- src/answer.rt:33:1
 returns-4 : tie.Need-returns-4
 returns-4 c = search (run-is, needs)
 
--- src/answer.rt:33:1
 returns-5 : tie.Need-returns-5
 returns-5 c = search (run-is, needs)
 
--- src/answer.rt:33:1
 returns-6 : tie.Need-returns-6
 returns-6 c = search (run-is, needs)
 
--- src/answer.rt:33:1
 returns-7 : tie.Need-returns-7
 returns-7 c = search (run-is, needs)
 
--- src/answer.rt:33:1
 returns-8 : tie.Need-returns-8
 returns-8 c = search (run-is, needs)
 
--- src/answer.rt:33:1
 returns-9 : tie.Need-returns-9
 returns-9 c = search (run-is, needs)
 

@@ -6,43 +6,33 @@ use Rattle.c_calls.proofs.answer.tell.Reads as reads
 use Rattle.c_calls.proofs.answer.tell.Lts as lts
 use Rattle.c_calls.proofs.answer.put_word.Reads as put-word-reads
 
--- src/answer.rt:75:18
 cast-number : tie.Need-cast-number
 cast-number c = search needs
 
--- src/answer.rt:76:5
 put-word-requires : tie.Need-put-word-requires
 put-word-requires c κs = search needs
 
--- src/answer.rt:77:25
 cast-put-word : tie.Need-cast-put-word
 cast-put-word c = search needs
 
--- src/answer.rt:77:5
 put-word-requires-2 : tie.Need-put-word-requires-2
 put-word-requires-2 c κs = search needs
 
--- src/answer.rt:78:25
 cast-put-word-2 : tie.Need-cast-put-word-2
 cast-put-word-2 c = search needs
 
--- src/answer.rt:78:5
 put-word-requires-3 : tie.Need-put-word-requires-3
 put-word-requires-3 c κs = search needs
 
--- src/answer.rt:79:25
 cast-put-word-3 : tie.Need-cast-put-word-3
 cast-put-word-3 c = search needs
 
--- src/answer.rt:79:5
 put-word-requires-4 : tie.Need-put-word-requires-4
 put-word-requires-4 c κs = search needs
 
--- src/answer.rt:71:1
 same-length : tie.Need-same-length
 same-length c = search needs
 
--- src/answer.rt:71:1
 returns : tie.Need-returns
 returns c = search (words-told, needs)
 

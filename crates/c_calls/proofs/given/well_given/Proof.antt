@@ -7,19 +7,15 @@ use Rattle.c_calls.proofs.given.well_given.Lts as lts
 use Rattle.operation.proofs.numbers.are_listed.Reads as are-listed-reads
 use Rattle.scope.proofs.Scope.marks_ok.Reads as marks-ok-reads
 
--- src/given.rt:63:8
 marks-ok-requires : tie.Need-marks-ok-requires
 marks-ok-requires c κs = search needs
 
--- src/given.rt:64:9
 are-listed-requires : tie.Need-are-listed-requires
 are-listed-requires c κs = search needs
 
--- src/given.rt:64:9
 returns : tie.Need-returns
 returns c = search (given-marked, needs)
 
--- src/given.rt:60:1
 returns-2 : tie.Need-returns-2
 returns-2 c = search (given-unmarked, needs)
 

@@ -13,59 +13,45 @@ use Rattle.operation.proofs.plan.Reads as plan-reads
 use Rattle.operation.proofs.row.row_of.Reads as row-of-reads
 use Rattle.planner.proofs.buffer.clear.Reads as clear-reads
 
--- src/planning.rt:43:9
 scope-of-requires : tie.Need-scope-of-requires
 scope-of-requires c κs = search needs
 
--- src/planning.rt:44:9
 well-given-requires : tie.Need-well-given-requires
 well-given-requires c κs = search needs
 
--- src/planning.rt:45:9
 clear-requires : tie.Need-clear-requires
 clear-requires c κs = search needs
 
--- src/planning.rt:46:9
 refuse-requires : tie.Need-refuse-requires
 refuse-requires c κs = search needs
 
--- src/planning.rt:46:9
 same-length : tie.Need-same-length
 same-length c = search needs
 
--- src/planning.rt:46:9
 same-length-2 : tie.Need-same-length-2
 same-length-2 c = search needs
 
--- src/planning.rt:46:9
 returns : tie.Need-returns
 returns c = search (plan-refused, needs)
 
--- src/planning.rt:56:9
 operation-of-requires : tie.Need-operation-of-requires
 operation-of-requires c κs = search needs
 
--- src/planning.rt:48:9
 plan-requires : tie.Need-plan-requires
 plan-requires c κs = search needs
 
--- src/planning.rt:59:18
 row-of-requires : tie.Need-row-of-requires
 row-of-requires c κs = search needs
 
--- src/planning.rt:59:5
 tell-requires : tie.Need-tell-requires
 tell-requires c κs = search (plan-fits, needs)
 
--- src/planning.rt:15:1
 same-length-3 : tie.Need-same-length-3
 same-length-3 c = search needs
 
--- src/planning.rt:15:1
 same-length-4 : tie.Need-same-length-4
 same-length-4 c = search needs
 
--- src/planning.rt:15:1
 returns-2 : tie.Need-returns-2
 returns-2 c = search (plan-done, needs)
 

@@ -14,63 +14,48 @@ use Rattle.operation.proofs.numbers.scoping_of.Reads as scoping-of-reads
 use Rattle.planner.proofs.buffer.clear.Reads as clear-reads
 use Rattle.report.proofs.names_report.Reads as names-report-reads
 
--- src/reporting.rt:32:9
 scope-of-requires : tie.Need-scope-of-requires
 scope-of-requires c κs = search needs
 
--- src/reporting.rt:33:27
 pattern-numbers-requires : tie.Need-pattern-numbers-requires
 pattern-numbers-requires c κs = search needs
 
--- src/reporting.rt:33:9
 well-given-requires : tie.Need-well-given-requires
 well-given-requires c κs = search needs
 
--- src/reporting.rt:34:9
 clear-requires : tie.Need-clear-requires
 clear-requires c κs = search needs
 
--- src/reporting.rt:35:9
 refuse-requires : tie.Need-refuse-requires
 refuse-requires c κs = search needs
 
--- src/reporting.rt:35:9
 same-length : tie.Need-same-length
 same-length c = search needs
 
--- src/reporting.rt:35:9
 same-length-2 : tie.Need-same-length-2
 same-length-2 c = search needs
 
--- src/reporting.rt:35:9
 returns : tie.Need-returns
 returns c = search (report-refused, needs)
 
--- src/reporting.rt:45:9
 scoping-of-requires : tie.Need-scoping-of-requires
 scoping-of-requires c κs = search needs
 
--- src/reporting.rt:37:9
 names-report-requires : tie.Need-names-report-requires
 names-report-requires c κs = search needs
 
--- src/reporting.rt:49:18
 report-row-requires : tie.Need-report-row-requires
 report-row-requires c κs = search needs
 
--- src/reporting.rt:49:5
 tell-requires : tie.Need-tell-requires
 tell-requires c κs = search (report-fits, needs)
 
--- src/reporting.rt:15:1
 same-length-3 : tie.Need-same-length-3
 same-length-3 c = search needs
 
--- src/reporting.rt:15:1
 same-length-4 : tie.Need-same-length-4
 same-length-4 c = search needs
 
--- src/reporting.rt:15:1
 returns-2 : tie.Need-returns-2
 returns-2 c = search (report-done, needs)
 

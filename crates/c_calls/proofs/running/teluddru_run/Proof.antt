@@ -14,67 +14,51 @@ use Rattle.operation.proofs.numbers.scoping_of.Reads as scoping-of-reads
 use Rattle.planner.proofs.buffer.clear.Reads as clear-reads
 use Rattle.run.proofs.run.Reads as run-reads
 
--- src/running.rt:34:9
 scope-of-requires : tie.Need-scope-of-requires
 scope-of-requires c κs = search needs
 
--- src/running.rt:35:27
 pattern-numbers-requires : tie.Need-pattern-numbers-requires
 pattern-numbers-requires c κs = search needs
 
--- src/running.rt:35:9
 well-given-requires : tie.Need-well-given-requires
 well-given-requires c κs = search needs
 
--- src/running.rt:36:9
 clear-requires : tie.Need-clear-requires
 clear-requires c κs = search needs
 
--- src/running.rt:37:9
 refuse-requires : tie.Need-refuse-requires
 refuse-requires c κs = search needs
 
--- src/running.rt:37:9
 same-length : tie.Need-same-length
 same-length c = search needs
 
--- src/running.rt:37:9
 same-length-2 : tie.Need-same-length-2
 same-length-2 c = search needs
 
--- src/running.rt:37:9
 returns : tie.Need-returns
 returns c = search (run-refused, needs)
 
--- src/running.rt:47:9
 scoping-of-requires : tie.Need-scoping-of-requires
 scoping-of-requires c κs = search needs
 
--- src/running.rt:39:9
 run-requires : tie.Need-run-requires
 run-requires c κs = search needs
 
--- src/running.rt:53:18
 run-row-requires : tie.Need-run-row-requires
 run-row-requires c κs = search needs
 
--- src/running.rt:53:5
 tell-requires : tie.Need-tell-requires
 tell-requires c κs = search (run-fits, needs)
 
--- src/running.rt:15:1
 same-length-3 : tie.Need-same-length-3
 same-length-3 c = search needs
 
--- src/running.rt:15:1
 same-length-4 : tie.Need-same-length-4
 same-length-4 c = search needs
 
--- src/running.rt:15:1
 same-length-5 : tie.Need-same-length-5
 same-length-5 c = search needs
 
--- src/running.rt:15:1
 returns-2 : tie.Need-returns-2
 returns-2 c = search (run-done, needs)
 

@@ -7,223 +7,168 @@ use Rattle.operation.proofs.row.row_of.Lts as lts
 use Rattle.operation.proofs.row.row_from.Reads as row-from-reads
 use Rattle.table.proofs.refusal_number.Reads as refusal-number-reads
 
--- src/row.rt:34:13
 enum-known-answer : tie.Need-enum-known-answer
 enum-known-answer c = search needs
 
--- src/row.rt:37:26
 cast-row-from : tie.Need-cast-row-from
 cast-row-from c = search needs
 
--- src/row.rt:37:39
 cast-row-from-2 : tie.Need-cast-row-from-2
 cast-row-from-2 c = search needs
 
--- src/row.rt:37:14
 row-from-requires : tie.Need-row-from-requires
 row-from-requires c κs = search needs
 
--- src/row.rt:38:34
 enum-known-answer-2 : tie.Need-enum-known-answer-2
 enum-known-answer-2 c = search needs
 
--- src/row.rt:38:55
 refusal-number-requires : tie.Need-refusal-number-requires
 refusal-number-requires c κs = search needs
 
--- src/row.rt:38:55
 cast-row-from-3 : tie.Need-cast-row-from-3
 cast-row-from-3 c = search needs
 
--- src/row.rt:38:46
 row-from-requires-2 : tie.Need-row-from-requires-2
 row-from-requires-2 c κs = search needs
 
--- src/row.rt:39:36
 enum-told : tie.Need-enum-told
 enum-told c = search needs
 
--- src/row.rt:39:36
 row-from-requires-3 : tie.Need-row-from-requires-3
 row-from-requires-3 c κs = search needs
 
--- src/row.rt:40:36
 enum-known-answer-3 : tie.Need-enum-known-answer-3
 enum-known-answer-3 c = search needs
 
--- src/row.rt:40:48
 row-from-requires-4 : tie.Need-row-from-requires-4
 row-from-requires-4 c κs = search needs
 
--- src/row.rt:41:55
 enum-known-answer-4 : tie.Need-enum-known-answer-4
 enum-known-answer-4 c = search needs
 
--- src/row.rt:41:78
 cast-row-from-4 : tie.Need-cast-row-from-4
 cast-row-from-4 c = search needs
 
--- src/row.rt:41:65
 row-from-requires-5 : tie.Need-row-from-requires-5
 row-from-requires-5 c κs = search needs
 
--- src/row.rt:42:41
 enum-known-answer-5 : tie.Need-enum-known-answer-5
 enum-known-answer-5 c = search needs
 
--- src/row.rt:43:26
 cast-row-from-5 : tie.Need-cast-row-from-5
 cast-row-from-5 c = search needs
 
--- src/row.rt:43:39
 cast-row-from-6 : tie.Need-cast-row-from-6
 cast-row-from-6 c = search needs
 
--- src/row.rt:43:52
 cast-row-from-7 : tie.Need-cast-row-from-7
 cast-row-from-7 c = search needs
 
--- src/row.rt:43:13
 row-from-requires-6 : tie.Need-row-from-requires-6
 row-from-requires-6 c κs = search needs
 
--- src/row.rt:46:13
 enum-known-answer-6 : tie.Need-enum-known-answer-6
 enum-known-answer-6 c = search needs
 
--- src/row.rt:49:27
 cast-row-from-8 : tie.Need-cast-row-from-8
 cast-row-from-8 c = search needs
 
--- src/row.rt:49:41
 cast-row-from-9 : tie.Need-cast-row-from-9
 cast-row-from-9 c = search needs
 
--- src/row.rt:49:58
 cast-row-from-10 : tie.Need-cast-row-from-10
 cast-row-from-10 c = search needs
 
--- src/row.rt:49:14
 row-from-requires-7 : tie.Need-row-from-requires-7
 row-from-requires-7 c κs = search needs
 
--- src/row.rt:50:49
 enum-known-answer-7 : tie.Need-enum-known-answer-7
 enum-known-answer-7 c = search needs
 
--- src/row.rt:51:26
 cast-row-from-11 : tie.Need-cast-row-from-11
 cast-row-from-11 c = search needs
 
--- src/row.rt:51:40
 cast-row-from-12 : tie.Need-cast-row-from-12
 cast-row-from-12 c = search needs
 
--- src/row.rt:51:13
 row-from-requires-8 : tie.Need-row-from-requires-8
 row-from-requires-8 c κs = search needs
 
--- src/row.rt:53:48
 enum-known-answer-8 : tie.Need-enum-known-answer-8
 enum-known-answer-8 c = search needs
 
--- src/row.rt:54:26
 cast-row-from-13 : tie.Need-cast-row-from-13
 cast-row-from-13 c = search needs
 
--- src/row.rt:54:39
 cast-row-from-14 : tie.Need-cast-row-from-14
 cast-row-from-14 c = search needs
 
--- src/row.rt:54:52
 cast-row-from-15 : tie.Need-cast-row-from-15
 cast-row-from-15 c = search needs
 
--- src/row.rt:54:13
 row-from-requires-9 : tie.Need-row-from-requires-9
 row-from-requires-9 c κs = search needs
 
--- src/row.rt:56:41
 enum-known-answer-9 : tie.Need-enum-known-answer-9
 enum-known-answer-9 c = search needs
 
--- src/row.rt:56:63
 cast-row-from-16 : tie.Need-cast-row-from-16
 cast-row-from-16 c = search needs
 
--- src/row.rt:56:50
 row-from-requires-10 : tie.Need-row-from-requires-10
 row-from-requires-10 c κs = search needs
 
--- src/row.rt:57:46
 enum-known-answer-10 : tie.Need-enum-known-answer-10
 enum-known-answer-10 c = search needs
 
--- src/row.rt:57:69
 cast-row-from-17 : tie.Need-cast-row-from-17
 cast-row-from-17 c = search needs
 
--- src/row.rt:57:56
 row-from-requires-11 : tie.Need-row-from-requires-11
 row-from-requires-11 c κs = search needs
 
--- src/row.rt:58:57
 enum-known-answer-11 : tie.Need-enum-known-answer-11
 enum-known-answer-11 c = search needs
 
--- src/row.rt:58:80
 cast-row-from-18 : tie.Need-cast-row-from-18
 cast-row-from-18 c = search needs
 
--- src/row.rt:58:67
 row-from-requires-12 : tie.Need-row-from-requires-12
 row-from-requires-12 c κs = search needs
 
--- src/row.rt:29:1
 returns : tie.Need-returns
 returns c = search (row-is, needs)
 
--- src/row.rt:29:1
 returns-2 : tie.Need-returns-2
 returns-2 c = search (row-table, needs)
 
--- src/row.rt:29:1
 returns-3 : tie.Need-returns-3
 returns-3 c = search (row-is, needs)
 
--- src/row.rt:29:1
 returns-4 : tie.Need-returns-4
 returns-4 c = search (row-is, needs)
 
--- src/row.rt:29:1
 returns-5 : tie.Need-returns-5
 returns-5 c = search (row-is, needs)
 
--- src/row.rt:29:1
 returns-6 : tie.Need-returns-6
 returns-6 c = search (row-is, needs)
 
--- src/row.rt:29:1
 returns-7 : tie.Need-returns-7
 returns-7 c = search (row-is, needs)
 
--- src/row.rt:29:1
 returns-8 : tie.Need-returns-8
 returns-8 c = search (row-is, needs)
 
--- src/row.rt:29:1
 returns-9 : tie.Need-returns-9
 returns-9 c = search (row-is, needs)
 
--- src/row.rt:29:1
 returns-10 : tie.Need-returns-10
 returns-10 c = search (row-is, needs)
 
--- src/row.rt:29:1
 returns-11 : tie.Need-returns-11
 returns-11 c = search (row-is, needs)
 
--- src/row.rt:29:1
 returns-12 : tie.Need-returns-12
 returns-12 c = search (row-is, needs)
 
