@@ -60,6 +60,9 @@ static int plan_rule(void) {
         const uint32_t *entry = plan + TELUDDRU_ENTRY_WORDS * i;
         printf("%s ", kinds[entry[0]]);
         print_node(entry[1]);
+        if (entry[4] != 0) {
+            printf(", item %u", (unsigned)entry[4]);
+        }
         printf("\n");
     }
     return 0;

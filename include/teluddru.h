@@ -24,9 +24,9 @@ extern "C" {
 /* CHANGELOG.md says what a version changed. */
 #define TELUDDRU_VERSION "0.1.0"
 
-/* Sizes that always suffice: no well-formed sheet is longer than the first, no listing longer than the second (a line and 1,536 entries of 25 bytes). */
+/* Sizes that always suffice: no well-formed sheet is longer than the first, no listing longer than the second (a line of 25 bytes and 1,536 entries of 31). */
 #define TELUDDRU_SHEET_BYTES 51914
-#define TELUDDRU_LISTING_BYTES 38425
+#define TELUDDRU_LISTING_BYTES 47641
 #define TELUDDRU_PLAN_ENTRIES 1536
 
 /*
@@ -39,7 +39,7 @@ extern "C" {
 #define TELUDDRU_NODE_WORDS 5
 #define TELUDDRU_NUMBER_WORDS 2
 #define TELUDDRU_NAME_WORDS 2
-#define TELUDDRU_ENTRY_WORDS 4
+#define TELUDDRU_ENTRY_WORDS 5
 #define TELUDDRU_ANSWER_WORDS 4
 
 /* Limits of the tables. */
@@ -142,7 +142,10 @@ enum teluddru_side {
     TELUDDRU_SIDE_BOTH = 3
 };
 
-/* The kind of an entry, its first word. Then come node, number of children, key node or 0. */
+/*
+ * The kind of an entry, its first word. Then come node, number of children, key node or 0, and the written
+ * position under its parent: from 1, fields that a repeated key replaced counted, below a pair 1; 0 without a parent.
+ */
 enum teluddru_entry {
     TELUDDRU_BIND = 1,
     TELUDDRU_IGNORE = 2,

@@ -6,6 +6,8 @@ from dataclasses import dataclass
 from enum import IntEnum
 
 COLUMN = 6
+HEAD_COLUMNS = 4
+ENTRY_COLUMNS = 5
 NUMBER = re.compile(rb" *[0-9]+")
 
 
@@ -25,12 +27,13 @@ class EntryKind(IntEnum):
 
 @dataclass(frozen=True)
 class Entry:
-    """A plan entry; depth is the number of entries above it."""
+    """A plan entry: where it was written under its parent, or 0; how many entries are above it."""
 
     kind: EntryKind
     node: int
     children: int
     key: int
+    position: int
     depth: int
 
 
@@ -53,7 +56,7 @@ def read_listing(listing: bytes, nodes: int) -> Plan | Refusal:
     lines = listing.split(b"\n")
     if len(lines) < 2 or lines.pop() != b"":
         raise ListingError("it has no line, or its last line has no end")
-    number, *rest = read_line(lines[0])
+    number, *rest = read_line(lines[0], HEAD_COLUMNS)
     if number == 0:
         form, side, entries = rest
         if entries != len(lines) - 1:
@@ -65,22 +68,24 @@ def read_listing(listing: bytes, nodes: int) -> Plan | Refusal:
     return Refusal(number, place, (counts[0], counts[1]))
 
 
-def read_line(line: bytes) -> list[int]:
-    columns = [line[place : place + COLUMN] for place in range(0, 4 * COLUMN, COLUMN)]
-    if len(line) != 4 * COLUMN or not all(map(NUMBER.fullmatch, columns)):
-        raise ListingError(f"no four columns of six: {line.decode(errors='replace')!r}")
+def read_line(line: bytes, count: int) -> list[int]:
+    columns = [line[place : place + COLUMN] for place in range(0, count * COLUMN, COLUMN)]
+    if len(line) != count * COLUMN or not all(map(NUMBER.fullmatch, columns)):
+        raise ListingError(f"no {count} columns of six: {line.decode(errors='replace')!r}")
     return [int(column) for column in columns]
 
 
 def read_entries(lines: list[bytes], nodes: int) -> Iterator[Entry]:
     awaited: list[int] = []
     for line in lines:
-        kind, node, children, key = read_line(line)
+        kind, node, children, key, position = read_line(line, ENTRY_COLUMNS)
         if not 1 <= kind <= len(EntryKind) or not 1 <= node <= nodes or key > nodes:
             raise ListingError(f"no entry of this rule: {line.decode()!r}")
         while awaited and awaited[-1] == 0:
             awaited.pop()
-        yield Entry(EntryKind(kind), node, children, key, len(awaited))
+        if (position > 0) != (len(awaited) > 0):
+            raise ListingError(f"a position is for entries below others: {line.decode()!r}")
+        yield Entry(EntryKind(kind), node, children, key, position, len(awaited))
         if awaited:
             awaited[-1] -= 1
         awaited.append(children)

@@ -54,10 +54,10 @@ def form_in_words(sheet: Sheet, plan: Plan) -> str:
 
 
 def role_in_words(sheet: Sheet, plan: Plan, entry: Entry, roots_met: int) -> str:
-    """What an entry is to the one above it: a field's key, or key and value of some-in."""
+    """What an entry is to the one above it: a field as written; or key or value of some-in."""
     if entry.key:
         computed = "" if sheet.node(entry.key).kind in LITERALS else "computed key "
-        return f"{computed}{node_text(sheet, entry.key)}: "
+        return f"field {entry.position}, {computed}{node_text(sheet, entry.key)}: "
     if sheet.operation is Operation.SOME_IN and (plan.form, plan.side) == WITH_KEY:
         if entry.depth == 0:
             return "value: " if roots_met else "key: "

@@ -2,12 +2,12 @@
 //! planning alone.
 
 use crate::inputs::Input;
-use oracle::answer::{answer, ready, Ready, CAPACITY};
+use oracle::answer::{answer, ready, Ready, CAPACITY, HEAD, LINE};
 use oracle::subject::LINKED;
 use std::hint::black_box;
 
 /// The longest listing: a line and as many entries as the plan buffer has space for.
-const LISTING_BYTES: usize = 25 * (CAPACITY + 1);
+const LISTING_BYTES: usize = HEAD + LINE * CAPACITY;
 
 #[derive(Clone, Copy, PartialEq)]
 pub enum Side {

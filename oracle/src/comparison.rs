@@ -1,13 +1,13 @@
 //! Holds the program under test against the oracle, and counts.
 
-use crate::answer::{answer, CAPACITY};
+use crate::answer::{answer, CAPACITY, HEAD, LINE};
 use crate::subject::PlanSheet;
 use crate::tally::Tally;
 use std::path::Path;
 use std::{fmt, fs, io};
 
 /// The longest listing: a head and as many entries as the plan buffer has space for.
-const LONGEST: usize = 25 * (CAPACITY + 1);
+const LONGEST: usize = HEAD + LINE * CAPACITY;
 const GUARD: usize = 16;
 const UNWRITTEN: u8 = 0xa5;
 

@@ -29,7 +29,7 @@ def words(text: str, lines: str, operation: Operation | None = None) -> list[str
 class Plans(unittest.TestCase):
     def test_flush_sides(self) -> None:
         self.assertEqual(
-            words("[w, w] = [18, 16]", "0 2 0 3, 5 3 2 0, 1 1 0 0, 3 2 0 0"),
+            words("[w, w] = [18, 16]", "0 2 0 3, 5 3 2 0 0, 1 1 0 0 1, 3 2 0 0 2"),
             [
                 "[w, w] = [18, 16]",
                 "planned as bind left: the left side is matched with the value of [18, 16]",
@@ -42,7 +42,7 @@ class Plans(unittest.TestCase):
 
     def test_pairs(self) -> None:
         self.assertEqual(
-            words("[x, 1] = [1, x]", "0 4 0 4, 7 4 1 0, 1 1 0 0, 7 5 1 0, 3 2 0 0")[1:],
+            words("[x, 1] = [1, x]", "0 4 0 4, 7 4 1 0 0, 1 1 0 0 1, 7 5 1 0 0, 3 2 0 0 1")[1:],
             [
                 "planned as pairs: both sides bind, and are matched part by part in this order",
                 "column  plan",
@@ -56,24 +56,24 @@ class Plans(unittest.TestCase):
     def test_objects(self) -> None:
         text = '{k: [_], "b": 18, "a": x, "b": f(y)}'
         self.assertEqual(
-            words(text, "0 0 0 5, 6 10 3 0, 1 7 0 6, 3 9 0 8, 5 3 1 1, 2 2 0 0")[1:],
+            words(text, "0 0 0 5, 6 10 3 0 0, 1 7 0 6 3, 3 9 0 8 4, 5 3 1 1 1, 2 2 0 0 1")[1:],
             [
                 "planned as a pattern",
                 "column  plan",
                 f"     1  object of 3, 4 written (a repeated key keeps its last field) {text}",
-                '    24    "a": bind x',
-                '    32    "b": compare f(y)',
-                "     5    computed key k: array of 1 [_]",
+                '    24    field 3, "a": bind x',
+                '    32    field 4, "b": compare f(y)',
+                "     5    field 1, computed key k: array of 1 [_]",
                 "     6      ignore _",
             ],
         )
 
     def test_literals(self) -> None:
-        self.assertEqual(words("18", "0 0 0 1, 4 1 0 0")[3], "     1  compare literal 18")
+        self.assertEqual(words("18", "0 0 0 1, 4 1 0 0 0")[3], "     1  compare literal 18")
 
     def test_some_in(self) -> None:
         self.assertEqual(
-            words("some k, [v] in xs", "0 1 0 3, 1 1 0 0, 5 3 1 0, 1 2 0 0")[1:],
+            words("some k, [v] in xs", "0 1 0 3, 1 1 0 0 0, 5 3 1 0 0, 1 2 0 0 1")[1:],
             [
                 "planned as some-in with key: key and value are matched with those of xs",
                 "column  plan",
@@ -83,7 +83,7 @@ class Plans(unittest.TestCase):
             ],
         )
         self.assertEqual(
-            words("some v in xs", "0 0 0 1, 1 1 0 0")[1:],
+            words("some v in xs", "0 0 0 1, 1 1 0 0 0")[1:],
             [
                 "planned as some-in: the pattern is matched with the items of xs",
                 "column  plan",
@@ -93,8 +93,8 @@ class Plans(unittest.TestCase):
 
     def test_forms(self) -> None:
         forms = {
-            ("x := 1", "0 1 0 1, 1 1 0 0"): "`:=`",
-            ("1 = x", "0 3 0 1, 1 2 0 0"): "bind right",
+            ("x := 1", "0 1 0 1, 1 1 0 0 0"): "`:=`",
+            ("1 = x", "0 3 0 1, 1 2 0 0 0"): "bind right",
             ("1 = 1", "0 5 0 0"): "equality check",
             ("_ = y", "0 6 1 0"): "wildcard left",
             ("x = _", "0 6 2 0"): "wildcard right",
@@ -103,13 +103,14 @@ class Plans(unittest.TestCase):
         for (text, lines), form in forms.items():
             with self.subTest(text=text):
                 self.assertTrue(words(text, lines)[1].startswith(f"planned as {form}: "))
-        self.assertEqual(words("x", "0 0 0 1, 1 1 0 0", Operation.INDEX)[1], "planned as an index")
-        parameter = words("x", "0 0 0 1, 1 1 0 0", Operation.PARAMETER)
+        index = words("x", "0 0 0 1, 1 1 0 0 0", Operation.INDEX)
+        self.assertEqual(index[1], "planned as an index")
+        parameter = words("x", "0 0 0 1, 1 1 0 0 0", Operation.PARAMETER)
         self.assertEqual(parameter[1], "planned as a parameter")
 
     def test_long_text_is_cut(self) -> None:
         text = f'"{"a" * 100}"'
-        line = words(text, "0 0 0 1, 4 1 0 0")[3]
+        line = words(text, "0 0 0 1, 4 1 0 0 0")[3]
         self.assertEqual(line, '     1  compare literal "' + "a" * 56 + "...")
 
 
@@ -160,9 +161,10 @@ class Refusals(unittest.TestCase):
 
 class Listings(unittest.TestCase):
     def test_example_of_document_01(self) -> None:
-        plan = read_listing(listing("0 0 0 3, 5 3 2 0, 1 1 0 0, 3 2 0 0"), 3)
+        plan = read_listing(listing("0 0 0 3, 5 3 2 0 0, 1 1 0 0 1, 3 2 0 0 2"), 3)
         self.assertIsInstance(plan, Plan)
         self.assertEqual([entry.depth for entry in plan.entries], [0, 1, 1])
+        self.assertEqual([entry.position for entry in plan.entries], [0, 1, 2])
 
     def test_wide_counts(self) -> None:
         self.assertEqual(read_listing(listing("6 0 123456 0"), 3), Refusal(6, 0, (123456, 0)))
@@ -175,14 +177,18 @@ class Listings(unittest.TestCase):
             b"0     0     0     0     \n",
             listing("0 0 0"),
             listing("0 0 0 1"),
-            listing("0 0 0 0, 1 1 0 0"),
-            listing("0 0 0 1, 8 1 0 0"),
-            listing("0 0 0 1, 1 4 0 0"),
-            listing("0 0 0 1, 1 0 0 0"),
-            listing("0 0 0 1, 1 1 0 4"),
-            listing("0 0 0 1, 5 3 1 0"),
+            listing("0 0 0 0, 1 1 0 0 0"),
+            listing("0 0 0 0 0"),
+            listing("0 0 0 1, 1 1 0 0"),
+            listing("0 0 0 1, 1 1 0 0 1"),
+            listing("0 0 0 2, 5 3 1 0 0, 1 1 0 0 0"),
+            listing("0 0 0 1, 8 1 0 0 0"),
+            listing("0 0 0 1, 1 4 0 0 0"),
+            listing("0 0 0 1, 1 0 0 0 0"),
+            listing("0 0 0 1, 1 1 0 4 0"),
+            listing("0 0 0 1, 5 3 1 0 0"),
             listing("11 4 0 0"),
-            listing("11 1 0 0, 1 1 0 0"),
+            listing("11 1 0 0, 1 1 0 0 0"),
         ]
         for text in broken:
             with self.subTest(text=text), self.assertRaises(ListingError):

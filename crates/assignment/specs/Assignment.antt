@@ -12,7 +12,7 @@ use Rattle.table.specs.Decode.{expr}
 use Rattle.base.specs.Refusal.{colonEqualsRequiresBindableLeft, incompatibleDestructuringPatterns}
 use Rattle.assignment.specs.declared.AssignOp.{AssignOp}
 use Rattle.assignment.specs.declared.AssignOp.the-variants.{ColEq, Eq}
-use Rattle.planner.specs.Layout.{Entry, entries, bindsAny}
+use Rattle.planner.specs.Layout.{Entry, top, entries, bindsAny}
 use Rattle.planner.specs.Operations.{Outcome, planned, require, checkedFirst, planOf, unlessDefined}
 use Rattle.checks.specs.Structure.{structure}
 use Rattle.checks.specs.Refusals.{unlessMismatch}
@@ -49,7 +49,7 @@ colonEqualsFrom T s left right es =
     (unlessDefined (firstSameScope (T .nodes) s es) (bindSide T 1 left right es))
 
 abbrev pub colonEqualsPlanned : Tables → Scope → ℕ → ℕ → Outcome
-colonEqualsPlanned T s left right = colonEqualsFrom T s left right (entries (planOf T s AllowShadowing left) 0)
+colonEqualsPlanned T s left right = colonEqualsFrom T s left right (entries (planOf T s AllowShadowing left) top)
 
 -- `=`
 abbrev pub isUnderscore : Expr → Bool
@@ -83,7 +83,7 @@ equalsFrom T s left right ls rs = bySides (bindsAny ls) (bindsAny rs) T s left r
 
 -- one side's plan never sees the other's names
 abbrev pub equalsSides : Tables → Scope → ℕ → ℕ → Outcome
-equalsSides T s left right = equalsFrom T s left right (entries (planOf T s RespectParent left) 0) (entries (planOf T s RespectParent right) 0)
+equalsSides T s left right = equalsFrom T s left right (entries (planOf T s RespectParent left) top) (entries (planOf T s RespectParent right) top)
 
 abbrev pub sideOf : Tables → ℕ → ℕ → ℕ
 sideOf T left right = wildcardSide (isUnderscore (expr T left)) (isUnderscore (expr T right))

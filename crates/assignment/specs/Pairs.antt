@@ -10,7 +10,7 @@ use Rattle.literal.specs.Literal.{Literal}
 use Rattle.table.specs.Expr.{Expr, literal, name, wildcard, array, set, object, other, Exprs, none, item, Fields, done, field, nodeOf, count, countFields}
 use Rattle.base.specs.Refusal.{Refusal, arraySizeMismatch, objectFieldCountMismatch, objectKeyNotFound, incompatibleDestructuringPatterns, requireOr}
 use Rattle.planner.specs.Plan.{DestructuringPlan, equalityExpr, plan, after}
-use Rattle.planner.specs.Layout.{Entry, entry, entries, introducesBinding, literalKey, noFields}
+use Rattle.planner.specs.Layout.{Entry, below, top, entry, entries, introducesBinding, literalKey, noFields}
 use Rattle.planner.specs.Operations.{Outcome, refused, planned}
 use Rattle.planner.specs.Held.{isEmpty, heldUnder, valueOrder}
 
@@ -24,7 +24,7 @@ pair e p = record { value = e; pattern = p }
 
 -- A pair's node is its value side, its one child the plan.
 abbrev pub pairEntries : Pair → List Entry
-pairEntries p = entry 7 (nodeOf (p .value)) 1 0 ∷ entries (p .pattern) 0
+pairEntries p = entry 7 (nodeOf (p .value)) 1 top ∷ entries (p .pattern) (below 0 1)
 
 unfoldable pub pairsEntries : List Pair → List Entry
 pairsEntries [] = []

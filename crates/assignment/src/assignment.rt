@@ -21,6 +21,8 @@ use crate::preview::preview_sides;
 use checks::LiteralStructureCheck;
 use checks::inner::check_literal_structure;
 use planner::PlanAnswer;
+use planner::buffer::ENTRY_WORDS;
+use planner::buffer::PATTERN_WORDS;
 use planner::buffer::clear;
 use planner::context::name_states;
 use planner::inner::destructuring::plan_pattern;
@@ -34,6 +36,9 @@ use table::reading::first_of;
 use table::reading::is_node;
 use table::reading::kind_of;
 use table::reading::name_class;
+
+// The small scratch: an entry for each of 64 nodes.
+const SMALL_WORDS: usize = 64 * ENTRY_WORDS;
 
 // An array against an object (ensure_structural_compatibility).
 fn structurally_incompatible(nodes: &[u32], a: u32, b: u32) -> bool
@@ -268,6 +273,7 @@ fn bind_right(
         text,
         states,
         right,
+        0,
         binders,
         scratch,
     );
@@ -316,6 +322,7 @@ fn equals_in(
         &states,
         left,
         right,
+        0,
         &mut binders,
         scratch,
     );
@@ -473,7 +480,7 @@ fn plan_assignment(
     ensures { λ r. ⌜ AnsweredIn plan (byOperator op (lent nodes children numbers names strings text) scope left right) r ⌝ }
 {
     if nodes.len() <= 320 {
-        let mut scratch = [0u32; 256];
+        let mut scratch = [0u32; SMALL_WORDS];
         return plan_assignment_in(
             nodes,
             children,
@@ -489,7 +496,7 @@ fn plan_assignment(
             plan,
         );
     }
-    let mut scratch = [0u32; 2048];
+    let mut scratch = [0u32; PATTERN_WORDS];
     plan_assignment_in(
         nodes,
         children,

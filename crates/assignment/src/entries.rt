@@ -6,6 +6,7 @@ ghost use Rattle.planner.specs.Operations.{planned, AnsweredIn};
 ghost use Rattle.assignment.specs.code.Previewing.{ReadAsks};
 ghost use Rattle.assignment.specs.Assignment.{boundHere, firstSameScope};
 use planner::PlanAnswer;
+use planner::buffer::ENTRY_WORDS;
 use planner::buffer::close;
 use planner::buffer::copy_entries;
 use planner::entry_kind;
@@ -35,8 +36,8 @@ pub(crate) fn first_same_scope(nodes: &[u32], scope: Scope, scratch: &[u32], cou
 {
     let mut i: usize = 0;
     while i < count {
-        let node = scratch[i * 4 + 1];
-        if bound_here(nodes, scope, scratch[i * 4], node) {
+        let node = scratch[i * ENTRY_WORDS + 1];
+        if bound_here(nodes, scope, scratch[i * ENTRY_WORDS], node) {
             return node;
         }
         i += 1;

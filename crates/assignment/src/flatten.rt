@@ -39,8 +39,8 @@ fn compare_sides(plan: &mut [u32], at: usize, left: u32, right: u32) -> Flattene
     requires { ⌜ at ≤ 2 ^ 32 ⌝ }
     ensures { λ r. ⌜ Compared left right (old plan) at (new plan) r ⌝ }
 {
-    put_entry(plan, at, entry_kind::PAIR, right, 1, 0);
-    put_entry(plan, at + 1, entry_kind::COMPARE_EXPRESSION, left, 0, 0);
+    put_entry(plan, at, entry_kind::PAIR, right, 1, 0, 0);
+    put_entry(plan, at + 1, entry_kind::COMPARE_EXPRESSION, left, 0, 0, 1);
     Flattened::Next { at: at + 2 }
 }
 
@@ -57,7 +57,7 @@ fn bind_planned(
     requires { ⌜ ReadAsks (now scratch) count × (at ≤ 2 ^ 32) ⌝ }
     ensures { λ r. ⌜ Bound value (readEntries (old scratch) 0 count) (old states) (old binders) (old plan) at (new states) (new plan) r ⌝ }
 {
-    put_entry(plan, at, entry_kind::PAIR, value, 1, 0);
+    put_entry(plan, at, entry_kind::PAIR, value, 1, 0, 0);
     copy_entries(plan, at + 1, scratch, count);
     learn_names(states, binders);
     Flattened::Next { at: at + 1 + count }
@@ -91,6 +91,7 @@ fn bind_unplanned(
         text,
         states,
         pattern,
+        1,
         binders,
         scratch,
     );

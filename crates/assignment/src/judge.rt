@@ -147,6 +147,7 @@ pub(crate) fn judge(
         states,
         left,
         right,
+        1,
         binders,
         scratch,
     );

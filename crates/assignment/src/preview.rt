@@ -6,6 +6,7 @@ ghost use mathlib.Core.Path.{_≡_};
 ghost use Rattle.planner.specs.Layout.{bindsAny};
 ghost use Rattle.planner.specs.Entries.{readEntries};
 ghost use Rattle.assignment.specs.code.Previewing.{PreviewAsksIn, PreviewedIn, LearntAt, Learnt, SidesAsksIn, SidesToldIn};
+use planner::buffer::ENTRY_WORDS;
 use planner::buffer::clear;
 use planner::entry_kind;
 use planner::inner::destructuring::create_destructuring_plan_with_tracking;
@@ -29,10 +30,10 @@ pub(crate) fn introduces_binding(scratch: &[u32], count: usize) -> bool
 {
     let mut i: usize = 0;
     while i < count {
-        if scratch.len() / 4 < i {
+        if scratch.len() / ENTRY_WORDS < i {
             return false;
         }
-        let at = i * 4;
+        let at = i * ENTRY_WORDS;
         if scratch.len() <= at {
             return false;
         }
@@ -48,7 +49,7 @@ pub(crate) fn introduces_binding(scratch: &[u32], count: usize) -> bool
     false
 }
 
-// The plan of a side by the states alone, in the scratch.
+// The plan of a side by the states alone, in the scratch: at position 1 below a pair, else at 0.
 pub(crate) fn preview_binding_plan(
     nodes: &[u32],
     children: &[u32],
@@ -58,11 +59,12 @@ pub(crate) fn preview_binding_plan(
     text: &[u8],
     states: &[u8; 128],
     node: u32,
+    position: u32,
     binders: &mut [u32; 128],
     scratch: &mut [u32],
 ) -> Preview
     requires { ⌜ PreviewAsksIn scratch (given nodes children numbers names strings text) (now states) node ⌝ }
-    ensures { λ r. ⌜ PreviewedIn scratch binders (lent nodes children numbers names strings text) (old states) node (r .count) (r .binds) ⌝ }
+    ensures { λ r. ⌜ PreviewedIn scratch binders (lent nodes children numbers names strings text) (old states) node position (r .count) (r .binds) ⌝ }
 {
     clear(binders);
     let planned = create_destructuring_plan_with_tracking(
@@ -74,6 +76,7 @@ pub(crate) fn preview_binding_plan(
         text,
         states,
         node,
+        position,
         binders,
         scratch,
         0,
@@ -94,11 +97,12 @@ pub(crate) fn preview_sides(
     states: &[u8; 128],
     left: u32,
     right: u32,
+    position: u32,
     binders: &mut [u32; 128],
     scratch: &mut [u32],
 ) -> Sides
     requires { ⌜ SidesAsksIn scratch (given nodes children numbers names strings text) (now states) left right ⌝ }
-    ensures { λ r. ⌜ SidesToldIn scratch binders (lent nodes children numbers names strings text) (old states) left right (r .count) (r .left) (r .right) ⌝ }
+    ensures { λ r. ⌜ SidesToldIn scratch binders states (lent nodes children numbers names strings text) left right position (r .count) (r .left) (r .right) ⌝ }
 {
     let other = preview_binding_plan(
         nodes,
@@ -109,6 +113,7 @@ pub(crate) fn preview_sides(
         text,
         states,
         right,
+        position,
         binders,
         scratch,
     );
@@ -121,6 +126,7 @@ pub(crate) fn preview_sides(
         text,
         states,
         left,
+        position,
         binders,
         scratch,
     );

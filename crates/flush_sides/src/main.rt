@@ -4,6 +4,7 @@ mod calls;
 use libc::STDOUT_FILENO;
 use operation::Operation;
 use planner::PlanAnswer;
+use planner::buffer::ENTRY_WORDS;
 use report::ReportAnswer;
 use run::RunAnswer;
 use scope::Scope;
@@ -129,12 +130,12 @@ fn print_word(word: u32) {
     io::print_decimal(STDOUT_FILENO, word as u64);
 }
 
-// Four words an entry, one entry a line.
+// One entry a line.
 fn print_entries(plan: &[u32]) {
     let mut i: usize = 0;
     while i < plan.len() {
         print_word(plan[i]);
-        if i % 4 == 3 {
+        if i % ENTRY_WORDS == ENTRY_WORDS - 1 {
             print(b"\n");
         }
         i += 1;
@@ -142,7 +143,7 @@ fn print_entries(plan: &[u32]) {
 }
 
 fn print_plan() {
-    let mut plan = [0u32; 12];
+    let mut plan = [0u32; 3 * ENTRY_WORDS];
     match plan_rule(&mut plan) {
         PlanAnswer::Planned {
             form,
@@ -168,7 +169,7 @@ fn print_report() {
 // The answer, and the node of the value of w, or 0.
 fn print_run(value: u32) {
     let mut values = [0u32; 1];
-    let mut plan = [0u32; 12];
+    let mut plan = [0u32; 3 * ENTRY_WORDS];
     match run_on(value, &mut values, &mut plan) {
         RunAnswer::Match => print(b"match, w"),
         RunAnswer::NoMatch => print(b"no match, w"),

@@ -6,5 +6,6 @@ pub mod Lists
 pub mod Entries
 pub mod Parts
 pub mod EntryLists
-pub mod Shown
-pub mod Placing
+pub mod Standing
+pub mod Carried
+pub mod reading

@@ -1,7 +1,7 @@
 -- The nodes of a simple pattern: what they are, what is below them, how deep they go.
 use Prim.Native.Nat.{ℕ, zero, suc, _+_, _-_, _*_, _≤_, _<_, max}
 use mathlib.Core.Path.{_≡_, refl}
-use mathlib.Core.List.{List, []}
+use mathlib.Core.List.{List}
 use mathlib.Core.Bool.{Bool, true, false, cond, false≢true}
 use native.Mathlib.Omega.{arith}
 use native.Mathlib.Nat.{le-max-left, le-max-right}
@@ -12,14 +12,11 @@ use Rattle.table.specs.Tables.{Tables, kindOf, firstOf, countOf, childAt}
 use Rattle.table.specs.Decode.{expr, items, fields, isWildcard, fieldsOf}
 use Rattle.table.specs.Expr as Expr
 use Rattle.table.specs.Expr.{Expr, literal, name, wildcard, array, object, other, depth, depthAll, depthFields}
-use Rattle.base.specs.Lists.{elem}
 use Rattle.table.specs.code.Sound.{Node, WellFormed}
-use Rattle.table.proofs.trees.Lists.{elem-head, elem-tail, elem-left, elem-right}
 use Rattle.table.proofs.trees.Trees.{expr-name, expr-array, expr-object}
 use Rattle.planner.specs.code.Passes.{valueNode}
 use Rattle.planner.specs.Simple.{admitted, simple}
 use Rattle.planner.proofs.destructuring.NodeKinds.{Plain, plain-literal, plain-set, plain-other, plain-kind}
-use Rattle.matching.specs.code.Post.{visited, visitedAll, visitedFields}
 
 pub data PatternShape (T : Tables) (n : ℕ) : Expr → Type 0 where
   pattern-literal : (l : Literal) → kindOf (T .nodes) n ≤ 5 → PatternShape T n (literal n l)
@@ -49,24 +46,8 @@ pattern-shape T w n v is = go (eqb (kindOf (T .nodes) n) 6) refl (eqb (kindOf (T
         let s = plain-kind T w n v (eqb-false (kindOf (T .nodes) n) 6 p) (eqb-false (kindOf (T .nodes) n) 7 q) (eqb-false (kindOf (T .nodes) n) 9 r) in
         by (s .0) (s .1) (s .2) (rw (s .1) at is)
 
--- items and values are visited, and less deep
+-- items and values are less deep
 module _ (g : ℕ → Expr) (ch : List ℕ) where
-  item-visited : (at k i : ℕ) → i < k → (m : ℕ) → elem m (visited (g (childAt ch (at + i)))) ≡ true → elem m (visitedAll (items g ch at k)) ≡ true
-  unfolding items visited
-  item-visited at zero i lt m e = absurd (omega arith)
-  item-visited at (suc k) zero lt m e = let z : at + 0 ≡ at = omega arith in elem-left m (visited (g (childAt ch at))) (visitedAll (items g ch (at + 1) k)) (rw z at e)
-  item-visited at (suc k) (suc i) lt m e =
-      let z : at + suc i ≡ at + 1 + i = omega arith in
-      elem-right m (visited (g (childAt ch at))) (visitedAll (items g ch (at + 1) k)) (item-visited (at + 1) k i (omega arith) m (rw z at e))
-
-  value-visited : (at k i : ℕ) → i < k → (m : ℕ) → elem m (visited (g (childAt ch (at + i * 2 + 1)))) ≡ true → elem m (visitedFields (fields g ch at k)) ≡ true
-  unfolding fields visited
-  value-visited at zero i lt m e = absurd (omega arith)
-  value-visited at (suc k) zero lt m e = let z : at + 0 * 2 ≡ at = omega arith in elem-left m (visited (g (childAt ch (at + 1)))) (visitedFields (fields g ch (at + 2) k)) (rw z at e)
-  value-visited at (suc k) (suc i) lt m e =
-      let z : at + suc i * 2 ≡ at + 2 + i * 2 = omega arith in
-      elem-right m (visited (g (childAt ch (at + 1)))) (visitedFields (fields g ch (at + 2) k)) (value-visited (at + 2) k i (omega arith) m (rw z at e))
-
   item-depth : (at k i : ℕ) → i < k → depth (g (childAt ch (at + i))) ≤ depthAll (items g ch at k)
   unfolding items depth
   item-depth at zero i lt = absurd (omega arith)
@@ -94,10 +75,6 @@ module _ (g : ℕ → Expr) (ch : List ℕ) where
 
 module _ (T : Tables) (w : WellFormed T) (n : ℕ) (v : Node T n) where
   module _ (array : kindOf (T .nodes) n ≡ 7) (i : ℕ) (lt : i < countOf (T .nodes) n) where
-    pub visits-item : (m : ℕ) → elem m (visited (expr T (childAt (T .children) (firstOf (T .nodes) n + i)))) ≡ true → elem m (visited (expr T n)) ≡ true
-    unfolding visited
-    visits-item m e = rw (expr-array T w n v array) (elem-tail m n _ (item-visited (expr T) (T .children) (firstOf (T .nodes) n) (countOf (T .nodes) n) i lt m e))
-
     pub item-deep : (rest : ℕ) → depth (expr T n) ≤ rest + 1 → depth (expr T (childAt (T .children) (firstOf (T .nodes) n + i))) ≤ rest
     unfolding depth
     item-deep rest le =
@@ -106,27 +83,12 @@ module _ (T : Tables) (w : WellFormed T) (n : ℕ) (v : Node T n) where
         omega arith
 
   module _ (object : kindOf (T .nodes) n ≡ 9) (i : ℕ) (lt : i < countOf (T .nodes) n) where
-    pub visits-value : (m : ℕ) → elem m (visited (expr T (valueNode T (firstOf (T .nodes) n) i))) ≡ true → elem m (visited (expr T n)) ≡ true
-    unfolding visited
-    visits-value m e = rw (expr-object T w n v object) (elem-tail m n _ (value-visited (expr T) (T .children) (firstOf (T .nodes) n) (countOf (T .nodes) n) i lt m e))
-
     pub value-deep : (rest : ℕ) → depth (expr T n) ≤ rest + 1 → depth (expr T (valueNode T (firstOf (T .nodes) n) i)) ≤ rest
     unfolding depth
     value-deep rest le =
         let h = value-depth (expr T) (T .children) (firstOf (T .nodes) n) (countOf (T .nodes) n) i lt in
         let l = rw (expr-object T w n v object) at le in
         omega arith
-
--- a node is visited itself, and has a depth
-pub visits-self : (e : Expr) (n : ℕ) → n ≡ Expr.nodeOf e → elem n (visited e) ≡ true
-unfolding visited
-visits-self (literal m l) n e = elem-head n m [] e
-visits-self (name m x) n e = elem-head n m [] e
-visits-self (wildcard m) n e = elem-head n m [] e
-visits-self (array m es) n e = elem-head n m (visitedAll es) e
-visits-self (Expr.set m es) n e = elem-head n m [] e
-visits-self (object m fs) n e = elem-head n m (visitedFields fs) e
-visits-self (other m) n e = elem-head n m [] e
 
 pub some-depth : (e : Expr) → 1 ≤ depth e
 unfolding depth

@@ -1,14 +1,18 @@
-// Each asks for a checked table. A plan is carried out entry by entry. The entry of an array's item or of a field's value is found by its node, so items and fields are taken as written.
+// Each asks for a checked table. A plan is carried out entry by entry; an entry's children are taken by their positions, so items and fields as written.
 ghost use Rattle.base.specs.Lent.{old, new};
 ghost use Rattle.table.specs.Lent.{given, lent};
-ghost use Prim.Native.Nat.{_-_, _*_, _<_, _≤_, _^_};
+ghost use Prim.Native.Nat.{_-_};
 ghost use mathlib.Core.Path.{_≡_};
 ghost use lib.ListN.{set};
 ghost use Rattle.table.specs.Tables.{firstOf};
 ghost use Rattle.table.specs.Decode.{expr};
 ghost use Rattle.value.specs.Value.{valueOf, same};
 ghost use Rattle.planner.specs.code.Post.{NameNumber};
-ghost use Rattle.matching.specs.code.Post.{nodeAt, placeOf, placesOf, heldValue, EntryAsks, ItemsAsks, FieldsAsks, CameIn, CompareAsks, PlacesAsks, PatternAsks, PatternCame};
+ghost use Rattle.matching.specs.code.Post.{heldValue, EntryAsks, ItemsAsks, FieldsAsks, CameIn, CompareAsks, PatternAsks, PatternCame};
+use crate::links::entry_number;
+use crate::links::link_entries;
+use planner::buffer::ENTRY_WORDS;
+use planner::buffer::PATTERN_WORDS;
 use planner::entry_kind;
 use table::node_kind;
 use table::reading::child_at;
@@ -18,20 +22,6 @@ use table::reading::kind_of;
 use value::inner::equality::same_value;
 use value::inner::fields::same_key_sets;
 use value::inner::fields::value_under;
-
-fn wide(x: u32) -> usize
-    ensures { λ r. ⌜ (r ≡ x) × (r < 2 ^ 32) ⌝ }
-{
-    x as usize
-}
-
-// The place of a node's entry.
-fn place_of(places: &[u32; 512], node: u32) -> usize
-    requires { ⌜ (1 ≤ node) × (node ≤ 512) ⌝ }
-    ensures { λ r. ⌜ (r ≡ placeOf (old places) node) × (r < 2 ^ 32) ⌝ }
-{
-    wide(places[node as usize - 1])
-}
 
 // Sets the name at a node to a value's node.
 fn bind_name(nodes: &[u32], list: &mut [u32; 128], node: u32, value: u32)
@@ -70,18 +60,19 @@ fn match_entry(
     names: &[u32],
     strings: &[u8],
     text: &[u8],
-    scratch: &[u32; 2048],
-    places: &[u32; 512],
+    scratch: &[u32; PATTERN_WORDS],
+    starts: &[u16; 512],
+    links: &[u16; 512],
     at: usize,
     value: u32,
     rest: usize,
     list: &mut [u32; 128],
 ) -> bool
-    requires { ⌜ EntryAsks (given nodes children numbers names strings text) (now scratch) (now places) at value rest (now list) ⌝ }
-    ensures { λ r. let T = lent nodes children numbers names strings text in ⌜ CameIn list T (old scratch) (old places) (nodeAt (old scratch) at) value r ⌝ }
+    requires { ⌜ EntryAsks (given nodes children numbers names strings text) (now scratch) (now starts) (now links) at value rest (now list) ⌝ }
+    ensures { λ r. let T = lent nodes children numbers names strings text in ⌜ CameIn list T (old scratch) at value r ⌝ }
 {
-    let kind = scratch[at * 4];
-    let node = scratch[at * 4 + 1];
+    let kind = scratch[at * ENTRY_WORDS];
+    let node = scratch[at * ENTRY_WORDS + 1];
     if kind == entry_kind::BIND {
         bind_name(nodes, list, node, value);
         return true;
@@ -105,8 +96,8 @@ fn match_entry(
     if kind == entry_kind::COMPARE_LITERAL {
         return same_value(nodes, children, numbers, names, strings, text, node, value);
     }
+    let count = scratch[at * ENTRY_WORDS + 2];
     if kind == entry_kind::ARRAY {
-        let count = scratch[at * 4 + 2];
         return match_items(
             nodes,
             children,
@@ -115,8 +106,9 @@ fn match_entry(
             strings,
             text,
             scratch,
-            places,
-            node,
+            starts,
+            links,
+            at,
             count,
             value,
             rest - 1,
@@ -131,8 +123,10 @@ fn match_entry(
         strings,
         text,
         scratch,
-        places,
-        node,
+        starts,
+        links,
+        at,
+        count,
         value,
         rest - 1,
         list,
@@ -147,16 +141,17 @@ fn match_items(
     names: &[u32],
     strings: &[u8],
     text: &[u8],
-    scratch: &[u32; 2048],
-    places: &[u32; 512],
-    node: u32,
+    scratch: &[u32; PATTERN_WORDS],
+    starts: &[u16; 512],
+    links: &[u16; 512],
+    at: usize,
     count: u32,
     value: u32,
     rest: usize,
     list: &mut [u32; 128],
 ) -> bool
-    requires { ⌜ ItemsAsks (given nodes children numbers names strings text) (now scratch) (now places) node count value rest (now list) ⌝ }
-    ensures { λ r. let T = lent nodes children numbers names strings text in ⌜ CameIn list T (old scratch) (old places) node value r ⌝ }
+    requires { ⌜ ItemsAsks (given nodes children numbers names strings text) (now scratch) (now starts) (now links) at count value rest (now list) ⌝ }
+    ensures { λ r. let T = lent nodes children numbers names strings text in ⌜ CameIn list T (old scratch) at value r ⌝ }
 {
     if kind_of(nodes, value) != node_kind::ARRAY {
         return false;
@@ -164,13 +159,12 @@ fn match_items(
     if count_of(nodes, value) != count {
         return false;
     }
-    let at = first_of(nodes, node) as usize;
+    let start = entry_number(starts[at]);
     let from = first_of(nodes, value) as usize;
     let mut i: u32 = 0;
     while i < count {
-        let item = child_at(children, at + i as usize);
+        let item = entry_number(links[start + i as usize]);
         let part = child_at(children, from + i as usize);
-        let place = place_of(places, item);
         if !match_entry(
             nodes,
             children,
@@ -179,8 +173,9 @@ fn match_items(
             strings,
             text,
             scratch,
-            places,
-            place,
+            starts,
+            links,
+            item,
             part,
             rest,
             list,
@@ -200,28 +195,30 @@ fn match_fields(
     names: &[u32],
     strings: &[u8],
     text: &[u8],
-    scratch: &[u32; 2048],
-    places: &[u32; 512],
-    node: u32,
+    scratch: &[u32; PATTERN_WORDS],
+    starts: &[u16; 512],
+    links: &[u16; 512],
+    at: usize,
+    count: u32,
     value: u32,
     rest: usize,
     list: &mut [u32; 128],
 ) -> bool
-    requires { ⌜ FieldsAsks (given nodes children numbers names strings text) (now scratch) (now places) node value rest (now list) ⌝ }
-    ensures { λ r. let T = lent nodes children numbers names strings text in ⌜ CameIn list T (old scratch) (old places) node value r ⌝ }
+    requires { ⌜ FieldsAsks (given nodes children numbers names strings text) (now scratch) (now starts) (now links) at count value rest (now list) ⌝ }
+    ensures { λ r. let T = lent nodes children numbers names strings text in ⌜ CameIn list T (old scratch) at value r ⌝ }
 {
     if kind_of(nodes, value) != node_kind::OBJECT {
         return false;
     }
+    let node = scratch[at * ENTRY_WORDS + 1];
     if !same_key_sets(nodes, children, numbers, names, strings, text, node, value) {
         return false;
     }
-    let first = first_of(nodes, node) as usize;
-    let count = count_of(nodes, node) as usize;
-    let mut i: usize = 0;
+    let start = entry_number(starts[at]);
+    let mut i: u32 = 0;
     while i < count {
-        let key = child_at(children, first + i * 2);
-        let field = child_at(children, first + i * 2 + 1);
+        let field = entry_number(links[start + i as usize]);
+        let key = scratch[field * ENTRY_WORDS + 3];
         let part = value_under(
             nodes,
             children,
@@ -230,10 +227,9 @@ fn match_fields(
             strings,
             text,
             value,
-            i,
+            i as usize,
             key,
         );
-        let place = place_of(places, field);
         if !match_entry(
             nodes,
             children,
@@ -242,8 +238,9 @@ fn match_fields(
             strings,
             text,
             scratch,
-            places,
-            place,
+            starts,
+            links,
+            field,
             part,
             rest,
             list,
@@ -253,21 +250,6 @@ fn match_fields(
         i += 1;
     }
     true
-}
-
-// The place of each node's first entry, and 0 where a node has none.
-fn note_places(scratch: &[u32; 2048], count: usize) -> [u32; 512]
-    requires { ⌜ PlacesAsks (now scratch) count ⌝ }
-    ensures { λ r. ⌜ r ≡ placesOf (old scratch) count ⌝ }
-{
-    let mut places = [0u32; 512];
-    let mut i = count;
-    while 0 < i {
-        i -= 1;
-        let node = wide(scratch[i * 4 + 1]);
-        places[node - 1] = i as u32;
-    }
-    places
 }
 
 // What a pattern came to, and the values of the names after it; of a miss those at the start.
@@ -284,7 +266,7 @@ pub fn match_pattern(
     names: &[u32],
     strings: &[u8],
     text: &[u8],
-    scratch: &[u32; 2048],
+    scratch: &[u32; PATTERN_WORDS],
     count: usize,
     value: u32,
     start: [u32; 128],
@@ -292,7 +274,9 @@ pub fn match_pattern(
     requires { ⌜ PatternAsks (given nodes children numbers names strings text) (now scratch) count value start ⌝ }
     ensures { λ r. ⌜ PatternCame (lent nodes children numbers names strings text) (old scratch) count value start r ⌝ }
 {
-    let places = note_places(scratch, count);
+    let linked = link_entries(scratch, count);
+    let starts = linked.starts;
+    let links = linked.entries;
     let mut list = start;
     let matched = match_entry(
         nodes,
@@ -302,7 +286,8 @@ pub fn match_pattern(
         strings,
         text,
         scratch,
-        &places,
+        &starts,
+        &links,
         0,
         value,
         32,

@@ -1,2 +1,3 @@
 // Carrying the plan of a pattern out on a value.
 pub mod inner;
+mod links;

@@ -7,10 +7,10 @@ use lib.Dec.{ltb}
 use lib.ListN.{length, getD}
 use lib.Seq.{sets}
 use Rattle.base.specs.Lent.{Slices}
-use Rattle.planner.specs.Layout.{Entry, entry, words}
+use Rattle.planner.specs.Layout.{Entry, entryWords, below, entry, words}
 
 abbrev pub entryAt : List ℕ → ℕ → Entry
-entryAt scratch i = entry (getD scratch (i * 4) 0) (getD scratch (i * 4 + 1) 0) (getD scratch (i * 4 + 2) 0) (getD scratch (i * 4 + 3) 0)
+entryAt scratch i = entry (getD scratch (i * entryWords) 0) (getD scratch (i * entryWords + 1) 0) (getD scratch (i * entryWords + 2) 0) (below (getD scratch (i * entryWords + 3) 0) (getD scratch (i * entryWords + 4) 0))
 
 -- k entries from entry i on
 unfoldable pub readEntries : List ℕ → ℕ → ℕ → List Entry
@@ -19,7 +19,7 @@ readEntries scratch i (suc k) = entryAt scratch i ∷ readEntries scratch (i + 1
 
 -- an entry's words at its place, if the buffer has space for it
 abbrev pub putEntry : List ℕ → ℕ → Entry → List ℕ
-putEntry buffer at e = cond (ltb at (length buffer / 4)) (sets buffer (at * 4) (words (e ∷ []))) buffer
+putEntry buffer at e = cond (ltb at (length buffer / entryWords)) (sets buffer (at * entryWords) (words (e ∷ []))) buffer
 
 -- entries from place `at` on, as far as there is space
 unfoldable pub putEntries : List ℕ → ℕ → List Entry → List ℕ

@@ -12,15 +12,29 @@ use Rattle.literal.specs.Order.{Order, less, same, more, keyOrder}
 use Rattle.table.specs.Expr.{Expr, literal, name, wildcard, array, set, object, other, nodeOf}
 use Rattle.planner.specs.Plan.{DestructuringPlan, var, ignore, equalityExpr, equalityValue, arrayPlan, objectPlan, Plans, noPlan, itemPlan, FieldPlans, noField, fieldPlan}
 
--- An entry: kind (1 bind, 2 ignore, 3 compare expression, 4 compare literal, 5 array, 6 object, 7 pair), node, children, key node or 0.
+-- An entry: kind (1 bind, 2 ignore, 3 compare expression, 4 compare literal, 5 array, 6 object, 7 pair), node, children, key node or 0,
+-- written position under its parent from 1, or 0 without a parent.
 pub record Entry : Type 0 where
   pub kind : ℕ
   pub node : ℕ
   pub children : ℕ
   pub key : ℕ
+  pub position : ℕ
 
-abbrev pub entry : ℕ → ℕ → ℕ → ℕ → Entry
-entry kind node children key = record { kind = kind; node = node; children = children; key = key }
+-- how a plan stands under its parent: its key node or 0, and its written position
+pub record Place : Type 0 where
+  pub key : ℕ
+  pub position : ℕ
+
+abbrev pub below : ℕ → ℕ → Place
+below key position = record { key = key; position = position }
+
+-- without a parent
+abbrev pub top : Place
+top = below 0 0
+
+abbrev pub entry : ℕ → ℕ → ℕ → Place → Entry
+entry kind node children place = record { kind = kind; node = node; children = children; key = place .key; position = place .position }
 
 -- a key that is a literal, if it is one (extract_literal_key)
 abbrev pub literalKey : Expr → Option Literal
@@ -70,34 +84,38 @@ concat [] = []
 concat (l ∷ ls) = l ++ concat ls
 
 unfoldable mutual
-  -- the entries of a plan that stands under a key node, or 0
-  pub entries : DestructuringPlan → ℕ → List Entry
-  entries (var n x) key = entry 1 n 0 key ∷ []
-  entries (ignore n) key = entry 2 n 0 key ∷ []
-  entries (equalityExpr e) key = entry 3 (nodeOf e) 0 key ∷ []
-  entries (equalityValue n l) key = entry 4 n 0 key ∷ []
-  entries (arrayPlan n ps) key = entry 5 n (countPlans ps) key ∷ entriesAll ps
-  entries (objectPlan n fs) key =
-      let order = inOrder (fieldOrder fs noFields) in
-      entry 6 n (length order) key ∷ concat order
+  -- the entries of a plan that stands at a place under its parent
+  pub entries : DestructuringPlan → Place → List Entry
+  entries (var n x) place = entry 1 n 0 place ∷ []
+  entries (ignore n) place = entry 2 n 0 place ∷ []
+  entries (equalityExpr e) place = entry 3 (nodeOf e) 0 place ∷ []
+  entries (equalityValue n l) place = entry 4 n 0 place ∷ []
+  entries (arrayPlan n ps) place = entry 5 n (countPlans ps) place ∷ entriesAll ps 1
+  entries (objectPlan n fs) place =
+      let order = inOrder (fieldOrder fs 1 noFields) in
+      entry 6 n (length order) place ∷ concat order
 
-  pub entriesAll : Plans → List Entry
-  entriesAll noPlan = []
-  entriesAll (itemPlan p ps) = entries p 0 ++ entriesAll ps
+  -- items from a position on
+  pub entriesAll : Plans → ℕ → List Entry
+  entriesAll noPlan i = []
+  entriesAll (itemPlan p ps) i = entries p (below 0 i) ++ entriesAll ps (i + 1)
 
   pub countPlans : Plans → ℕ
   countPlans noPlan = 0
   countPlans (itemPlan p ps) = 1 + countPlans ps
 
-  -- the fields' entries, taken as written into the order
-  pub fieldOrder : FieldPlans → FieldOrder (List Entry) → FieldOrder (List Entry)
-  fieldOrder noField o = o
-  fieldOrder (fieldPlan k p fs) o = fieldOrder fs (addField (literalKey k) (entries p (nodeOf k)) o)
+  -- the fields' entries from a position on, taken as written into the order
+  pub fieldOrder : FieldPlans → ℕ → FieldOrder (List Entry) → FieldOrder (List Entry)
+  fieldOrder noField i o = o
+  fieldOrder (fieldPlan k p fs) i o = fieldOrder fs (i + 1) (addField (literalKey k) (entries p (below (nodeOf k) i)) o)
 
--- four words an entry
+-- the words of an entry
+abbrev pub entryWords : ℕ
+entryWords = 5
+
 unfoldable pub words : List Entry → List ℕ
 words [] = []
-words (e ∷ es) = e .kind ∷ (e .node ∷ (e .children ∷ (e .key ∷ words es)))
+words (e ∷ es) = e .kind ∷ (e .node ∷ (e .children ∷ (e .key ∷ (e .position ∷ words es))))
 
 -- A plan introduces a binding where an entry binds or ignores; a field that an equal key replaced has no entry.
 unfoldable pub bindsAny : List Entry → Bool
@@ -105,7 +123,7 @@ bindsAny [] = false
 bindsAny (e ∷ es) = (eqb (e .kind) 1 || eqb (e .kind) 2) || bindsAny es
 
 abbrev pub introducesBinding : DestructuringPlan → Bool
-introducesBinding p = bindsAny (entries p 0)
+introducesBinding p = bindsAny (entries p top)
 
 -- the names of the entries that bind, by their nodes
 unfoldable pub boundNames : (ℕ → ℕ) → List Entry → List ℕ

@@ -20,7 +20,7 @@ use Rattle.base.specs.Refusal.{Refusal, planTooLarge, variableAlreadyDefined, r
 use Rattle.table.specs.Check.{checkedOr}
 use Rattle.planner.specs.Answer.{lineOf}
 use Rattle.planner.specs.Plan.{DestructuringPlan, plan, after}
-use Rattle.planner.specs.Layout.{Entry, entries, words}
+use Rattle.planner.specs.Layout.{Entry, entryWords, top, entries, words}
 use Rattle.planner.specs.Names.{occurrences, firstNode}
 use Rattle.planner.specs.Parameters.{alreadyDefined}
 
@@ -29,9 +29,9 @@ pub data Outcome : Type 0 where
   refused : Refusal → Outcome
   planned : ℕ → ℕ → List Entry → Outcome
 
--- a buffer has space for one entry per whole four words
+-- a buffer has space for one entry per whole `entryWords` words
 abbrev pub space : List ℕ → ℕ
-space buffer = length buffer / 4
+space buffer = length buffer / entryWords
 
 abbrev pub fits : List Entry → List ℕ → Bool
 fits es buffer = leb (length es) (space buffer)
@@ -47,7 +47,7 @@ answered (planned form side es) buffer = cond (fits es buffer) (line 0 form side
 -- the plan, then zeros; of a refusal, all zeros
 unfoldable pub written : Outcome → List ℕ → List ℕ
 written (refused a) buffer = zeros buffer
-written (planned form side es) buffer = cond (fits es buffer) (words es ++ drop (4 * length es) (zeros buffer)) (zeros buffer)
+written (planned form side es) buffer = cond (fits es buffer) (words es ++ drop (entryWords * length es) (zeros buffer)) (zeros buffer)
 
 pub record Answered (o : Outcome) (before after : List ℕ) (r : PlanAnswer) : Type 0 where
   pub answer : lineOf r ≡ answered o before
@@ -73,7 +73,7 @@ abbrev pub planOf : Tables → Scope → ScopingMode → ℕ → DestructuringPl
 planOf T s mode root = plan (isUnbound s mode) (expr T root) []
 
 abbrev pub patternPlanned : Tables → Scope → ScopingMode → ℕ → Outcome
-patternPlanned T s mode root = planned 0 0 (entries (planOf T s mode root) 0)
+patternPlanned T s mode root = planned 0 0 (entries (planOf T s mode root) top)
 
 abbrev pub patternOutcome : Tables → Scope → ScopingMode → ℕ → Outcome
 patternOutcome T s mode root = checkedFirst T s (root ∷ []) (patternPlanned T s mode root)

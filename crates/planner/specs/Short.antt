@@ -15,8 +15,9 @@ pub record Short (a b c d : ℕ) : Type 0 where
 abbrev pub ShortLine : Line → Type 0
 ShortLine l = Short (l .number) (l .second) (l .third) (l .fourth)
 
-abbrev pub ShortEntry : Entry → Type 0
-ShortEntry e = Short (e .kind) (e .node) (e .children) (e .key)
+pub record ShortEntry (e : Entry) : Type 0 where
+  pub front : Short (e .kind) (e .node) (e .children) (e .key)
+  pub position : e .position < 1000000
 
 abbrev pub ShortRefusal : Refusal → Type 0
 ShortRefusal r = Short (r .number) (r .place) (r .first) (r .second)

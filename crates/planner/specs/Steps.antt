@@ -12,7 +12,7 @@ use Rattle.table.specs.Tables.{Tables}
 use Rattle.table.specs.Expr.{Expr, literal, name, wildcard, array, set, object, other, Exprs, none, item, Fields, done, field, parts}
 use Rattle.table.specs.Decode.{expr}
 use Rattle.planner.specs.Plan.{DestructuringPlan, plan}
-use Rattle.planner.specs.Layout.{entries}
+use Rattle.planner.specs.Layout.{top, entries}
 use Rattle.planner.specs.Operations.{Outcome, refused, planned, patternOutcome, indexOutcome, parameterOutcome}
 
 -- In written order: every node but keys, the members of sets and what is inside other expressions; the values of fields that an equal key replaces too.
@@ -36,14 +36,14 @@ unfoldable mutual
 
 -- In plan order: a node is gone into to write its entry.
 abbrev pub planSteps : DestructuringPlan → ℕ
-planSteps p = length (entries p 0)
+planSteps p = length (entries p top)
 
 unfoldable pub steps : (ℕ → Bool) → Expr → ℕ
 steps unbound e = writtenSteps e + planSteps (plan unbound e [])
 
 -- At least a plan's entries, and at most twice the pattern's nodes, keys counted.
 pub record StepLaws (unbound : ℕ → Bool) (e : Expr) : Type 0 where
-  pub least : length (entries (plan unbound e []) 0) ≤ steps unbound e
+  pub least : length (entries (plan unbound e []) top) ≤ steps unbound e
   pub most : steps unbound e ≤ 2 * length (parts e)
 
 -- The same of an operation: if it plans, its entries are at most so many steps, and these at most twice so many nodes.

@@ -4,11 +4,17 @@ ghost use mathlib.Core.Path.{_≡_};
 ghost use Prim.Native.Nat.{_+_};
 ghost use mathlib.Core.List.{[], _∷_};
 ghost use lib.ListN.{length, getD, replicate};
-ghost use Rattle.planner.specs.Layout.{entry};
+ghost use Rattle.planner.specs.Layout.{below, entry};
 ghost use Rattle.planner.specs.Entries.{readEntries, WroteIn, putEntries};
 ghost use Rattle.base.specs.Lists.{tabulate};
 ghost use Rattle.planner.specs.code.Post.{ClosedIn, wordAt};
 use crate::PlanAnswer;
+
+// The words of an entry.
+pub const ENTRY_WORDS: usize = 5;
+
+// Space for the plan of any pattern: an entry for each of 512 nodes.
+pub const PATTERN_WORDS: usize = 512 * ENTRY_WORDS;
 
 // Zeros from word `from` on.
 fn clear_after(plan: &mut [u32], from: usize)
@@ -28,15 +34,24 @@ pub fn clear(plan: &mut [u32])
 }
 
 // One entry, if the buffer has space for it.
-pub fn put_entry(plan: &mut [u32], at: usize, kind: u32, node: u32, count: u32, key: u32)
-    ensures { λ _. ⌜ WroteIn plan at (entry kind node count key ∷ []) (at + 1) ⌝ }
+pub fn put_entry(
+    plan: &mut [u32],
+    at: usize,
+    kind: u32,
+    node: u32,
+    count: u32,
+    key: u32,
+    position: u32,
+)
+    ensures { λ _. ⌜ WroteIn plan at (entry kind node count (below key position) ∷ []) (at + 1) ⌝ }
 {
-    if at < plan.len() / 4 {
-        let base = at * 4;
+    if at < plan.len() / ENTRY_WORDS {
+        let base = at * ENTRY_WORDS;
         plan[base] = kind;
         plan[base + 1] = node;
         plan[base + 2] = count;
         plan[base + 3] = key;
+        plan[base + 4] = position;
     }
 }
 
@@ -57,10 +72,10 @@ pub fn copy_entries(plan: &mut [u32], at: usize, scratch: &[u32], count: usize)
     let mut i: usize = 0;
     let mut to = at;
     while i < count {
-        if plan.len() / 4 <= to {
+        if plan.len() / ENTRY_WORDS <= to {
             return;
         }
-        let from = i * 4;
+        let from = i * ENTRY_WORDS;
         put_entry(
             plan,
             to,
@@ -68,6 +83,7 @@ pub fn copy_entries(plan: &mut [u32], at: usize, scratch: &[u32], count: usize)
             word_of(scratch, from + 1),
             word_of(scratch, from + 2),
             word_of(scratch, from + 3),
+            word_of(scratch, from + 4),
         );
         to += 1;
         i += 1;
@@ -78,11 +94,11 @@ pub fn copy_entries(plan: &mut [u32], at: usize, scratch: &[u32], count: usize)
 pub fn close(plan: &mut [u32], form: u32, at: usize) -> PlanAnswer
     ensures { λ r. ⌜ ClosedIn plan form at r ⌝ }
 {
-    if plan.len() / 4 < at {
+    if plan.len() / ENTRY_WORDS < at {
         clear(plan);
         return PlanAnswer::PlanTooLarge { needed: at };
     }
-    clear_after(plan, at * 4);
+    clear_after(plan, at * ENTRY_WORDS);
     PlanAnswer::Planned {
         form,
         side: 0,

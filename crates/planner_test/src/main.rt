@@ -1,6 +1,7 @@
 // Plans the patterns of one table and prints a listing of each, as document 01 lays it out.
 use libc::STDOUT_FILENO;
 use planner::PlanAnswer;
+use planner::buffer::ENTRY_WORDS;
 use planner::destructuring::create_destructuring_plan;
 use planner::parameters::create_loop_index_binding_plan;
 use planner::parameters::create_parameter_binding_plan;
@@ -82,27 +83,27 @@ const TEXT: [u8; 9] = *b"xyk_input";
 // Operation (1 pattern, 5 index, 6 parameter), scoping (1 RespectParent, 2 AllowShadowing), root,
 // words of the buffer.
 const CASES: [[u32; 4]; 21] = [
-    [1, 1, 3, 32],
-    [1, 1, 8, 32],
-    [1, 1, 14, 32],
-    [1, 1, 24, 32],
-    [1, 1, 28, 32],
-    [1, 1, 31, 32],
-    [1, 2, 31, 32],
-    [5, 2, 31, 32],
-    [6, 2, 31, 32],
-    [6, 2, 35, 32],
-    [6, 1, 35, 32],
-    [6, 2, 37, 32],
-    [6, 2, 38, 32],
-    [6, 2, 44, 32],
-    [1, 1, 44, 32],
-    [1, 1, 48, 32],
-    [1, 1, 3, 12], // just the plan
-    [1, 1, 3, 11], // one word short of it
+    [1, 1, 3, 40],
+    [1, 1, 8, 40],
+    [1, 1, 14, 40],
+    [1, 1, 24, 40],
+    [1, 1, 28, 40],
+    [1, 1, 31, 40],
+    [1, 2, 31, 40],
+    [5, 2, 31, 40],
+    [6, 2, 31, 40],
+    [6, 2, 35, 40],
+    [6, 1, 35, 40],
+    [6, 2, 37, 40],
+    [6, 2, 38, 40],
+    [6, 2, 44, 40],
+    [1, 1, 44, 40],
+    [1, 1, 48, 40],
+    [1, 1, 3, 15], // just the plan
+    [1, 1, 3, 14], // one word short of it
     [6, 2, 35, 0], // 17 comes before 6
-    [5, 1, 49, 32],
-    [1, 1, 0, 32],
+    [5, 1, 49, 40],
+    [1, 1, 0, 40],
 ];
 
 fn node_word(i: usize) -> u32
@@ -241,9 +242,9 @@ fn print_plan(plan: &[u32], entries: usize) {
     let mut i: usize = 0;
     while i < plan.len() {
         let word = plan[i];
-        if i / 4 < entries {
+        if i / ENTRY_WORDS < entries {
             print_word(word);
-            if i % 4 == 3 {
+            if i % ENTRY_WORDS == ENTRY_WORDS - 1 {
                 io::write_all(STDOUT_FILENO, b"\n");
             }
         } else if word != 0 {
@@ -253,16 +254,16 @@ fn print_plan(plan: &[u32], entries: usize) {
     }
 }
 
-fn filled() -> [u32; 32]
-    ensures { λ r. ⌜ 32 ≡ length r ⌝ }
+fn filled() -> [u32; 40]
+    ensures { λ r. ⌜ 40 ≡ length r ⌝ }
 {
-    [9; 32]
+    [9; 40]
 }
 
 fn run(case: [u32; 4]) {
     let mut buffer = filled();
     let size = case[3] as usize;
-    if 32 < size {
+    if 40 < size {
         return;
     }
     let plan = &mut buffer[..size];

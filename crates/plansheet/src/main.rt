@@ -8,9 +8,9 @@ fn space() -> [u8; 51915] {
     [0; 51915]
 }
 
-// The longest listing, of 1,537 lines.
-fn listing_space() -> [u8; 38425] {
-    [0; 38425]
+// The longest listing, of 1,536 entries.
+fn listing_space() -> [u8; 47641] {
+    [0; 47641]
 }
 
 fn main() {

@@ -24,9 +24,9 @@ use Rattle.table.specs.code.Sound.{Named}
 use Rattle.table.proofs.tests.Bools.{told-no, told-yes}
 use Rattle.base.specs.Refusal.{rootOutside, listTooShort, Tested, testedOr}
 use Rattle.planner.specs.Plan.{var, equalityExpr, fresh, plan, plans, fieldPlans, after}
-use Rattle.planner.specs.Layout.{Entry, literalKey, FieldOrder, noFields, addField, concat, entries, entriesAll, fieldOrder, boundNames}
+use Rattle.planner.specs.Layout.{Entry, Place, below, top, entryWords, literalKey, FieldOrder, noFields, addField, concat, entries, entriesAll, fieldOrder, boundNames}
 use Rattle.planner.specs.Operations.{planOf}
-use Rattle.planner.specs.code.Post.{Laid, PatternPlanned}
+use Rattle.planner.specs.code.Post.{patternWords, Laid, PatternPlanned}
 use Rattle.planner.specs.Entries.{readEntries}
 use Rattle.planner.proofs.laws.Binders.{AllNames, AllNamesAll, AllNamesFields, names-all}
 use Rattle.planner.proofs.buffer.Copies.{wrote-read}
@@ -78,26 +78,26 @@ bound-start {nodes} {scratch} {count} {before} a = let z : count - 0 ≡ count =
 
 module _ {nodes scratch : List ℕ} {count : ℕ} {before : List ℕ} {i : ℕ} {here : List ℕ} (go : MarkingBound nodes scratch count before i here) where
   module _ (more : i < count) where
-    pub bound-kind : i * 4 < 2048
+    pub bound-kind : i * entryWords < patternWords
     bound-kind = let f = go .asks .few in omega arith
 
-    pub bound-node : i * 4 + 1 < 2048
+    pub bound-node : i * entryWords + 1 < patternWords
     bound-node = let f = go .asks .few in omega arith
 
-    pub bound-entry : EntryBound nodes (getD scratch (i * 4) 0) (getD scratch (i * 4 + 1) 0) here
+    pub bound-entry : EntryBound nodes (getD scratch (i * entryWords) 0) (getD scratch (i * entryWords + 1) 0) here
     bound-entry = record { inside = λ one. let p = go .asks .each i more .inside one in let l = go .long in (p .0, rw l (p .1)) }
 
-    pub bound-on : {after : List ℕ} → after ≡ markedBy nodes (getD scratch (i * 4) 0) (getD scratch (i * 4 + 1) 0) here → MarkingBound nodes scratch count before (i + 1) after
+    pub bound-on : {after : List ℕ} → after ≡ markedBy nodes (getD scratch (i * entryWords) 0) (getD scratch (i * entryWords + 1) 0) here → MarkingBound nodes scratch count before (i + 1) after
     unfolding boundNames readEntries elem
-    bound-on {after} e = by (eqb (getD scratch (i * 4) 0) 1) refl
+    bound-on {after} e = by (eqb (getD scratch (i * entryWords) 0) 1) refl
       where
         rest : ℕ → Bool
         rest k = elem (k + 1) (boundNames (firstOf nodes) (readEntries scratch (i + 1) (count - (i + 1))))
 
         x : ℕ
-        x = firstOf nodes (getD scratch (i * 4 + 1) 0)
+        x = firstOf nodes (getD scratch (i * entryWords + 1) 0)
 
-        unrolled : (b : Bool) → eqb (getD scratch (i * 4) 0) 1 ≡ b → boundNames (firstOf nodes) (readEntries scratch i (count - i)) ≡ cond b (x ∷ boundNames (firstOf nodes) (readEntries scratch (i + 1) (count - (i + 1)))) (boundNames (firstOf nodes) (readEntries scratch (i + 1) (count - (i + 1))))
+        unrolled : (b : Bool) → eqb (getD scratch (i * entryWords) 0) 1 ≡ b → boundNames (firstOf nodes) (readEntries scratch i (count - i)) ≡ cond b (x ∷ boundNames (firstOf nodes) (readEntries scratch (i + 1) (count - (i + 1)))) (boundNames (firstOf nodes) (readEntries scratch (i + 1) (count - (i + 1))))
         unrolled b p =
             let s : count - i ≡ suc (count - (i + 1)) = omega arith in
             ap (λ (n : ℕ). boundNames (firstOf nodes) (readEntries scratch i n)) s ∙ ap (λ (c : Bool). cond c (x ∷ boundNames (firstOf nodes) (readEntries scratch (i + 1) (count - (i + 1)))) (boundNames (firstOf nodes) (readEntries scratch (i + 1) (count - (i + 1))))) p
@@ -106,10 +106,10 @@ module _ {nodes scratch : List ℕ} {count : ℕ} {before : List ℕ} {i : ℕ} 
         either true = refl
         either false = refl
 
-        by : (b : Bool) → eqb (getD scratch (i * 4) 0) 1 ≡ b → MarkingBound nodes scratch count before (i + 1) after
+        by : (b : Bool) → eqb (getD scratch (i * entryWords) 0) 1 ≡ b → MarkingBound nodes scratch count before (i + 1) after
         by true p =
             let f : after ≡ set here (x - 1) 1 = e ∙ rw p in
-            let one = eqb-true (getD scratch (i * 4) 0) 1 p in
+            let one = eqb-true (getD scratch (i * entryWords) 0) 1 p in
             let r = go .asks .each i more .inside one in
             let long = go .long in
             record {
@@ -157,7 +157,7 @@ module _ (T : Tables) (u : ℕ → Bool) where
   mutual
     unfolding plan entries AllE AllNames concat
 
-    binds-names : (e : Expr) → AllNames NamedNode e → (seen : List ℕ) (key : ℕ) → AllE BindsName (entries (plan u e seen) key)
+    binds-names : (e : Expr) → AllNames NamedNode e → (seen : List ℕ) (key : Place) → AllE BindsName (entries (plan u e seen) key)
     binds-names (literal n l) all seen key = (λ k. absurd (omega arith), tt)
     binds-names (name n x) all seen key = go (fresh u seen x)
       where
@@ -165,27 +165,28 @@ module _ (T : Tables) (u : ℕ → Bool) where
         go true = (λ k. all, tt)
         go false = (λ k. absurd (omega arith), tt)
     binds-names (wildcard n) all seen key = (λ k. absurd (omega arith), tt)
-    binds-names (array n es) all seen key = (λ k. absurd (omega arith), binds-names-all es all seen)
+    binds-names (array n es) all seen key = (λ k. absurd (omega arith), binds-names-all es all seen 1)
     binds-names (Expr.set n es) all seen key = (λ k. absurd (omega arith), tt)
-    binds-names (object n fs) all seen key = (λ k. absurd (omega arith), all-order BindsName (fieldOrder (fieldPlans u fs seen) noFields) (binds-names-fields fs all seen noFields (all-none BindsName)))
+    binds-names (object n fs) all seen key = (λ k. absurd (omega arith), all-order BindsName (fieldOrder (fieldPlans u fs seen) 1 noFields) (binds-names-fields fs all seen 1 noFields (all-none BindsName)))
     binds-names (other n) all seen key = (λ k. absurd (omega arith), tt)
 
-    binds-names-all : (es : Exprs) → AllNamesAll NamedNode es → (seen : List ℕ) → AllE BindsName (entriesAll (plans u es seen))
-    binds-names-all Expr.none all seen = tt
-    binds-names-all (item e es) all seen = all-append BindsName (entries (plan u e seen) 0) (entriesAll (plans u es (after u e seen))) (binds-names e (all .0) seen 0) (binds-names-all es (all .1) (after u e seen))
+    binds-names-all : (es : Exprs) → AllNamesAll NamedNode es → (seen : List ℕ) (i : ℕ) → AllE BindsName (entriesAll (plans u es seen) i)
+    binds-names-all Expr.none all seen i = tt
+    binds-names-all (item e es) all seen i =
+        all-append BindsName (entries (plan u e seen) (below 0 i)) (entriesAll (plans u es (after u e seen)) (i + 1)) (binds-names e (all .0) seen (below 0 i)) (binds-names-all es (all .1) (after u e seen) (i + 1))
 
-    binds-names-fields : (fs : Fields) → AllNamesFields NamedNode fs → (seen : List ℕ) (o : FieldOrder (List Entry)) → AllOrder BindsName o → AllOrder BindsName (fieldOrder (fieldPlans u fs seen) o)
-    binds-names-fields done all seen o a = a
-    binds-names-fields (field k v fs) all seen o a =
-        binds-names-fields fs (all .2) (after u v seen) (addField (literalKey k) (entries (plan u v seen) (nodeOf k)) o)
-        (all-add BindsName (literalKey k) (entries (plan u v seen) (nodeOf k)) o (binds-names v (all .1) seen (nodeOf k)) a)
+    binds-names-fields : (fs : Fields) → AllNamesFields NamedNode fs → (seen : List ℕ) (i : ℕ) (o : FieldOrder (List Entry)) → AllOrder BindsName o → AllOrder BindsName (fieldOrder (fieldPlans u fs seen) i o)
+    binds-names-fields done all seen i o a = a
+    binds-names-fields (field k v fs) all seen i o a =
+        binds-names-fields fs (all .2) (after u v seen) (i + 1) (addField (literalKey k) (entries (plan u v seen) (below (nodeOf k) i)) o)
+        (all-add BindsName (literalKey k) (entries (plan u v seen) (below (nodeOf k) i)) o (binds-names v (all .1) seen (below (nodeOf k) i)) a)
 
 module _ (T : Tables) (s : Scope) (mode : ScopingMode) (pattern : ℕ) {list : List ℕ} (a : ReportAsks T pattern list) where
-  module _ {binders scratch : List ℕ} {count : ℕ} (p : PatternPlanned T s mode pattern 0 (replicate 2048 0) binders scratch count) where
+  module _ {binders scratch : List ℕ} {count : ℕ} (p : PatternPlanned T s mode pattern 0 (replicate patternWords 0) binders scratch count) where
     abbrev es : List Entry
-    es = entries (planOf T s mode pattern) 0
+    es = entries (planOf T s mode pattern) top
 
-    laid : Laid (replicate 2048 0) 0 es scratch count
+    laid : Laid (replicate patternWords 0) 0 es scratch count
     laid = scratch-laid (p .wrote) (p .few)
 
     size : count ≡ length es
@@ -194,7 +195,7 @@ module _ (T : Tables) (s : Scope) (mode : ScopingMode) (pattern : ℕ) {list : L
     few : length es ≤ 512
     few = let f = p .few in let z = size in omega arith
 
-    named : (i : ℕ) → i < count → getD scratch (i * 4) 0 ≡ 1 → Named T (firstOf (T .nodes) (getD scratch (i * 4 + 1) 0))
+    named : (i : ℕ) → i < count → getD scratch (i * entryWords) 0 ≡ 1 → Named T (firstOf (T .nodes) (getD scratch (i * entryWords + 1) 0))
     named i lt one =
         let z = size in
         let inside : i < length es = omega arith in
@@ -202,7 +203,7 @@ module _ (T : Tables) (s : Scope) (mode : ScopingMode) (pattern : ℕ) {list : L
         let n = scratch-node es few (laid .stored) i inside in
         let w = a .good .table in
         let all = names-all T w (λ m x. Named T (firstOf (T .nodes) m)) (λ m v h named. w .named m v h) pattern (a .good .node) in
-        rw n (all-at (BindsName T (isUnbound s mode)) blank es i inside (binds-names T (isUnbound s mode) (expr T pattern) all [] 0) (sym k ∙ one))
+        rw n (all-at (BindsName T (isUnbound s mode)) blank es i inside (binds-names T (isUnbound s mode) (expr T pattern) all [] top) (sym k ∙ one))
 
     pub ask-bound : BoundAsks (T .nodes) scratch count list
     ask-bound = record {
@@ -213,7 +214,7 @@ module _ (T : Tables) (s : Scope) (mode : ScopingMode) (pattern : ℕ) {list : L
     pub planned-marked : {after : List ℕ} → BoundMarked (T .nodes) scratch count list after → PlannedMarked T s mode pattern list after
     planned-marked m =
         let f = p .few in
-        let q = wrote-read (p .wrote) (omega (arith, length-replicate {A = ℕ} 2048 0)) in
+        let q = wrote-read (p .wrote) (omega (arith, length-replicate {A = ℕ} patternWords 0)) in
         record { long = m .long; each = λ k. m .each k ∙ ap (λ (l : List Entry). cond (elem (k + 1) (boundNames (firstOf (T .nodes)) l)) 1 (getD list k 0)) q }
 
 -- met, then bound
@@ -256,7 +257,7 @@ module _ (T : Tables) (s : Scope) (mode : ScopingMode) (pattern : ℕ) {before :
           let z : 0 + k ≡ k = omega arith in
           let here : getD mid k 0 ≡ cond (elem (k + 1) (namesMet (expr T pattern))) 2 0 = ap (λ (l : List ℕ). getD l k 0) is ∙ (getD-tabulate (metMark met) 0 (length before) k inside ∙ (ap (metMark met) z ∙ met-is k)) in
           m .each k
-          ∙ (ap (λ (v : ℕ). cond (elem (k + 1) (boundNames (firstOf (T .nodes)) (entries (planOf T s mode pattern) 0))) 1 v) here
+          ∙ (ap (λ (v : ℕ). cond (elem (k + 1) (boundNames (firstOf (T .nodes)) (entries (planOf T s mode pattern) top))) 1 v) here
           ∙ sym (getD-tabulate (λ i. reported T s mode pattern (i + 1)) 0 (length before) k inside ∙ ap (λ (j : ℕ). reported T s mode pattern (j + 1)) z)));
     }
 

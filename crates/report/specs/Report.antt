@@ -15,7 +15,7 @@ use Rattle.table.specs.Decode.{expr}
 use Rattle.base.specs.Lists.{elem, tabulate}
 use Rattle.base.specs.Refusal.{Refusal, listTooShort, requireOr, Line, line, refusalLine}
 use Rattle.table.specs.Check.{checkedOr}
-use Rattle.planner.specs.Layout.{entries, boundNames}
+use Rattle.planner.specs.Layout.{top, entries, boundNames}
 use Rattle.planner.specs.Names.{namesIn}
 use Rattle.planner.specs.Operations.{planOf}
 use Rattle.report.specs.declared.ReportAnswer.{ReportAnswer}
@@ -29,7 +29,7 @@ abbrev pub reportedBy : List ℕ → List ℕ → ℕ → ℕ
 reportedBy bound met x = cond (elem x bound) 1 (cond (elem x met) 2 0)
 
 abbrev pub reported : Tables → Scope → ScopingMode → ℕ → ℕ → ℕ
-reported T s mode root x = reportedBy (boundNames (firstOf (T .nodes)) (entries (planOf T s mode root) 0)) (namesMet (expr T root)) x
+reported T s mode root x = reportedBy (boundNames (firstOf (T .nodes)) (entries (planOf T s mode root) top)) (namesMet (expr T root)) x
 
 -- What a report comes to: a refusal, or the list filled in.
 pub data ReportOutcome : Type 0 where

@@ -7,6 +7,7 @@ ghost use Rattle.table.specs.Decode.{expr};
 ghost use Rattle.base.specs.Lists.{tabulate};
 ghost use Rattle.planner.specs.code.Post.{GoodRoot};
 ghost use Rattle.report.specs.code.Post.{metWords, metMark};
+use planner::buffer::PATTERN_WORDS;
 use planner::inner::destructuring::plan_pattern;
 use scope::Scope;
 use scope::ScopingMode;
@@ -49,7 +50,7 @@ pub fn names_met(
     ensures { λ r. ⌜ r ≡ metWords (expr (lent nodes children numbers names strings text) pattern) ⌝ }
 {
     let mut binders = [0u32; 128];
-    let mut scratch = [0u32; 2048];
+    let mut scratch = [0u32; PATTERN_WORDS];
     let none_known = Scope::new(0, false);
     plan_pattern(
         nodes,

@@ -6,6 +6,8 @@ ghost use Rattle.report.specs.Report.{ReportedIn};
 ghost use Rattle.report.specs.code.Post.{EntryBound, markedBy, BoundAsks, BoundMarked, ReportAsks, PlannedMarked, ReportMarked};
 use inner::mark_met;
 use inner::names_met;
+use planner::buffer::ENTRY_WORDS;
+use planner::buffer::PATTERN_WORDS;
 use planner::buffer::clear;
 use planner::entry_kind;
 use planner::inner::destructuring::plan_pattern;
@@ -38,14 +40,14 @@ fn mark_entry(nodes: &[u32], kind: u32, node: u32, list: &mut [u32])
 }
 
 // 1 for each name that one of the first `count` entries binds.
-fn mark_bound(nodes: &[u32], scratch: &[u32; 2048], count: usize, list: &mut [u32])
+fn mark_bound(nodes: &[u32], scratch: &[u32; PATTERN_WORDS], count: usize, list: &mut [u32])
     requires { ⌜ BoundAsks (now nodes) (now scratch) count (now list) ⌝ }
     ensures { λ _. ⌜ BoundMarked (old nodes) (old scratch) count (old list) (new list) ⌝ }
 {
     let mut i: usize = 0;
     while i < count {
-        let kind = scratch[i * 4];
-        let node = scratch[i * 4 + 1];
+        let kind = scratch[i * ENTRY_WORDS];
+        let node = scratch[i * ENTRY_WORDS + 1];
         mark_entry(nodes, kind, node, list);
         i += 1;
     }
@@ -68,7 +70,7 @@ fn mark_planned(
     ensures { λ _. ⌜ PlannedMarked (lent nodes children numbers names strings text) scope scoping pattern (old list) (new list) ⌝ }
 {
     let mut binders = [0u32; 128];
-    let mut scratch = [0u32; 2048];
+    let mut scratch = [0u32; PATTERN_WORDS];
     let planned = plan_pattern(
         nodes,
         children,

@@ -18,7 +18,7 @@ use Rattle.table.specs.Decode.{expr}
 use Rattle.base.specs.Lists.{allFrom}
 use Rattle.table.proofs.tests.Scan.{all-of}
 use Rattle.table.proofs.tests.Bools.{and-true}
-use Rattle.planner.specs.Layout.{entries}
+use Rattle.planner.specs.Layout.{top, entryWords, entries}
 use Rattle.planner.specs.Operations.{planOf, fits}
 use Rattle.planner.specs.Plan.{plan}
 use Rattle.planner.specs.Simple.{mentions}
@@ -26,7 +26,7 @@ use Rattle.planner.proofs.buffer.Filling.{length-tabulate, getD-tabulate}
 use Rattle.value.specs.Value.{Value, valueOf, nodeᵛ, nodeIn, Same}
 use Rattle.value.proofs.Keys.{is-true, true-is}
 use Rattle.value.proofs.Equal.{laws}
-use Rattle.matching.specs.Matching.{Env, MatchOutcome, matched, missed, fault, pickValue, start, Filling, Promise}
+use Rattle.matching.specs.Matching.{Env, MatchOutcome, matched, missed, fault, pickValue, start, outcome, Filling, Promise}
 use Rattle.matching.proofs.Fits.{filled}
 use Rattle.report.proofs.Meeting.{mentioned-named}
 use Rattle.run.specs.Answer.{RunResult, aMatch, noMatch}
@@ -35,7 +35,7 @@ use Rattle.run.specs.code.Post.{RunAsks, toBind}
 use Rattle.run.specs.Demand.{Hypotheses, answer, list, isPlanned, Fills, Promised, Demand}
 use Rattle.run.proofs.Checking.{node-of-test}
 use Rattle.run.proofs.Known.{planned-is}
-use Rattle.run.proofs.Running.{run-table, promised, listed-value, value-ok}
+use Rattle.run.proofs.Running.{run-table, promised, ran-run, listed-value, value-ok}
 use Rattle.run.proofs.Tabled.{Tabled, run-tabled, value-tabled}
 
 all-true : (p : ℕ → Bool) (from k : ℕ) → ((j : ℕ) → from ≤ j → j < from + k → p j ≡ true) → allFrom p from k ≡ true
@@ -80,7 +80,7 @@ module _ (T : Tables) (s : Scope) (mode : ScopingMode) (pattern value : ℕ) (va
   kept = promised asks
 
   -- nothing is refused
-  pub outcome-is : runOutcome T s mode pattern value values ≡ carriedOut (entries (planOf T s mode pattern) 0) (ran T s mode pattern value values)
+  pub outcome-is : runOutcome T s mode pattern value values ≡ carriedOut (entries (planOf T s mode pattern) top) (ran T s mode pattern value values)
   outcome-is =
       let p = h .patternInside in
       let v = h .valueInside in
@@ -97,8 +97,8 @@ module _ (T : Tables) (s : Scope) (mode : ScopingMode) (pattern value : ℕ) (va
   bound-name : (x : ℕ) → isPlanned T s mode pattern value values buffer x → True (toBind (isUnbound s mode) (expr T pattern) x)
   bound-name x p = subst (λ (f : ℕ → Bool). True (f x)) planned p
 
-  space : fits (entries (planOf T s mode pattern) 0) buffer ≡ true
-  space = let b = h .bufferLong in le-leb (length (entries (planOf T s mode pattern) 0)) (length buffer / 4) (omega arith)
+  space : fits (entries (planOf T s mode pattern) top) buffer ≡ true
+  space = let b = h .bufferLong in le-leb (length (entries (planOf T s mode pattern) top)) (length buffer / entryWords) (omega arith)
 
   answer-is : answer T s mode pattern value values buffer ≡ carriedResult (ran T s mode pattern value values)
   unfolding runAnswer
@@ -123,6 +123,9 @@ module _ (T : Tables) (s : Scope) (mode : ScopingMode) (pattern value : ℕ) (va
 
   matching : answer T s mode pattern value values buffer ≡ aMatch → (env : Env) × (ran T s mode pattern value values ≡ matched env)
   matching e = match-env (ran T s mode pattern value values) (sym answer-is ∙ e)
+
+  as-run : {o : MatchOutcome} → ran T s mode pattern value values ≡ o → outcome (isUnbound s mode) (listed T values) (expr T pattern) (valueOf (expr T value)) ≡ o
+  as-run e = sym (ran-run asks) ∙ e
 
   -- the values at the start are the table's
   listed-tabled : (x : ℕ) (u : Value) → start (isUnbound s mode) (listed T values) x ≡ some u → Tabled T u
@@ -165,8 +168,8 @@ module _ (T : Tables) (s : Scope) (mode : ScopingMode) (pattern value : ℕ) (va
       let low = v .low in
       let high = v .high in
       let long = h .listLong in
-      let (w, q, g) = kept .sets env e x p in
-      let t = run-tabled T (run-table asks) (plan (isUnbound s mode) (expr T pattern) []) value (value-ok asks) (start (isUnbound s mode) (listed T values)) listed-tabled env e x w q in
+      let (w, q, g) = kept .sets env (as-run e) x p in
+      let t = run-tabled T (run-table asks) (plan (isUnbound s mode) (expr T pattern) []) value (value-ok asks) (start (isUnbound s mode) (listed T values)) listed-tabled env (as-run e) x w q in
       let y : x - 1 + 1 ≡ x = omega arith in
       let n : listedNode (list T s mode pattern value values buffer) x ≡ nodeᵛ w =
       entry-at env e (x - 1) (omega arith)
@@ -208,9 +211,10 @@ module _ (T : Tables) (s : Scope) (mode : ScopingMode) (pattern value : ℕ) (va
   pub run-promised : Promised T s mode pattern value values buffer (answer T s mode pattern value values buffer) (list T s mode pattern value values buffer)
   run-promised = record {
     decided = subst (λ (a : RunResult). (a ≡ aMatch) ⊎ (a ≡ noMatch)) (sym answer-is) (decided (ran T s mode pattern value values));
-    noFault = kept .noFault;
-    ifMatched = λ m. let (env, e) = matching m in kept .ifMatched env e;
-    ifFilled = λ f k. let (env, e) = kept .ifMade f k in answer-is ∙ ap carriedResult e;
+    asPlanned = ran-run asks;
+    noFault = λ e. kept .noFault (as-run e);
+    ifMatched = λ m. let (env, e) = matching m in kept .ifMatched env (as-run e);
+    ifFilled = λ f k. let (env, e) = kept .ifMade f k in answer-is ∙ ap carriedResult (ran-run asks ∙ e);
     sets = sets;
     keeps = keeps;
     unmatched = unmatched;

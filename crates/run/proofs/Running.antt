@@ -25,10 +25,10 @@ use Rattle.table.proofs.trees.Facts.{sound-table}
 use Rattle.table.proofs.tests.Scan.{all-at}
 use Rattle.base.specs.Refusal.{Refusal, rootOutside, planTooLarge, listTooShort, patternNotSimple, notAValue, nameWithoutValue, Tested, passed}
 use Rattle.planner.specs.Plan.{plan, after}
-use Rattle.planner.specs.Layout.{entries}
+use Rattle.planner.specs.Layout.{top, entryWords, entries}
 use Rattle.planner.specs.Entries.{readEntries, Wrote}
 use Rattle.planner.specs.Operations.{planned, fits, written, planOf}
-use Rattle.planner.specs.code.Post.{GoodRoot, Laid, PatternAsks, PatternPlanned, Closed, wordAt}
+use Rattle.planner.specs.code.Post.{patternWords, GoodRoot, Laid, PatternAsks, PatternPlanned, Closed, wordAt}
 use Rattle.planner.specs.declared.PlanAnswer.{PlanAnswer}
 use Rattle.planner.specs.Simple.{simple, mentions}
 use Rattle.planner.proofs.buffer.Filling.{length-tabulate, getD-tabulate}
@@ -39,11 +39,12 @@ use Rattle.value.specs.code.Post.{ValueNode}
 use Rattle.value.proofs.Keys.{true-is, is-true}
 use Rattle.value.proofs.Admitted.{value-proper}
 use Rattle.matching.specs.declared.inner.Matched.{Matched}
-use Rattle.matching.specs.Matching.{Env, MatchOutcome, matched, missed, fault, pickValue, run, start, Asked, Promise}
+use Rattle.matching.specs.Matching.{Env, MatchOutcome, matched, missed, fault, pickValue, run, start, outcome, Asked, Promise}
 use Rattle.matching.specs.code.Post as Post
 use Rattle.matching.specs.code.Post.{envOf, ListOk, PlanIn, isMatch, listAfter, Ended, PatternCame}
 use Rattle.matching.proofs.Promise as Promise·
 use Rattle.matching.proofs.EntryLists.{scratch-laid}
+use Rattle.matching.proofs.reading.PlanTold.{run-whole}
 use Rattle.report.proofs.Meeting.{after-met, mentions-met, mentioned-named}
 use Rattle.run.specs.declared.RunAnswer.{RunAnswer}
 use Rattle.run.specs.declared.RunAnswer.the-variants.{Match, NoMatch, TableRefused, RootOutside, ListTooShort, PatternNotSimple, NotAValue, NameWithoutValue, PlanTooLarge}
@@ -123,6 +124,10 @@ module _ {T : Tables} {s : Scope} {mode : ScopingMode} {pattern value : ℕ} {va
   pub promised : Promise (isUnbound s mode) (listed T values) (expr T pattern) (valueOf (expr T value))
   promised = Promise·.proved (isUnbound s mode) (listed T values) (expr T pattern) (valueOf (expr T value)) asked
 
+  -- carrying the entries out is the run of the plan
+  pub ran-run : ran T s mode pattern value values ≡ outcome (isUnbound s mode) (listed T values) (expr T pattern) (valueOf (expr T value))
+  ran-run = run-whole T run-table (isUnbound s mode) pattern (a .pattern-node) (a .isSimple) [] top (valueOf (expr T value)) (start (isUnbound s mode) (listed T values))
+
   -- the code's list at the start
   module _ {list : List ℕ} (of : StartOf (length (T .names) / 2) s mode values list) where
     few-names : nameCount T ≤ 128
@@ -182,10 +187,13 @@ module _ {T : Tables} {s : Scope} {mode : ScopingMode} {pattern value : ℕ} {va
             go false = refl
 
     -- the run from this list is that of the definition
-    ran-here : run (plan (isUnbound s mode) (expr T pattern) []) (valueOf (expr T value)) (envOf T list) ≡ ran T s mode pattern value values
-    ran-here = ap (λ (env : Env). run (plan (isUnbound s mode) (expr T pattern) []) (valueOf (expr T value)) env) start-env
+    run-here : run (plan (isUnbound s mode) (expr T pattern) []) (valueOf (expr T value)) (envOf T list) ≡ outcome (isUnbound s mode) (listed T values) (expr T pattern) (valueOf (expr T value))
+    run-here = ap (λ (env : Env). run (plan (isUnbound s mode) (expr T pattern) []) (valueOf (expr T value)) env) start-env
 
-    module _ {scratch : List ℕ} {count : ℕ} (laid : Laid (replicate 2048 0) 0 (entries (plan (isUnbound s mode) (expr T pattern) []) 0) scratch count) where
+    ran-here : run (plan (isUnbound s mode) (expr T pattern) []) (valueOf (expr T value)) (envOf T list) ≡ ran T s mode pattern value values
+    ran-here = run-here ∙ sym ran-run
+
+    module _ {scratch : List ℕ} {count : ℕ} (laid : Laid (replicate patternWords 0) 0 (entries (plan (isUnbound s mode) (expr T pattern) []) top) scratch count) where
       pub plan-in : PlanIn T (isUnbound s mode) pattern scratch count
       plan-in = record { node = a .pattern-node; isSimple = a .isSimple; laid = laid }
 
@@ -198,11 +206,11 @@ module _ {T : Tables} {s : Scope} {mode : ScopingMode} {pattern value : ℕ} {va
         deep = sound .shallow pattern (a .pattern-node);
         value-ok = value-ok;
         list-ok = start-ok;
-        no-fault = λ e. promised .noFault (sym ran-here ∙ e);
+        no-fault = λ e. promised .noFault (sym run-here ∙ e);
       }
 
 -- the names with a binder are the ones to be set
-module _ {T : Tables} {s : Scope} {mode : ScopingMode} {root value : ℕ} {before : List ℕ} (a : RunAsks T s mode root value before) {binders scratch : List ℕ} {count : ℕ} (p : PatternPlanned T s mode root 0 (replicate 2048 0) binders scratch count) where
+module _ {T : Tables} {s : Scope} {mode : ScopingMode} {root value : ℕ} {before : List ℕ} (a : RunAsks T s mode root value before) {binders scratch : List ℕ} {count : ℕ} (p : PatternPlanned T s mode root 0 (replicate patternWords 0) binders scratch count) where
   binder-planned : (i : ℕ) → i < nameCount T → eqb (getD binders i 0) 0 ≡ not (toBind (isUnbound s mode) (expr T root) (i + 1))
   unfolding elem
   binder-planned i lt =
@@ -271,7 +279,7 @@ module _ {T : Tables} {s : Scope} {mode : ScopingMode} {scratch : List ℕ} {cou
     ask-match = match-asks (a .asks) of (a .laid)
 
     module _ {r : Matched} (came : PatternCame T scratch count value list r) (binders : List ℕ) where
-      of-root : (root : ℕ) → RunAsks T s mode root value before → PatternPlanned T s mode root 0 (replicate 2048 0) binders scratch count → Ended (ran T s mode root value before) list r
+      of-root : (root : ℕ) → RunAsks T s mode root value before → PatternPlanned T s mode root 0 (replicate patternWords 0) binders scratch count → Ended (ran T s mode root value before) list r
       of-root root b p = subst (λ (o : MatchOutcome). Ended o list r) (ran-here b of) (came .each (isUnbound s mode) root (plan-in b of (scratch-laid (p .wrote) (p .few))))
 
       pub values-missed : not (r .matched) ≡ true → ValuesCame T s mode scratch count binders value before before NoMatch
@@ -287,7 +295,7 @@ module _ {T : Tables} {s : Scope} {mode : ScopingMode} {scratch : List ℕ} {cou
         each = λ root b p. let d = of-root root b p in by root b p (ran T s mode root value before) (sym (d .told) ∙ not-false (r .matched) t) (d .names);
       }
         where
-          by : (root : ℕ) → RunAsks T s mode root value before → PatternPlanned T s mode root 0 (replicate 2048 0) binders scratch count → (o : MatchOutcome) → isMatch o ≡ true → r .list ≡ listAfter o list
+          by : (root : ℕ) → RunAsks T s mode root value before → PatternPlanned T s mode root 0 (replicate patternWords 0) binders scratch count → (o : MatchOutcome) → isMatch o ≡ true → r .list ≡ listAfter o list
               → (aMatch ≡ carriedResult o) × (after ≡ setNames (toBind (isUnbound s mode) (expr T root)) o before)
           by root b p (matched env) e l = (refl, names-set b p env l set)
           by root b p missed e l = absurd (false≢true e)
@@ -298,47 +306,47 @@ module _ (T : Tables) (s : Scope) (mode : ScopingMode) (pattern value : ℕ) {va
   pub ask-plan : PatternAsks T pattern (replicate 128 0) 0
   ask-plan = ask-pattern T pattern (record { table = run-table a; node = a .pattern-node })
 
-  module _ {binders scratch : List ℕ} {count : ℕ} (p : PatternPlanned T s mode pattern 0 (replicate 2048 0) binders scratch count) where
+  module _ {binders scratch : List ℕ} {count : ℕ} (p : PatternPlanned T s mode pattern 0 (replicate patternWords 0) binders scratch count) where
     pub ask-values : MatchValuesAsks T s mode scratch count value values
     ask-values = record { root = pattern; asks = a; laid = scratch-laid (p .wrote) (p .few) }
 
-    size : count ≡ length (entries (planOf T s mode pattern) 0)
+    size : count ≡ length (entries (planOf T s mode pattern) top)
     size = let e = p .wrote .end in omega arith
 
     module _ {buffer mid filled : List ℕ} {end : ℕ} {r : PlanAnswer} (w : Wrote buffer 0 (readEntries scratch 0 count) mid end) (d : Closed 0 end mid filled r) where
-      in-buffer : filled ≡ written (planned 0 0 (entries (planOf T s mode pattern) 0)) buffer
+      in-buffer : filled ≡ written (planned 0 0 (entries (planOf T s mode pattern) top)) buffer
       in-buffer =
           let f = p .few in
-          let l = length-replicate {A = ℕ} 2048 0 in
+          let l = length-replicate {A = ℕ} patternWords 0 in
           let e = wrote-read (p .wrote) (omega arith) in
-          wrote-closed 0 (entries (planOf T s mode pattern) 0) (rw e at w) d .buffer
+          wrote-closed 0 (entries (planOf T s mode pattern) top) (rw e at w) d .buffer
 
       same-space : length filled ≡ length buffer
-      same-space = go (leb end (length mid / 4)) refl ∙ wrote-long w
+      same-space = go (leb end (length mid / entryWords)) refl ∙ wrote-long w
         where
-          go : (b : Bool) → leb end (length mid / 4) ≡ b → length filled ≡ length mid
+          go : (b : Bool) → leb end (length mid / entryWords) ≡ b → length filled ≡ length mid
           go true e =
-              let f : filled ≡ tabulate (wordAt mid (end * 4)) 0 (length mid) = rw e at (d .buffer) in
-              ap length f ∙ length-tabulate (wordAt mid (end * 4)) 0 (length mid)
+              let f : filled ≡ tabulate (wordAt mid (end * entryWords)) 0 (length mid) = rw e at (d .buffer) in
+              ap length f ∙ length-tabulate (wordAt mid (end * entryWords)) 0 (length mid)
           go false e =
               let f : filled ≡ replicate (length mid) 0 = rw e at (d .buffer) in
               ap length f ∙ length-replicate {A = ℕ} (length mid) 0
 
-      pub too-large : length filled / 4 < count → Ran (plannedName (known s mode) (expr T pattern)) (carriedOut (entries (planOf T s mode pattern) 0) (ran T s mode pattern value values)) values buffer values filled (PlanTooLarge count)
+      pub too-large : length filled / entryWords < count → Ran (plannedName (known s mode) (expr T pattern)) (carriedOut (entries (planOf T s mode pattern) top) (ran T s mode pattern value values)) values buffer values filled (PlanTooLarge count)
       unfolding runAnswer planAfter valuesAfter
       too-large lt =
           let z = size in
-          let space : length filled / 4 ≡ length buffer / 4 = ap (λ (k : ℕ). k / 4) same-space in
-          let f : fits (entries (planOf T s mode pattern) 0) buffer ≡ false = lt-leb (length (entries (planOf T s mode pattern) 0)) (length buffer / 4) (rw z at (rw space at lt)) in
+          let space : length filled / entryWords ≡ length buffer / entryWords = ap (λ (k : ℕ). k / entryWords) same-space in
+          let f : fits (entries (planOf T s mode pattern) top) buffer ≡ false = lt-leb (length (entries (planOf T s mode pattern) top)) (length buffer / entryWords) (rw z at (rw space at lt)) in
           record { answer = rw f (ap (λ (n : ℕ). turnedBack (planTooLarge n)) z); plan = in-buffer; list = rw f }
 
-      pub carried : {after : List ℕ} {answer : RunAnswer} → count ≤ length filled / 4 → ValuesCame T s mode scratch count binders value values after answer
-          → Ran (plannedName (known s mode) (expr T pattern)) (carriedOut (entries (planOf T s mode pattern) 0) (ran T s mode pattern value values)) values buffer after filled answer
+      pub carried : {after : List ℕ} {answer : RunAnswer} → count ≤ length filled / entryWords → ValuesCame T s mode scratch count binders value values after answer
+          → Ran (plannedName (known s mode) (expr T pattern)) (carriedOut (entries (planOf T s mode pattern) top) (ran T s mode pattern value values)) values buffer after filled answer
       unfolding runAnswer planAfter valuesAfter
       carried le came =
           let z = size in
-          let space : length filled / 4 ≡ length buffer / 4 = ap (λ (k : ℕ). k / 4) same-space in
-          let f : fits (entries (planOf T s mode pattern) 0) buffer ≡ true = le-leb (length (entries (planOf T s mode pattern) 0)) (length buffer / 4) (rw z at (rw space at le)) in
+          let space : length filled / entryWords ≡ length buffer / entryWords = ap (λ (k : ℕ). k / entryWords) same-space in
+          let f : fits (entries (planOf T s mode pattern) top) buffer ≡ true = le-leb (length (entries (planOf T s mode pattern) top)) (length buffer / entryWords) (rw z at (rw space at le)) in
           let c = came .each pattern a p in
           let names = planned-is T s mode (a .sound) pattern (a .pattern-node) in
           record { answer = rw f (c .0); plan = in-buffer; list = rw f (c .1 ∙ sym (ap (λ (toSet : ℕ → Bool). setNames toSet (ran T s mode pattern value values) values) names)) }
@@ -359,7 +367,7 @@ module _ (T : Tables) (s : Scope) (mode : ScopingMode) (pattern value : ℕ) (va
       require (simple (expr T pattern)) patternNotSimple
       (require (isValue (expr T value) && valuesListed T values) notAValue
       (require (knownListed T (known s mode) (expr T pattern) values) nameWithoutValue
-      (carriedOut (entries (planOf T s mode pattern) 0) (ran T s mode pattern value values))))
+      (carriedOut (entries (planOf T s mode pattern) top) (ran T s mode pattern value values))))
   inside =
       let p = test-of-node T pattern (a .pattern-node) in
       let v = test-of-node T value (a .value-node) in
@@ -404,13 +412,13 @@ module _ (T : Tables) (s : Scope) (mode : ScopingMode) (pattern value : ℕ) (va
                   knownValues = told-yes by all-known;
                 }
 
-            pub goes-on : {buffer after filled : List ℕ} {answer : RunAnswer} → Runs (carriedOut (entries (planOf T s mode pattern) 0) (ran T s mode pattern value values)) buffer after filled answer
+            pub goes-on : {buffer after filled : List ℕ} {answer : RunAnswer} → Runs (carriedOut (entries (planOf T s mode pattern) top) (ran T s mode pattern value values)) buffer after filled answer
                 → Runs (runChecked T s mode pattern value values) buffer after filled answer
             goes-on r =
                 let e = told-yes is passed in
                 let f = told-yes of good-values in
                 let g = told-yes by all-known in
-                let q : runChecked T s mode pattern value values ≡ carriedOut (entries (planOf T s mode pattern) 0) (ran T s mode pattern value values) = inside ∙ rw (e, f, g) in
+                let q : runChecked T s mode pattern value values ≡ carriedOut (entries (planOf T s mode pattern) top) (ran T s mode pattern value values) = inside ∙ rw (e, f, g) in
                 rw q r
 
 -- the table check, the roots, the length of the list

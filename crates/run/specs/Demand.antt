@@ -14,11 +14,11 @@ use Rattle.table.specs.Tables.{Tables, nameCount, isNode}
 use Rattle.table.specs.Expr.{Expr}
 use Rattle.table.specs.Decode.{expr}
 use Rattle.table.specs.Check.{checked}
-use Rattle.planner.specs.Layout.{entries}
+use Rattle.planner.specs.Layout.{top, entryWords, entries}
 use Rattle.planner.specs.Operations.{planOf}
 use Rattle.planner.specs.Simple.{simple, mentions}
 use Rattle.value.specs.Value.{Value, isValue, valueOf, Proper, Same, EqualityLaws}
-use Rattle.matching.specs.Matching.{fault, Blanks, fill, SameBlanks, Filling, Makes}
+use Rattle.matching.specs.Matching.{fault, outcome, Blanks, fill, SameBlanks, Filling, Makes}
 use Rattle.run.specs.Answer.{RunResult, aMatch, noMatch}
 use Rattle.run.specs.Operations.{listedNode, isName, isValueNode, listed, ran, runOutcome, runAnswer, plannedName, valuesAfter}
 
@@ -30,7 +30,7 @@ module _ (T : Tables) (s : Scope) (mode : ScopingMode) (pattern value : ℕ) (va
     pub patternInside : isNode T pattern ≡ true
     pub valueInside : isNode T value ≡ true
     pub listLong : nameCount T ≤ length values
-    pub bufferLong : 4 * length (entries (planOf T s mode pattern) 0) ≤ length buffer
+    pub bufferLong : entryWords * length (entries (planOf T s mode pattern) top) ≤ length buffer
     pub patternSimple : simple (expr T pattern) ≡ true
     pub valueIsValue : isValue (expr T value) ≡ true
     pub listedAreValues : (x : ℕ) → isName T x ≡ true → (listedNode values x ≡ 0 → ⊥) → isValueNode T (listedNode values x) ≡ true
@@ -54,6 +54,8 @@ module _ (T : Tables) (s : Scope) (mode : ScopingMode) (pattern value : ℕ) (va
   -- of an answer and a list at exit
   pub record Promised (told : RunResult) (after : List ℕ) : Type 0 where
     pub decided : (told ≡ aMatch) ⊎ (told ≡ noMatch)
+    -- the entries, carried out by their positions, come to what the plan does as written
+    pub asPlanned : ran T s mode pattern value values ≡ outcome (isUnbound s mode) (listed T values) (expr T pattern) (valueOf (expr T value))
     -- no name is read without a value, none set that has one
     pub noFault : ran T s mode pattern value values ≡ fault → ⊥
     -- match exactly when some filling makes pattern and value equal

@@ -16,11 +16,12 @@ use Rattle.table.specs.Decode.{expr}
 use Rattle.base.specs.Lists.{allFrom, tabulate}
 use Rattle.base.specs.Refusal.{Refusal, planTooLarge, rootOutside, listTooShort, patternNotSimple, notAValue, nameWithoutValue, requireOr, Tested, testedOr}
 use Rattle.table.specs.Check.{checkedOr, allNodes}
-use Rattle.planner.specs.Layout.{Entry, entries}
+use Rattle.planner.specs.Layout.{Entry, top, entries}
 use Rattle.planner.specs.Operations.{planOf, planned, fits, zeros, written}
 use Rattle.planner.specs.Simple.{simple, mentions}
 use Rattle.value.specs.Value.{isValue, valueOf, valueAt, nodeIn}
-use Rattle.matching.specs.Matching.{Env, MatchOutcome, matched, missed, fault, outcome}
+use Rattle.matching.specs.Matching.{Env, MatchOutcome, matched, missed, fault, start}
+use Rattle.matching.specs.Reading.{runEntries}
 use Rattle.run.specs.declared.RunAnswer.{RunAnswer}
 use Rattle.run.specs.Answer.{RunResult, turnedBack, aMatch, noMatch, resultOf}
 
@@ -62,9 +63,9 @@ abbrev pub tableFirst : Tested → RunOutcome → RunOutcome
 tableFirst = testedOr refused
 
 module _ (T : Tables) (s : Scope) (mode : ScopingMode) (pattern value : ℕ) (values : List ℕ) where
-  -- the pattern's plan, run on the value from the listed values of the known names
+  -- the entries of the pattern's plan, carried out on the value from the listed values of the known names
   abbrev pub ran : MatchOutcome
-  ran = outcome (isUnbound s mode) (listed T values) (expr T pattern) (valueOf (expr T value))
+  ran = runEntries (expr T) (entries (planOf T s mode pattern) top) (valueOf (expr T value)) (start (isUnbound s mode) (listed T values))
 
   abbrev pub roots : List ℕ
   roots = pattern ∷ (value ∷ [])
@@ -76,7 +77,7 @@ module _ (T : Tables) (s : Scope) (mode : ScopingMode) (pattern value : ℕ) (va
       (require (simple (expr T pattern)) patternNotSimple
       (require (isValue (expr T value) && valuesListed T values) notAValue
       (require (knownListed T (known s mode) (expr T pattern) values) nameWithoutValue
-      (carriedOut (entries (planOf T s mode pattern) 0) ran))))
+      (carriedOut (entries (planOf T s mode pattern) top) ran))))
 
   abbrev pub runChecked : RunOutcome
   runChecked = require (allNodes T roots) rootOutside runInside

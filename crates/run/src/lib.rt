@@ -9,6 +9,8 @@ use matching::inner::match_pattern;
 use names::known_listed;
 use names::set_names;
 use names::start_list;
+use planner::buffer::ENTRY_WORDS;
+use planner::buffer::PATTERN_WORDS;
 use planner::buffer::clear;
 use planner::buffer::close;
 use planner::buffer::copy_entries;
@@ -45,7 +47,7 @@ fn match_values(
     text: &[u8],
     scope: Scope,
     scoping: ScopingMode,
-    scratch: &[u32; 2048],
+    scratch: &[u32; PATTERN_WORDS],
     count: usize,
     binders: &[u32; 128],
     value: u32,
@@ -94,7 +96,7 @@ fn carry_out(
     ensures { λ r. ⌜ CarriedIn values plan (lent nodes children numbers names strings text) scope scoping pattern value r ⌝ }
 {
     let mut binders = [0u32; 128];
-    let mut scratch = [0u32; 2048];
+    let mut scratch = [0u32; PATTERN_WORDS];
     let planned = plan_pattern(
         nodes,
         children,
@@ -112,7 +114,7 @@ fn carry_out(
     let count = planned.next;
     copy_entries(plan, 0, &scratch, count);
     close(plan, 0, count);
-    if plan.len() / 4 < count {
+    if plan.len() / ENTRY_WORDS < count {
         return RunAnswer::PlanTooLarge { needed: count };
     }
     match_values(

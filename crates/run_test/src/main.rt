@@ -255,10 +255,10 @@ fn used(words: &[u32]) -> usize
     0
 }
 
-fn filled() -> [u32; 128]
-    ensures { λ r. ⌜ 128 ≡ length r ⌝ }
+fn filled() -> [u32; 160]
+    ensures { λ r. ⌜ 160 ≡ length r ⌝ }
 {
-    [9; 128]
+    [9; 160]
 }
 
 fn no_nodes() -> [u32; 16]
@@ -287,7 +287,7 @@ fn run_case(line: &[u8], entries: usize, buffer_words: usize) {
     if 16 < entries {
         return;
     }
-    if 128 < buffer_words {
+    if 160 < buffer_words {
         return;
     }
     let parsed = parse(line, 23);

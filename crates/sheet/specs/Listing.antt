@@ -1,7 +1,7 @@
 -- What a sheet's operation comes to, and its listing.
 use Prim.Native.Nat.{ℕ, _-_}
 use mathlib.Core.Bool.{cond}
-use mathlib.Core.List.{List, [], _∷_, _++_, map}
+use mathlib.Core.List.{List, [], _∷_, _++_}
 use mathlib.Core.Path.{_≡_}
 use lib.Dec.{leb}
 use lib.ListN.{length, replicate}
@@ -16,26 +16,48 @@ use Rattle.sheet.specs.Sheet.{Sheet, Parsed, unparsed, parsed, parse, sc
 abbrev pub outcomeOf : Sheet → Outcome
 outcomeOf S = operationOutcome (S .held) (scopeOf (S .operation) (S .marks)) (operationOf (S .operation))
 
--- A plan has space for 1,536 entries. The lines: 0, form, side, entries, then each entry; or one of a refusal.
+-- The first line has the answer's four numbers; a line for each entry follows it.
+pub record Listing : Type 0 where
+  pub first : Line
+  pub entries : List Entry
+
+abbrev pub followed : Line → List Entry → Listing
+followed first es = record { first = first; entries = es }
+
+abbrev pub alone : Line → Listing
+alone first = followed first []
+
+-- A plan has space for 1,536 entries.
+unfoldable pub linesOf : Outcome → Listing
+linesOf (refused a) = alone (refusalLine a)
+linesOf (planned form side es) =
+    cond (leb (length es) 1536) (followed (line 0 form side (length es)) es) (alone (refusalLine (planTooLarge (length es))))
+
+abbrev pub linesOfSheet : Parsed → Listing
+linesOfSheet (unparsed r) = alone (refusalLine r)
+linesOfSheet (parsed S) = linesOf (outcomeOf S)
+
+-- columns of six
+unfoldable pub fourColumns : Line → List ℕ
+fourColumns l = writeColumn (l .number) ++ (writeColumn (l .second) ++ (writeColumn (l .third) ++ writeColumn (l .fourth)))
+
+-- four columns, then LF
+unfoldable pub lineBytes : Line → List ℕ
+lineBytes l = fourColumns l ++ (10 ∷ [])
+
+-- an entry's words in a column each, its written position last, then LF
 abbrev pub entryLine : Entry → Line
 entryLine e = line (e .kind) (e .node) (e .children) (e .key)
 
-unfoldable pub linesOf : Outcome → List Line
-linesOf (refused a) = refusalLine a ∷ []
-linesOf (planned form side es) =
-    cond (leb (length es) 1536) (line 0 form side (length es) ∷ map entryLine es) (refusalLine (planTooLarge (length es)) ∷ [])
+unfoldable pub entryBytes : Entry → List ℕ
+entryBytes e = fourColumns (entryLine e) ++ (writeColumn (e .position) ++ (10 ∷ []))
 
-abbrev pub linesOfSheet : Parsed → List Line
-linesOfSheet (unparsed r) = refusalLine r ∷ []
-linesOfSheet (parsed S) = linesOf (outcomeOf S)
+unfoldable pub entriesBytes : List Entry → List ℕ
+entriesBytes [] = []
+entriesBytes (e ∷ es) = entryBytes e ++ entriesBytes es
 
--- four columns of six, then LF
-unfoldable pub lineBytes : Line → List ℕ
-lineBytes l = writeColumn (l .number) ++ (writeColumn (l .second) ++ (writeColumn (l .third) ++ (writeColumn (l .fourth) ++ (10 ∷ []))))
-
-unfoldable pub linesBytes : List Line → List ℕ
-linesBytes [] = []
-linesBytes (l ∷ ls) = lineBytes l ++ linesBytes ls
+abbrev pub linesBytes : Listing → List ℕ
+linesBytes l = lineBytes (l .first) ++ entriesBytes (l .entries)
 
 -- the listing of a sheet
 unfoldable pub listingOf : List ℕ → List ℕ

@@ -20,13 +20,13 @@ use crate::tables::read_tables;
 use operation::numbers::operation_of;
 use operation::row::Row;
 use operation::row::row_of;
+use planner::buffer::ENTRY_WORDS;
 use scope::Scope;
 
-// A plan has four words an entry.
-const PLAN_WORDS: usize = 4 * 1536;
+const PLAN_WORDS: usize = ENTRY_WORDS * 1536;
 
 // The small space. The longest plan found for 64 nodes is an `=` of 226 entries; what needs more is planned again.
-const SMALL_PLAN_WORDS: usize = 4 * 240;
+const SMALL_PLAN_WORDS: usize = ENTRY_WORDS * 240;
 
 const SMALL_NODES: usize = 64;
 

@@ -17,7 +17,7 @@ use Rattle.table.specs.Decode.{expr}
 use Rattle.planner.specs.declared.PlanAnswer.{PlanAnswer}
 use Rattle.planner.specs.declared.PlanAnswer.the-variants.{RootOutside, VariableAlreadyDefined, ArrayLengthMismatch, ObjectLiteralKeysMismatch}
 use Rattle.base.specs.Refusal.{passed}
-use Rattle.planner.specs.Layout.{Entry, entries}
+use Rattle.planner.specs.Layout.{Entry, top, entries}
 use Rattle.planner.specs.Entries.{Wrote}
 use Rattle.planner.specs.Operations.{planned, planOf, Answered}
 use Rattle.planner.specs.code.Post.{PatternPlanned, Closed}
@@ -62,7 +62,7 @@ module _ (T : Tables) (s : Scope) (value collection : ℕ) {at : ℕ} {mid last 
 
   pub value-closed : {r : PlanAnswer} → name ≡ 0 → {c : LiteralStructureCheck} → c ≡ collectionStructure (expr T collection) (expr T value) → SomeInClosed form c end last later r → ValueAnswered T s value collection form at mid later r
   value-closed none-defined is d = record {
-    told = λ before ks w. rw (← (p .defined)) (passes-undefined _ none-defined (rw (← is) (d .told before (ks ++ entries (planOf T s RespectParent value) 0) (wrote-append w (p .wrote)))));
+    told = λ before ks w. rw (← (p .defined)) (passes-undefined _ none-defined (rw (← is) (d .told before (ks ++ entries (planOf T s RespectParent value) top) (wrote-append w (p .wrote)))));
   }
 
 -- the key's
@@ -74,7 +74,7 @@ module _ (T : Tables) (s : Scope) (value collection key : ℕ) (a : KeyAsks T va
   key-refused d z = let k = a-key a in rw (k, ← (p .defined)) (refuses-defined _ d (cleared (p .wrote) z))
 
   pub key-answered : {r : PlanAnswer} → name ≡ 0 → ValueAnswered T s value collection 1 end mid later r → Answered (someInPlanned T s value collection key) before later r
-  key-answered none-defined v = let k = a-key a in rw (k, ← (p .defined)) (passes-undefined _ none-defined (v .told before (entries (planOf T s RespectParent key) 0) (p .wrote)))
+  key-answered none-defined v = let k = a-key a in rw (k, ← (p .defined)) (passes-undefined _ none-defined (v .told before (entries (planOf T s RespectParent key) top) (p .wrote)))
 
 -- no key
 pub without-key : (T : Tables) (s : Scope) (value collection : ℕ) {before later : List ℕ} {r : PlanAnswer} → ValueAnswered T s value collection 0 0 before later r → Answered (someInPlanned T s value collection 0) before later r

@@ -14,7 +14,7 @@ use Rattle.table.specs.Decode.{expr}
 use Rattle.table.specs.Expr.{Expr, literal, name, wildcard, array, set, object, other, Exprs, none, item, parts, partsAll}
 use Rattle.table.specs.code.Sound.{WellFormed}
 use Rattle.table.proofs.tests.Bools.{and-true}
-use Rattle.planner.specs.Layout.{entries}
+use Rattle.planner.specs.Layout.{top, entries}
 use Rattle.planner.specs.Operations.{planned, planOf, validated}
 use Rattle.planner.specs.Short.{ShortEntry, Every, ShortOutcome}
 use Rattle.planner.proofs.laws.ShortPlans.{Small, SmallTree, small-left, small-right, small-tail, every-append}
@@ -68,21 +68,21 @@ module _ (T : Tables) (s : Scope) (w : WellFormed T) (key : ℕ) (given : (eqb k
   key-few : length (keyEntries T s key) ≤ 512
   key-few = go (eqb key 0) given
     where
-      go : (b : Bool) → (b || isNode T key) ≡ true → length (cond b [] (entries (planOf T s RespectParent key) 0)) ≤ 512
+      go : (b : Bool) → (b || isNode T key) ≡ true → length (cond b [] (entries (planOf T s RespectParent key) top)) ≤ 512
       go true i = omega arith
       go false i = entries-few T s RespectParent key (root-small T w key i)
 
   key-short : Every ShortEntry (keyEntries T s key)
   key-short = go (eqb key 0) given
     where
-      go : (b : Bool) → (b || isNode T key) ≡ true → Every ShortEntry (cond b [] (entries (planOf T s RespectParent key) 0))
+      go : (b : Bool) → (b || isNode T key) ≡ true → Every ShortEntry (cond b [] (entries (planOf T s RespectParent key) top))
       go true i = tt
       go false i = entries-short T s RespectParent key (root-small T w key i)
 
   planned-in-short : (value collection : ℕ) → isNode T value ≡ true → isNode T collection ≡ true → ShortOutcome (someInPlanned T s value collection key)
   planned-in-short value collection v c =
       let small = root-small T w value v in
-      let es = entries (planOf T s RespectParent value) 0 in
+      let es = entries (planOf T s RespectParent value) top in
       let few : length es ≤ 512 = entries-few T s RespectParent value small in
       let keys = key-few in
       let all = length-append (keyEntries T s key) es in

@@ -8,7 +8,7 @@ use Rattle.scope.specs.declared.ScopingMode.the-variants.{RespectParent}
 use Rattle.table.specs.Tables.{Tables}
 use Rattle.table.specs.Expr.{Expr, literal, name, wildcard, array, set, object, other, Exprs, none, item}
 use Rattle.table.specs.Decode.{expr}
-use Rattle.planner.specs.Layout.{Entry, entries}
+use Rattle.planner.specs.Layout.{Entry, top, entries}
 use Rattle.planner.specs.Operations.{Outcome, planned, checkedFirst, planOf, validated, unlessDefined}
 use Rattle.checks.specs.declared.LiteralStructureCheck.{LiteralStructureCheck}
 use Rattle.checks.specs.declared.LiteralStructureCheck.the-variants.{Match, Unknown, ArrayMismatch, ObjectMismatch}
@@ -50,7 +50,7 @@ abbrev pub keyCheck : Tables → Scope → ℕ → ℕ
 keyCheck T s key = cond (eqb key 0) 0 (validated T s RespectParent key)
 
 abbrev pub keyEntries : Tables → Scope → ℕ → List Entry
-keyEntries T s key = cond (eqb key 0) [] (entries (planOf T s RespectParent key) 0)
+keyEntries T s key = cond (eqb key 0) [] (entries (planOf T s RespectParent key) top)
 
 abbrev pub keyForm : ℕ → ℕ
 keyForm key = cond (eqb key 0) 0 1
@@ -63,7 +63,7 @@ abbrev pub valuePlanned : Tables → Scope → ℕ → ℕ → ℕ → List Entr
 valuePlanned T s value collection form keys =
     unlessDefined (validated T s RespectParent value)
     (unlessMismatch (collectionStructure (expr T collection) (expr T value))
-    (planned form 0 (keys ++ entries (planOf T s RespectParent value) 0)))
+    (planned form 0 (keys ++ entries (planOf T s RespectParent value) top)))
 
 abbrev pub someInPlanned : Tables → Scope → ℕ → ℕ → ℕ → Outcome
 someInPlanned T s value collection key = unlessDefined (keyCheck T s key) (valuePlanned T s value collection (keyForm key) (keyEntries T s key))

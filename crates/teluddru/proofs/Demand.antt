@@ -14,7 +14,7 @@ use Rattle.table.specs.Check.{checked, allNodes}
 use Rattle.table.proofs.tests.Bools.{and-true}
 use Rattle.base.specs.Refusal.{Refusal, Tested, rootOutside, listTooShort, patternNotSimple, notAValue, nameWithoutValue}
 use Rattle.base.specs.Refusal as Refusal
-use Rattle.planner.specs.Layout.{entries}
+use Rattle.planner.specs.Layout.{top, entries}
 use Rattle.planner.specs.Operations as Planner
 use Rattle.planner.specs.Operations.{Outcome, planned, planOf, patternPlanned, patternOutcome, written}
 use Rattle.planner.specs.Simple.{simple}
@@ -62,9 +62,9 @@ module _ (T : Tables) (s : Scope) (mode : ScopingMode) (pattern value : ℕ) (va
       let aValue = and-true (isValue (expr T value)) (valuesListed T values) (v .0) .0 in
       let areValues = and-true (isValue (expr T value)) (valuesListed T values) (v .0) .1 in
       let areKnown = k .0 in
-      let whole : runOutcome T s mode pattern value values ≡ carriedOut (entries (planOf T s mode pattern) 0) (ran T s mode pattern value values) =
+      let whole : runOutcome T s mode pattern value values ≡ carriedOut (entries (planOf T s mode pattern) top) (ran T s mode pattern value values) =
       ap (λ (a : Tested). tableFirst a (runChecked T s mode pattern value values)) sound ∙ rw (one, two, long, isSimple, aValue, areValues, areKnown) in
-      let call : patternOutcome T s mode pattern ≡ planned 0 0 (entries (planOf T s mode pattern) 0) =
+      let call : patternOutcome T s mode pattern ≡ planned 0 0 (entries (planOf T s mode pattern) top) =
       ap (λ (a : Tested). Planner.tableFirst a (Planner.require (allNodes T (pattern ∷ [])) rootOutside (patternPlanned T s mode pattern))) sound ∙ rw one in
       record {
         carries = whole;

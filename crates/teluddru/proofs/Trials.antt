@@ -16,6 +16,7 @@ use Rattle.table.specs.Check.{checked}
 use Rattle.planner.specs.Plan.{plan}
 use Rattle.planner.specs.Layout.{insert, concat, entries, words, bindsAny}
 use Rattle.planner.specs.Operations.{answered, written}
+use Rattle.planner.specs.Entries.{readEntries}
 use Rattle.checks.specs.Structure.{keyTexts, insertText, sortTexts, sameTexts, structure}
 use Rattle.planner.specs.Held.{heldUnder, valueOrder}
 use Rattle.assignment.specs.Pairs.{pairsEntries, flatten}
@@ -24,9 +25,10 @@ use Rattle.planner.specs.Simple.{hasKey, differing, keysOf, admitted}
 use Rattle.value.specs.Value.{valueOf, same, within, keysᵛ, under}
 use Rattle.planner.specs.Names.{occurrences, namesOf}
 use Rattle.matching.specs.Matching.{run, planKeys, sameLength}
+use Rattle.matching.specs.Reading.{insertWritten, asWritten, itemsRead, fieldsRead, plansRead}
 use Rattle.run.specs.Operations.{valuesListed, knownListed, runAnswer, valuesAfter}
 use Rattle.operation.specs.Operation.{operationOutcome}
-use Rattle.teluddru.specs.Trial.{Shown, Trial, trials, rows, oneByteEach, positive}
+use Rattle.teluddru.specs.Trial.{Shown, Trial, trials, oneByteEach, positive}
 
 abbrev shownIn : Trial → Shown
 shownIn t = t .shown
@@ -35,5 +37,5 @@ abbrev expectedIn : Trial → Shown
 expectedIn t = t .expected
 
 pub trials-hold : map shownIn trials ≡ map expectedIn trials
-unfolding isNumber literalOf bytesOrder keyOrder keyText digits isUnderscore declaredUnbound local bound global isUnbound known isName sameScope smallMarks marksOk recordWord widthOf nameBytes sameBytes depth count refOf literalNode items fields headed exprAt expr allFrom elem noRepeat withinLimits wholeRecords spanOk nameTextOk wordsOk childrenBelow nodeOk placesFrom usedPlaces nameOk scopeOk followsRules shallow namesDiffer checked plan insert concat entries words bindsAny answered written valueOrder keyTexts insertText sortTexts sameTexts heldUnder structure pairsEntries flatten firstSameScope rows oneByteEach positive operationOutcome admitted hasKey differing keysOf occurrences namesOf valueOf same within keysᵛ under run planKeys sameLength valuesListed knownListed runAnswer valuesAfter tabulate
+unfolding isNumber literalOf bytesOrder keyOrder keyText digits isUnderscore declaredUnbound local bound global isUnbound known isName sameScope smallMarks marksOk recordWord widthOf nameBytes sameBytes depth count refOf literalNode items fields headed exprAt expr allFrom elem noRepeat withinLimits wholeRecords spanOk nameTextOk wordsOk childrenBelow nodeOk placesFrom usedPlaces nameOk scopeOk followsRules shallow namesDiffer checked plan insert concat entries words bindsAny answered written valueOrder keyTexts insertText sortTexts sameTexts heldUnder structure pairsEntries flatten firstSameScope readEntries oneByteEach positive operationOutcome admitted hasKey differing keysOf occurrences namesOf valueOf same within keysᵛ under run planKeys sameLength insertWritten asWritten itemsRead fieldsRead plansRead valuesListed knownListed runAnswer valuesAfter tabulate
 trials-hold = refl

@@ -8,10 +8,11 @@ use Rattle.scope.specs.Scope.{isUnbound, known}
 use Rattle.table.specs.Tables.{Tables}
 use Rattle.table.specs.Decode.{expr}
 use Rattle.base.specs.Refusal.{Refusal}
-use Rattle.planner.specs.Layout.{entries}
+use Rattle.planner.specs.Layout.{top, entries}
 use Rattle.planner.specs.Operations.{planned, planOf, patternOutcome, written}
 use Rattle.value.specs.Value.{valueOf}
-use Rattle.matching.specs.Matching.{run, start}
+use Rattle.matching.specs.Matching.{start}
+use Rattle.matching.specs.Reading.{runEntries}
 use Rattle.assignment.specs.PairsDemand.{PairsDemand}
 use Rattle.run.specs.declared.RunAnswer.{RunAnswer}
 use Rattle.run.specs.Answer.{resultOf}
@@ -19,11 +20,11 @@ use Rattle.run.specs.Operations.{refused, carriedOut, listed, runOutcome, planA
 use Rattle.run.specs.Demand as Run
 
 module _ (T : Tables) (s : Scope) (mode : ScopingMode) (pattern value : ℕ) (values buffer : List ℕ) where
-  -- the plan that is carried out, and that stands in the buffer afterwards, is the one that the pattern call plans
+  -- the entries that are carried out, and that stand in the buffer afterwards, are those that the pattern call plans
   pub record SamePlan : Type 0 where
     pub carries : runOutcome T s mode pattern value values
-        ≡ carriedOut (entries (planOf T s mode pattern) 0) (run (planOf T s mode pattern) (valueOf (expr T value)) (start (isUnbound s mode) (listed T values)))
-    pub plans : patternOutcome T s mode pattern ≡ planned 0 0 (entries (planOf T s mode pattern) 0)
+        ≡ carriedOut (entries (planOf T s mode pattern) top) (runEntries (expr T) (entries (planOf T s mode pattern) top) (valueOf (expr T value)) (start (isUnbound s mode) (listed T values)))
+    pub plans : patternOutcome T s mode pattern ≡ planned 0 0 (entries (planOf T s mode pattern) top)
     pub leaves : planAfter (runOutcome T s mode pattern value values) buffer ≡ written (patternOutcome T s mode pattern) buffer
 
   -- an answer, a list and a buffer at exit that meet Run's contract

@@ -1,16 +1,18 @@
 -- Rules on trial, starred: what the definitions show for a rule, and what document 01 says.
-use Prim.Native.Nat.{ℕ, zero, suc, _+_, _-_}
+use Prim.Native.Nat.{ℕ, _+_, _-_, _*_}
 use mathlib.Core.Bool.{Bool, false, cond}
 use lib.Dec.{eqb}
 use mathlib.Core.List.{List, [], _∷_, _++_}
-use lib.ListN.{length, getD, drop, replicate}
+use lib.ListN.{length, replicate}
 use Rattle.scope.specs.declared.Scope.{Scope}
 use Rattle.scope.specs.declared.ScopingMode.the-variants.{RespectParent}
 use Rattle.scope.specs.Scope.{known}
 use Rattle.table.specs.Tables.{Tables, tables, nameCount}
 use Rattle.table.specs.Decode.{expr}
 use Rattle.base.specs.Refusal.{Line, line}
+use Rattle.planner.specs.Layout.{Entry, entryWords, below, entry}
 use Rattle.planner.specs.Operations.{Outcome, answered, written}
+use Rattle.planner.specs.Entries.{readEntries}
 use Rattle.run.specs.Answer.{RunResult, aMatch}
 use Rattle.run.specs.Operations.{RunOutcome, runOutcome, runAnswer, valuesAfter, plannedName}
 use Rattle.operation.specs.declared.Operation.{Operation}
@@ -19,7 +21,7 @@ use Rattle.operation.specs.Operation.{operationOutcome}
 
 -- an answer's line with its entries, or a run's answer with the list afterwards
 pub data Shown : Type 0 where
-  planned : List Line → Shown
+  planned : Line → List Entry → Shown
   ran : RunResult → List ℕ → Shown
 
 pub record Trial : Type 0 where
@@ -28,19 +30,18 @@ pub record Trial : Type 0 where
 
 -- a buffer of 16 entries
 abbrev pub blank : List ℕ
-blank = replicate 64 0
+blank = replicate (16 * entryWords) 0
 
--- k entries of a buffer
-unfoldable pub rows : ℕ → List ℕ → List Line
-rows zero words = []
-rows (suc k) words = line (getD words 0 0) (getD words 1 0) (getD words 2 0) (getD words 3 0) ∷ rows k (drop 4 words)
+-- kind, node, children, key node or 0, written position or 0
+abbrev pub row : ℕ → ℕ → ℕ → ℕ → ℕ → Entry
+row kind node children key position = entry kind node children (below key position)
 
 -- an answer's line, then its entries; a refusal has none
 abbrev pub entriesIn : Line → ℕ
 entriesIn l = cond (eqb (l .number) 0) (l .fourth) 0
 
-abbrev pub listing : Outcome → List Line
-listing o = answered o blank ∷ rows (entriesIn (answered o blank)) (written o blank)
+abbrev pub listing : Outcome → Shown
+listing o = planned (answered o blank) (readEntries (written o blank) 0 (entriesIn (answered o blank)))
 
 -- Marks of the names 1, 2 and so on; the others have none.
 abbrev pub marked : List ℕ → Scope
@@ -85,7 +86,7 @@ abbrev pub rule : List ℕ → List ℕ → List ℕ → List ℕ → List ℕ �
 rule names strings numbers children nodes = tables nodes children (positive numbers) (oneByteEach 0 names) strings names
 
 abbrev pub planning : List ℕ → Tables → Operation → Shown
-planning marks T operation = planned (listing (operationOutcome T (marked marks) operation))
+planning marks T operation = listing (operationOutcome T (marked marks) operation)
 
 abbrev pub pattern : Tables → ℕ → Shown
 pattern T root = planning [] T (Pattern RespectParent root)
@@ -120,41 +121,41 @@ abbrev pub trials : List Trial
 trials =
     record {
       shown = pattern twice 3;
-      expected = planned (line 0 0 0 3 ∷ line 5 3 2 0 ∷ line 1 1 0 0 ∷ line 3 2 0 0 ∷ []);
+      expected = planned (line 0 0 0 3) (row 5 3 2 0 0 ∷ row 1 1 0 0 1 ∷ row 3 2 0 0 2 ∷ []);
     }
     -- x := 1, where x is bound in this scope, and where it is bound above
     ∷ record {
       shown = colonEquals (2 ∷ []) (rule (x ∷ []) [] (1 ∷ []) [] (nameNode 1 (numberNode 0 []))) 1 2;
-      expected = planned (line 17 1 0 0 ∷ []);
+      expected = planned (line 17 1 0 0) [];
     }
     ∷ record {
       shown = colonEquals (1 ∷ []) (rule (x ∷ []) [] (1 ∷ []) [] (nameNode 1 (numberNode 0 []))) 1 2;
-      expected = planned (line 0 1 0 1 ∷ line 1 1 0 0 ∷ []);
+      expected = planned (line 0 1 0 1) (row 1 1 0 0 0 ∷ []);
     }
     -- 1 := 1
     ∷ record {
       shown = colonEquals [] (rule [] [] (1 ∷ 1 ∷ []) [] (numberNode 0 (numberNode 1 []))) 1 2;
-      expected = planned (line 11 1 0 0 ∷ []);
+      expected = planned (line 11 1 0 0) [];
     }
     -- _ := 1
     ∷ record {
       shown = colonEquals [] (rule (underscore ∷ []) [] (1 ∷ []) [] (nameNode 1 (numberNode 0 []))) 1 2;
-      expected = planned (line 0 1 0 1 ∷ line 2 1 0 0 ∷ []);
+      expected = planned (line 0 1 0 1) (row 2 1 0 0 0 ∷ []);
     }
     -- x = y
     ∷ record {
       shown = equals (rule (x ∷ y ∷ []) [] [] [] (nameNode 1 (nameNode 2 []))) 1 2;
-      expected = planned (line 18 1 0 0 ∷ []);
+      expected = planned (line 18 1 0 0) [];
     }
     -- _ = y
     ∷ record {
       shown = equals (rule (underscore ∷ y ∷ []) [] [] [] (nameNode 1 (nameNode 2 []))) 1 2;
-      expected = planned (line 0 6 1 0 ∷ []);
+      expected = planned (line 0 6 1 0) [];
     }
     -- [_] = [x]
     ∷ record {
       shown = equals (rule (underscore ∷ x ∷ []) [] [] (1 ∷ 3 ∷ []) (nameNode 1 (arrayNode 0 1 (nameNode 2 (arrayNode 1 1 []))))) 2 4;
-      expected = planned (line 18 1 0 0 ∷ []);
+      expected = planned (line 18 1 0 0) [];
     }
     -- [x, 1] = [1, x]
     ∷ record {
@@ -162,7 +163,7 @@ trials =
           equals
           (rule (x ∷ []) [] (1 ∷ 1 ∷ []) (1 ∷ 2 ∷ 4 ∷ 5 ∷ []) (nameNode 1 (numberNode 0 (arrayNode 0 2 (numberNode 1 (nameNode 1 (arrayNode 2 2 [])))))))
           3 6;
-      expected = planned (line 0 4 0 4 ∷ line 7 4 1 0 ∷ line 1 1 0 0 ∷ line 7 5 1 0 ∷ line 3 2 0 0 ∷ []);
+      expected = planned (line 0 4 0 4) (row 7 4 1 0 0 ∷ row 1 1 0 0 1 ∷ row 7 5 1 0 0 ∷ row 3 2 0 0 1 ∷ []);
     }
     -- [x] := [1, 2]
     ∷ record {
@@ -170,7 +171,7 @@ trials =
           colonEquals []
           (rule (x ∷ []) [] (1 ∷ 2 ∷ []) (1 ∷ 3 ∷ 4 ∷ []) (nameNode 1 (arrayNode 0 1 (numberNode 0 (numberNode 1 (arrayNode 1 2 []))))))
           2 5;
-      expected = planned (line 13 5 1 2 ∷ []);
+      expected = planned (line 13 5 1 2) [];
     }
     -- [x, [y]] := [1, [1, 2]]
     ∷ record {
@@ -179,7 +180,7 @@ trials =
           (rule (x ∷ y ∷ []) [] (1 ∷ 1 ∷ 2 ∷ []) (2 ∷ 1 ∷ 3 ∷ 6 ∷ 7 ∷ 5 ∷ 8 ∷ [])
           (nameNode 1 (nameNode 2 (arrayNode 0 1 (arrayNode 1 2 (numberNode 0 (numberNode 1 (numberNode 2 (arrayNode 3 2 (arrayNode 5 2 []))))))))))
           4 9;
-      expected = planned (line 0 1 0 4 ∷ line 5 4 2 0 ∷ line 1 1 0 0 ∷ line 5 3 1 0 ∷ line 1 2 0 0 ∷ []);
+      expected = planned (line 0 1 0 4) (row 5 4 2 0 0 ∷ row 1 1 0 0 1 ∷ row 5 3 1 0 2 ∷ row 1 2 0 0 1 ∷ []);
     }
     -- {1: x} := {"1": 2}
     ∷ record {
@@ -187,7 +188,7 @@ trials =
           colonEquals []
           (rule (x ∷ []) (49 ∷ []) (1 ∷ 2 ∷ []) (1 ∷ 2 ∷ 4 ∷ 5 ∷ []) (numberNode 0 (nameNode 1 (objectNode 0 1 (stringNode 0 1 (numberNode 1 (objectNode 2 1 [])))))))
           3 6;
-      expected = planned (line 0 1 0 2 ∷ line 6 3 1 0 ∷ line 1 2 0 1 ∷ []);
+      expected = planned (line 0 1 0 2) (row 6 3 1 0 0 ∷ row 1 2 0 1 1 ∷ []);
     }
     -- {"b": x, "a": x}: its plan lists a first
     ∷ record {
@@ -195,7 +196,7 @@ trials =
           pattern
           (rule (x ∷ []) (98 ∷ 97 ∷ []) [] (1 ∷ 2 ∷ 3 ∷ 4 ∷ []) (stringNode 0 1 (nameNode 1 (stringNode 1 1 (nameNode 1 (objectNode 0 2 []))))))
           5;
-      expected = planned (line 0 0 0 3 ∷ line 6 5 2 0 ∷ line 3 4 0 3 ∷ line 1 2 0 1 ∷ []);
+      expected = planned (line 0 0 0 3) (row 6 5 2 0 0 ∷ row 3 4 0 3 2 ∷ row 1 2 0 1 1 ∷ []);
     }
     -- {"b": x, "a": x} on {"a": 1, "b": 1}: x is the 1 under b, the first as written
     ∷ record {

@@ -22,7 +22,17 @@ pub struct Entry {
     pub node: u32,
     pub children: u32,
     pub key: u32,
+    /// Written position under its parent, from 1, or 0 (document 02, slip 6). The Rust has none.
+    pub position: u32,
 }
+
+impl Entry {
+    pub fn words(&self) -> [u32; ENTRY_WORDS] {
+        [self.kind, self.node, self.children, self.key, self.position]
+    }
+}
+
+pub const ENTRY_WORDS: usize = 5;
 
 #[derive(Clone, Copy, Debug, PartialEq, Eq)]
 pub struct Refusal {
@@ -48,19 +58,23 @@ impl Refusal {
 impl Answer {
     /// Writes the listing and then zeros; the bytes of the listing, or 0 where it doesn't fit.
     pub fn write(&self, output: &mut [u8]) -> usize {
-        let length = LINE * (1 + self.entries().len());
+        let length = self.length();
         if output.len() < length {
             output.fill(0);
             return 0;
         }
         let (listing, rest) = output.split_at_mut(length);
-        let mut lines = listing.chunks_exact_mut(LINE);
-        line(lines.next().expect("a first line"), self.head());
-        for (bytes, entry) in lines.zip(self.entries()) {
-            line(bytes, [entry.kind, entry.node, entry.children, entry.key]);
+        let (head, lines) = listing.split_at_mut(HEAD);
+        line(head, &self.head());
+        for (bytes, entry) in lines.chunks_exact_mut(LINE).zip(self.entries()) {
+            line(bytes, &entry.words());
         }
         rest.fill(0);
         length
+    }
+
+    fn length(&self) -> usize {
+        HEAD + LINE * self.entries().len()
     }
 
     fn entries(&self) -> &[Entry] {
@@ -77,20 +91,22 @@ impl Answer {
 
 impl fmt::Display for Answer {
     fn fmt(&self, f: &mut fmt::Formatter<'_>) -> fmt::Result {
-        let mut listing = vec![0; LINE * (1 + self.entries().len())];
+        let mut listing = vec![0; self.length()];
         self.write(&mut listing);
         f.write_str(std::str::from_utf8(&listing).expect("digits, blanks and line feeds"))
     }
 }
 
 const COLUMN: usize = 6;
-const LINE: usize = 4 * COLUMN + 1;
+/// The first line, and an entry's.
+pub const HEAD: usize = 4 * COLUMN + 1;
+pub const LINE: usize = ENTRY_WORDS * COLUMN + 1;
 
-fn line(line: &mut [u8], numbers: [u32; 4]) {
+fn line(line: &mut [u8], numbers: &[u32]) {
     for (column, number) in line.chunks_exact_mut(COLUMN).zip(numbers) {
-        write(column, number);
+        write(column, *number);
     }
-    line[LINE - 1] = b'\n';
+    line[numbers.len() * COLUMN] = b'\n';
 }
 
 fn write(column: &mut [u8], number: u32) {

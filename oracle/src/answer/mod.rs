@@ -13,7 +13,7 @@ mod sheet;
 mod tables;
 mod texts;
 
-pub use listing::{Answer, Entry, Outcome, Refusal};
+pub use listing::{Answer, Entry, Outcome, Refusal, ENTRY_WORDS, HEAD, LINE};
 pub use operation::CAPACITY;
 pub use ready::{Planned, Ready};
 

@@ -1,5 +1,6 @@
 //! A run that is asked for.
 
+use crate::answer::ENTRY_WORDS;
 use crate::sheets::Draft;
 
 #[derive(Clone, Debug)]
@@ -42,7 +43,7 @@ impl Case {
             scheduler: draft.scheduler,
             scoping: draft.scoping,
             values: vec![0; draft.names.len()],
-            room: 4 * draft.nodes.len(),
+            room: ENTRY_WORDS * draft.nodes.len(),
             answer_room: 4,
             origin: Origin::Unrelated,
             draft,

@@ -3,7 +3,7 @@
 use super::case::Case;
 use super::filling::{names, Blanks, Filling};
 use super::reading::{expr, is_node, literal_keys, value_at, Expr};
-use crate::answer::{answer, Entry};
+use crate::answer::{answer, Entry, ENTRY_WORDS};
 use crate::sheets::Draft;
 use std::collections::BTreeMap;
 
@@ -52,8 +52,9 @@ fn run(case: &Case) -> Result<Ran, [u32; 4]> {
     let mut met = names(&pattern).0;
     met.retain(|name| !case.is_unbound(*name));
     refuse(met.iter().any(|name| listed[*name as usize - 1] == 0), 23)?;
-    if case.room / 4 * 4 < plan.len() {
-        return Err([6, 0, plan.len() as u32 / 4, 0]);
+    let entries = plan.len() / ENTRY_WORDS;
+    if case.room / ENTRY_WORDS < entries {
+        return Err([6, 0, entries as u32, 0]);
     }
     let node = |name: u32| value_at(case, listed[name as usize - 1]).expect("it is a value");
     let known: BTreeMap<_, _> = met.into_iter().map(|name| (name, node(name))).collect();
@@ -80,9 +81,8 @@ fn checked_plan(case: &Case) -> Result<Vec<u32>, u32> {
         names: names.map(|(name, marks)| [name[0], name[1], marks.into()]).collect(),
         ..case.draft.clone()
     };
-    let words = |entry: &Entry| [entry.kind, entry.node, entry.children, entry.key];
     match answer(&draft.bytes()).outcome {
-        Ok(plan) => Ok(plan.entries.iter().flat_map(words).collect()),
+        Ok(plan) => Ok(plan.entries.iter().flat_map(Entry::words).collect()),
         Err(refusal) if refusal.number == 5 => Ok(Vec::new()),
         Err(refusal) => Err(refusal.number),
     }
@@ -156,7 +156,7 @@ mod tests {
         assert_eq!(number(&case), 23);
         case.values[x as usize - 1] = case.draft.roots[1];
         assert_eq!(number(&case), 6);
-        case.room = 4;
+        case.room = ENTRY_WORDS;
         assert_eq!(number(&case), 0);
     }
 }

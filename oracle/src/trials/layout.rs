@@ -15,7 +15,7 @@ const SHEET: &str = concat!(
     "     1     1     0\n",
     "[x, x]",
 );
-const PLAN: &str = "0 0 0 3, 5 3 2 0, 1 1 0 0, 3 2 0 0";
+const PLAN: &str = "0 0 0 3, 5 3 2 0 0, 1 1 0 0 1, 3 2 0 0 2";
 const OVER: &str = "1 0 0 0";
 const BROKEN: &str = "7 0 0 0";
 

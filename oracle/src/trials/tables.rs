@@ -6,8 +6,8 @@ use crate::sheets::{encode, rule};
 
 /// One node of each kind. The set's entry is the first, the object's two come next.
 const ALL_KINDS: &str = r#"pattern [x, "s", `r`, 7, true, null, f(), {x}, {1: y}]"#;
-const PLAN: &str = "0 0 0 11, 5 13 9 0, 1 1 0 0, 4 2 0 0, 4 3 0 0, 4 4 0 0, 4 5 0 0, 4 6 0 0, \
-                    3 7 0 0, 3 9 0 0, 6 12 1 0, 1 11 0 10";
+const PLAN: &str = "0 0 0 11, 5 13 9 0 0, 1 1 0 0 1, 4 2 0 0 2, 4 3 0 0 3, 4 4 0 0 4, 4 5 0 0 5, \
+                    4 6 0 0 6, 3 7 0 0 7, 3 9 0 0 8, 6 12 1 0 9, 1 11 0 10 1";
 const BROKEN: &str = "2 0 0 0";
 
 /// Places of nodes in `ALL_KINDS`, one below their numbers.
@@ -114,7 +114,7 @@ fn names() -> [Trial; 5] {
         with("a name past the text", ALL_KINDS, name(TEXT, 1), BROKEN),
         with("a name at the end of the text", ALL_KINDS, name(TEXT - 1, 1), PLAN),
         with("two names of equal bytes", ALL_KINDS, name(1, 1), "4 0 0 0"),
-        with("a name that is the start of another", "pattern xy", name(0, 1), "0 0 0 1, 1 1 0 0"),
+        with("a name that is the start of another", "pattern xy", name(0, 1), "0 0 0 1, 1 1 0 0 0"),
     ]
 }
 

@@ -14,7 +14,7 @@ use Rattle.scope.proofs.Laws.{says-yes, says-no, says-outside}
 use Rattle.table.specs.Tables.{firstOf}
 use Rattle.planner.specs.Entries.{entryAt, readEntries}
 use Rattle.assignment.specs.Assignment.{boundHere, firstSameScope}
-use Rattle.planner.specs.Layout.{Entry, bindsAny}
+use Rattle.planner.specs.Layout.{Entry, entryWords, bindsAny}
 
 -- entries read back from a scratch
 pub read-step : (scratch : List ℕ) (i k : ℕ) → i < k → readEntries scratch i (k - i) ≡ entryAt scratch i ∷ readEntries scratch (i + 1) (k - (i + 1))
@@ -34,10 +34,10 @@ pub scanning-start : {A : Type 0} (f : List Entry → A) (scratch : List ℕ) (k
 scanning-start f scratch k = let a : k - 0 ≡ k = omega arith in record { inside = omega arith; same = rw a }
 
 -- past the scratch
-past-none : (scratch : List ℕ) (i k : ℕ) → length scratch ≤ i * 4 → bindsAny (readEntries scratch i k) ≡ false
+past-none : (scratch : List ℕ) (i k : ℕ) → length scratch ≤ i * entryWords → bindsAny (readEntries scratch i k) ≡ false
 unfolding bindsAny readEntries
 past-none scratch i zero out = refl
-past-none scratch i (suc k) out = let z = List·getD-eq-default scratch 0 {n = i * 4} out in simp z (past-none scratch (i + 1) k (omega arith))
+past-none scratch i (suc k) out = let z = List·getD-eq-default scratch 0 {n = i * entryWords} out in simp z (past-none scratch (i + 1) k (omega arith))
 
 -- does any bind?
 module _ {scratch : List ℕ} {k i : ℕ} (s : Scanning bindsAny scratch k i) where
@@ -45,25 +45,25 @@ module _ {scratch : List ℕ} {k i : ℕ} (s : Scanning bindsAny scratch k i) wh
     here : bindsAny (readEntries scratch 0 k) ≡ bindsAny (entryAt scratch i ∷ readEntries scratch (i + 1) (k - (i + 1)))
     here = sym (s .same) ∙ ap bindsAny (read-step scratch i k lt)
 
-    pub any-binds : {kind : ℕ} → kind ≡ getD scratch (i * 4) 0 → kind ≡ 1 → true ≡ bindsAny (readEntries scratch 0 k)
+    pub any-binds : {kind : ℕ} → kind ≡ getD scratch (i * entryWords) 0 → kind ≡ 1 → true ≡ bindsAny (readEntries scratch 0 k)
     unfolding bindsAny
     any-binds is e = sym (here ∙ simp (sym is ∙ e))
 
-    pub any-ignores : {kind : ℕ} → kind ≡ getD scratch (i * 4) 0 → kind ≡ 2 → true ≡ bindsAny (readEntries scratch 0 k)
+    pub any-ignores : {kind : ℕ} → kind ≡ getD scratch (i * entryWords) 0 → kind ≡ 2 → true ≡ bindsAny (readEntries scratch 0 k)
     unfolding bindsAny
     any-ignores is e = sym (here ∙ simp (sym is ∙ e))
 
-    pub any-on : (getD scratch (i * 4) 0 ≡ 1 → ⊥) → (getD scratch (i * 4) 0 ≡ 2 → ⊥) → Scanning bindsAny scratch k (i + 1)
+    pub any-on : (getD scratch (i * entryWords) 0 ≡ 1 → ⊥) → (getD scratch (i * entryWords) 0 ≡ 2 → ⊥) → Scanning bindsAny scratch k (i + 1)
     unfolding bindsAny
     any-on not-1 not-2 = record {
       inside = omega arith;
-      same = sym (here ∙ simp (ne-eqb (getD scratch (i * 4) 0) 1 not-1, ne-eqb (getD scratch (i * 4) 0) 2 not-2));
+      same = sym (here ∙ simp (ne-eqb (getD scratch (i * entryWords) 0) 1 not-1, ne-eqb (getD scratch (i * entryWords) 0) 2 not-2));
     }
 
-  pub any-past : length scratch ≤ i * 4 → false ≡ bindsAny (readEntries scratch 0 k)
+  pub any-past : length scratch ≤ i * entryWords → false ≡ bindsAny (readEntries scratch 0 k)
   any-past out = sym (sym (s .same) ∙ past-none scratch i (k - i) out)
 
-  pub any-far : length scratch / 4 < i → false ≡ bindsAny (readEntries scratch 0 k)
+  pub any-far : length scratch / entryWords < i → false ≡ bindsAny (readEntries scratch 0 k)
   any-far out = any-past (omega arith)
 
   pub any-ends : k ≤ i → false ≡ bindsAny (readEntries scratch 0 k)
@@ -87,11 +87,11 @@ module _ (nodes : List ℕ) (s : Scope) (node : ℕ) {kind : ℕ} where
 
 -- the entries in turn
 module _ (nodes : List ℕ) (s : Scope) {scratch : List ℕ} {k i : ℕ} (go : Scanning (firstSameScope nodes s) scratch k i) where
-  module _ (lt : i < k) {r : Bool} (is : r ≡ boundHere nodes s (getD scratch (i * 4) 0) (getD scratch (i * 4 + 1) 0)) where
+  module _ (lt : i < k) {r : Bool} (is : r ≡ boundHere nodes s (getD scratch (i * entryWords) 0) (getD scratch (i * entryWords + 1) 0)) where
     first-here : firstSameScope nodes s (readEntries scratch 0 k) ≡ firstSameScope nodes s (entryAt scratch i ∷ readEntries scratch (i + 1) (k - (i + 1)))
     first-here = sym (go .same) ∙ ap (firstSameScope nodes s) (read-step scratch i k lt)
 
-    pub first-found : r ≡ true → getD scratch (i * 4 + 1) 0 ≡ firstSameScope nodes s (readEntries scratch 0 k)
+    pub first-found : r ≡ true → getD scratch (i * entryWords + 1) 0 ≡ firstSameScope nodes s (readEntries scratch 0 k)
     unfolding firstSameScope
     first-found e = sym (first-here ∙ simp (sym is ∙ e))
 

@@ -21,7 +21,7 @@ use Rattle.planner.specs.declared.PlanAnswer.{PlanAnswer}
 use Rattle.planner.specs.declared.PlanAnswer.the-variants.{ArraySizeMismatch, IncompatibleDestructuringPatterns}
 use Rattle.base.specs.Refusal.{arraySizeMismatch, incompatibleDestructuringPatterns}
 use Rattle.planner.specs.Plan.{equalityExpr}
-use Rattle.planner.specs.Layout.{Entry, entry, entries}
+use Rattle.planner.specs.Layout.{Entry, below, top, entry, entries}
 use Rattle.planner.specs.Operations.{Answered}
 use Rattle.planner.specs.Entries.{readEntries, Wrote}
 use Rattle.planner.specs.code.Post.{statesOf, Closed, GoodPair}
@@ -144,7 +144,7 @@ module _ {T : Tables} {states : List ℕ} {left right at : ℕ} (a : FlattenAsks
         let m = means (j .one) (j .other) _ (j .is) Compare e in
         rw (c .is) (record {
           each = λ u seen s.
-              let all : entry 7 right 1 0 ∷ entry 3 left 0 0 ∷ [] ≡ pairsEntries (pair (expr T right) (equalityExpr (expr T left)) ∷ []) =
+              let all : entry 7 right 1 top ∷ entry 3 left 0 (below 0 1) ∷ [] ≡ pairsEntries (pair (expr T right) (equalityExpr (expr T left)) ∷ []) =
               rw (node-of T (a .pair-ok .table) left (a .pair-ok .first), node-of T (a .pair-ok .table) right (a .pair-ok .second)) in
               record {
                 pairs = pair (expr T right) (equalityExpr (expr T left)) ∷ [];

@@ -10,7 +10,7 @@ use Rattle.table.specs.Decode.{expr}
 use Rattle.table.specs.code.Sound.{Node, WellFormed}
 use Rattle.planner.specs.declared.PlanAnswer.{PlanAnswer}
 use Rattle.planner.specs.Plan.{DestructuringPlan, plan, after}
-use Rattle.planner.specs.Layout.{Entry, entry, entries, introducesBinding}
+use Rattle.planner.specs.Layout.{Entry, below, top, entry, entries, introducesBinding}
 use Rattle.planner.specs.code.Passes.{unboundIn}
 use Rattle.planner.proofs.fields.Objects.{node-of}
 use Rattle.assignment.specs.declared.flatten.Flattened.{Flattened}
@@ -62,20 +62,20 @@ module _ (T : Tables) (w : WellFormed T) {states : List ℕ} {n : ℕ} (v : Node
   binds-told u seen s = is ∙ ap introducesBinding (plan-scoped T w u seen states s n v)
 
 -- one side binds
-pub side-wrote : (scratch : List ℕ) (count : ℕ) {before mid after : List ℕ} {at value : ℕ} → Wrote before at (entry 7 value 1 0 ∷ []) mid (at + 1) → after ≡ putEntries mid (at + 1) (readEntries scratch 0 count)
+pub side-wrote : (scratch : List ℕ) (count : ℕ) {before mid after : List ℕ} {at value : ℕ} → Wrote before at (entry 7 value 1 top ∷ []) mid (at + 1) → after ≡ putEntries mid (at + 1) (readEntries scratch 0 count)
     → {states binders known : List ℕ} → Learnt states binders known → Bound value (readEntries scratch 0 count) states binders before at known after (Next (at + 1 + count))
 side-wrote scratch count {mid = mid} {at = at} a b l = record { next = at + 1 + count; is = refl; wrote = wrote-append a (wrote-copied scratch mid (at + 1) count b); learnt = l }
 
-pub side-bound : {T : Tables} {states : List ℕ} {pattern value at : ℕ} → SideAsks T states pattern value at → {start binders scratch : List ℕ} {count : ℕ} {told : Bool} → Previewed T states pattern start binders scratch count told
+pub side-bound : {T : Tables} {states : List ℕ} {pattern value at : ℕ} → SideAsks T states pattern value at → {start binders scratch : List ℕ} {count : ℕ} {told : Bool} → Previewed T states pattern 1 start binders scratch count told
     → {before known later : List ℕ} {r : Flattened} → Bound value (readEntries scratch 0 count) states binders before at known later r → Flattens (sideFlat T pattern value) T 513 states before at known later r
 unfolding sideFlat pairsEntries
 side-bound {T} {states} {pattern} {value} {at} a {start} {binders} {scratch} {count} p {before} {known} {later} b = rw (b .is) (record {
   each = λ u seen s.
       let w = a .pair-ok .table in
-      let read : readEntries scratch 0 count ≡ entries (plan u (expr T pattern) seen) 0 = previewed-entries p ∙ ap (λ (q : DestructuringPlan). entries q 0) (plan-scoped T w u seen states s pattern (a .pair-ok .first)) in
+      let read : readEntries scratch 0 count ≡ entries (plan u (expr T pattern) seen) (below 0 1) = previewed-entries p ∙ ap (λ (q : DestructuringPlan). entries q (below 0 1)) (plan-scoped T w u seen states s pattern (a .pair-ok .first)) in
       let value-node = node-of T w value (a .pair-ok .second) in
-      let all : entry 7 value 1 0 ∷ readEntries scratch 0 count ≡ pairsEntries (pair (expr T value) (plan u (expr T pattern) seen) ∷ []) =
-      sym (append-nil (entry 7 value 1 0 ∷ readEntries scratch 0 count)) ∙ rw (read, value-node) in
+      let all : entry 7 value 1 top ∷ readEntries scratch 0 count ≡ pairsEntries (pair (expr T value) (plan u (expr T pattern) seen) ∷ []) =
+      sym (append-nil (entry 7 value 1 top ∷ readEntries scratch 0 count)) ∙ rw (read, value-node) in
       record {
         pairs = pair (expr T value) (plan u (expr T pattern) seen) ∷ [];
         names = after (unboundIn states) (expr T pattern) [];
@@ -87,6 +87,6 @@ side-bound {T} {states} {pattern} {value} {at} a {start} {binders} {scratch} {co
 })
 
 -- neither does
-pub sides-compared : {before mid after : List ℕ} {at left right : ℕ} → Wrote before at (entry 7 right 1 0 ∷ []) mid (at + 1) → Wrote mid (at + 1) (entry 3 left 0 0 ∷ []) after (at + 1 + 1)
+pub sides-compared : {before mid after : List ℕ} {at left right : ℕ} → Wrote before at (entry 7 right 1 top ∷ []) mid (at + 1) → Wrote mid (at + 1) (entry 3 left 0 (below 0 1) ∷ []) after (at + 1 + 1)
     → Compared left right before at after (Next (at + 2))
 sides-compared {at = at} a b = let e : at + 1 + 1 ≡ at + 2 = omega arith in record { next = at + 2; is = refl; wrote = rw e at (wrote-append a b) }

@@ -53,7 +53,7 @@ module _ (one other : Bool) (p : Pairing) where
 
 -- by the kinds, so by the shapes
 pub judges : {T : Tables} {states : List ℕ} {left right : ℕ} → SidesAsks T states left right
-    → {before binders scratch : List ℕ} {count : ℕ} {one other : Bool} → SidesTold T states left right before binders scratch count one other
+    → {before binders scratch : List ℕ} {count : ℕ} {one other : Bool} → SidesTold T states left right 1 before binders scratch count one other
     → {way : Judgement} → way ≡ judgementOf one other (kindsPairing (T .nodes) (T .children) left right) → Judges T states left right before binders scratch count way
 judges {T} a {one} {other} told is = record { one = one; other = other; sides = told; is = is ∙ ap (judgementOf one other) (pairing-is T (a .pair-ok)) }
 

@@ -17,7 +17,7 @@ use Rattle.table.proofs.tests.Bools.{and-true}
 use Rattle.table.proofs.trees.Facts.{sound-table}
 use Rattle.planner.specs.declared.PlanAnswer.the-variants.{Planned}
 use Rattle.base.specs.Refusal.{rootOutside, planTooLarge, incompatibleDestructuringPatterns, Line, line, refusalLine, Tested}
-use Rattle.planner.specs.Layout.{Entry, entries, words, bindsAny}
+use Rattle.planner.specs.Layout.{Entry, top, entryWords, entries, words, bindsAny}
 use Rattle.planner.specs.Simple.{simple}
 use Rattle.planner.specs.Operations.{Outcome, refused, planned, fits, zeros, answered, written, Answered, require, tableFirst, planOf}
 use Rattle.planner.specs.Entries.{readEntries}
@@ -63,8 +63,8 @@ module _ (T : Tables) (s : Scope) where
         in-table ok true i true =
             let b = and-true (isNode T left) (isNode T right && true) i in
             let d = and-true (isNode T right) true (b .1) in
-            let ls = entries (planOf T s RespectParent left) 0 in
-            let rs = entries (planOf T s RespectParent right) 0 in
+            let ls = entries (planOf T s RespectParent left) top in
+            let rs = entries (planOf T s RespectParent right) top in
             sides-keep (sound-table T s ok .wellFormed) (root-node T left refl (ap not (b .0))) (root-node T right refl (ap not (d .0)))
             (bindsAny ls) (bindsAny rs) ls rs
 
@@ -77,12 +77,12 @@ module _ (T : Tables) (s : Scope) where
     buffer-keeps (refused a) k before after side count r = absurd (false≢true (sym (a .refuses) ∙ ap (λ (l : Line). eqb (l .number) 0) (sym (r .answer))))
     buffer-keeps (planned form other es) k before after side count r = go (fits es before) (r .answer) (r .buffer)
       where
-        go : (b : Bool) → line 0 4 side count ≡ cond b (line 0 form other (length es)) (refusalLine (planTooLarge (length es))) → after ≡ cond b (words es ++ drop (4 * length es) (zeros before)) (zeros before) → EntriesPromise T s (readEntries after 0 count)
+        go : (b : Bool) → line 0 4 side count ≡ cond b (line 0 form other (length es)) (refusalLine (planTooLarge (length es))) → after ≡ cond b (words es ++ drop (entryWords * length es) (zeros before)) (zeros before) → EntriesPromise T s (readEntries after 0 count)
         go true a e =
             let f : form ≡ 4 = ap (λ (l : Line). l .second) (sym a) in
             let n : count ≡ length es = ap (λ (l : Line). l .fourth) a in
             let long = length-words es in
-            rw n (rw (read-words es after 0 (λ j lt. let z : 0 * 4 + j ≡ j = omega arith in rw (z, e) (List·getD-append (words es) (drop (4 * length es) (zeros before)) 0 j (omega arith)))) (k f))
+            rw n (rw (read-words es after 0 (λ j lt. let z : 0 * entryWords + j ≡ j = omega arith in rw (z, e) (List·getD-append (words es) (drop (entryWords * length es) (zeros before)) 0 j (omega arith)))) (k f))
         go false a e = let z : _≡_ {A = ℕ} 0 6 = ap (λ (l : Line). l .number) a in absurd (omega arith)
 
     pub answer-promise : AnswerPromise T s left right

@@ -18,7 +18,7 @@ use Rattle.table.specs.code.Sound.{Node, WellFormed}
 use Rattle.table.proofs.tests.Bools.{or-true, never}
 use Rattle.table.proofs.trees.Trees.{width-array, width-object, child-node, expr-array, expr-object}
 use Rattle.planner.specs.Plan.{DestructuringPlan, var, ignore, equalityExpr, equalityValue, arrayPlan, objectPlan, Plans, noPlan, itemPlan, FieldPlans, noField, fieldPlan, trackedVars}
-use Rattle.planner.specs.Layout.{Entry, literalKey, FieldOrder, noFields, addField, inOrder, concat, entries, entriesAll, fieldOrder, boundNames}
+use Rattle.planner.specs.Layout.{Entry, Place, below, literalKey, FieldOrder, noFields, addField, inOrder, concat, entries, entriesAll, fieldOrder, boundNames}
 use Rattle.planner.specs.Simple.{simple, mentions}
 use Rattle.planner.specs.Operations.{Outcome, refused, planned}
 use Rattle.planner.proofs.laws.Sizes.{total, total-append, add-total}
@@ -39,29 +39,29 @@ pairing e = cond (eqb (e .kind) 7) 1 0
 mutual
   unfolding entries total concat
 
-  unpaired : (p : DestructuringPlan) (key : ℕ) → total pairing (entries p key) ≡ 0
+  unpaired : (p : DestructuringPlan) (key : Place) → total pairing (entries p key) ≡ 0
   unpaired (var n x) key = refl
   unpaired (ignore n) key = refl
   unpaired (equalityExpr e) key = refl
   unpaired (equalityValue n l) key = refl
-  unpaired (arrayPlan n ps) key = let h = unpaired-all ps in omega arith
-  unpaired (objectPlan n fs) key = let h = unpaired-fields fs noFields in omega arith
+  unpaired (arrayPlan n ps) key = let h = unpaired-all ps 1 in omega arith
+  unpaired (objectPlan n fs) key = let h = unpaired-fields fs 1 noFields in omega arith
 
-  unpaired-all : (ps : Plans) → total pairing (entriesAll ps) ≡ 0
-  unpaired-all noPlan = refl
-  unpaired-all (itemPlan p ps) =
-      let h = unpaired p 0 in
-      let t = unpaired-all ps in
-      let a = total-append pairing (entries p 0) (entriesAll ps) in
+  unpaired-all : (ps : Plans) (i : ℕ) → total pairing (entriesAll ps i) ≡ 0
+  unpaired-all noPlan i = refl
+  unpaired-all (itemPlan p ps) i =
+      let h = unpaired p (below 0 i) in
+      let t = unpaired-all ps (i + 1) in
+      let a = total-append pairing (entries p (below 0 i)) (entriesAll ps (i + 1)) in
       omega arith
 
-  unpaired-fields : (fs : FieldPlans) (o : FieldOrder (List Entry)) → total pairing (concat (inOrder (fieldOrder fs o))) ≤ total pairing (concat (inOrder o))
-  unpaired-fields noField o = omega arith
-  unpaired-fields (fieldPlan k p fs) o =
-      let new = addField (literalKey k) (entries p (nodeOf k)) o in
-      let h = unpaired p (nodeOf k) in
-      let t = unpaired-fields fs new in
-      let a = add-total (total pairing) (literalKey k) (entries p (nodeOf k)) o in
+  unpaired-fields : (fs : FieldPlans) (i : ℕ) (o : FieldOrder (List Entry)) → total pairing (concat (inOrder (fieldOrder fs i o))) ≤ total pairing (concat (inOrder o))
+  unpaired-fields noField i o = omega arith
+  unpaired-fields (fieldPlan k p fs) i o =
+      let new = addField (literalKey k) (entries p (below (nodeOf k) i)) o in
+      let h = unpaired p (below (nodeOf k) i) in
+      let t = unpaired-fields fs (i + 1) new in
+      let a = add-total (total pairing) (literalKey k) (entries p (below (nodeOf k) i)) o in
       let b = total-concat pairing (inOrder new) in
       let d = total-concat pairing (inOrder o) in
       omega arith
@@ -107,7 +107,7 @@ module _ (T : Tables) (w : WellFormed T) where
 
   -- a plan's entries bind what it binds
   abbrev Kept : DestructuringPlan → Type 0
-  Kept p = (x : ℕ) → times nameOf x (entries p 0) ≡ occurs x (trackedVars p)
+  Kept p = (x : ℕ) → times nameOf x (entries p (below 0 1)) ≡ occurs x (trackedVars p)
 
   -- what an array or an object of the table is made of
   array-items : (n : ℕ) (es : Exprs) (m : ℕ) → Node T m → array n es ≡ expr T m → (kindOf (T .nodes) m ≡ 7) × (es ≡ items (expr T) (T .children) (firstOf (T .nodes) m) (countOf (T .nodes) m))
@@ -162,7 +162,7 @@ module _ (T : Tables) (w : WellFormed T) where
           let e = h .1 in
           let k = width-object (kindOf (T .nodes) (a .at)) (countOf (T .nodes) (a .at)) (h .0) in
           rw e (placed-fields (firstOf (T .nodes) (a .at)) (countOf (T .nodes) (a .at)) (λ i lt. child-node T w (a .at) (a .inside) i (omega arith)) (rw e at s));
-      planned = λ e seen a x. bound-kept u nameOf x e seen 0 (a .isSimple) (rw (a .is) (names-all T w (λ m y. nameOf m ≡ y) (λ m v k named. refl) (a .at) (a .inside)));
+      planned = λ e seen a x. bound-kept u nameOf x e seen (below 0 1) (a .isSimple) (rw (a .is) (names-all T w (λ m y. nameOf m ≡ y) (λ m v k named. refl) (a .at) (a .inside)));
       compared = λ e x. refl;
     }
 
@@ -174,7 +174,7 @@ module _ (T : Tables) (w : WellFormed T) where
     pairs-occurs (link {p = p} {ps = ps} h f) x =
         let a = h .made x in
         let b = pairs-occurs f x in
-        let d = times-append nameOf x (entries (p .pattern) 0) (pairsEntries ps) in
+        let d = times-append nameOf x (entries (p .pattern) (below 0 1)) (pairsEntries ps) in
         let g = total-append (hit x) (trackedVars (p .pattern)) (boundBy ps) in
         omega arith
 
@@ -193,13 +193,13 @@ module _ (T : Tables) (w : WellFormed T) where
             let v = h .valued in
             let same : p .value ≡ expr T (e .node) = v .is ∙ ap (expr T) (sym (node-of T w (v .at) (v .inside)) ∙ (ap nodeOf (sym (v .is)) ∙ n)) in
             h .known x (rw same t)
-        here (a ∷ rest) mid i = let j : entries (p .pattern) 0 ≡ rest ++ (e ∷ mid) = cc in absurd (no-pair (entries (p .pattern) 0) rest mid e (unpaired (p .pattern) 0) j k)
+        here (a ∷ rest) mid i = let j : entries (p .pattern) (below 0 1) ≡ rest ++ (e ∷ mid) = cc in absurd (no-pair (entries (p .pattern) (below 0 1)) rest mid e (unpaired (p .pattern) (below 0 1)) j k)
 
         there : (mid : List Entry) → earlier ≡ pairEntries p ++ mid → (elem x (boundNames nameOf mid) || elem x s′) ≡ true → (elem x (boundNames nameOf earlier) || elem x s) ≡ true
         there mid i o =
-            let names : boundNames nameOf earlier ≡ boundNames nameOf (entries (p .pattern) 0) ++ boundNames nameOf mid = ap (boundNames nameOf) i ∙ bound-append nameOf (pairEntries p) mid in
-            let same = same-elem x (boundNames nameOf (entries (p .pattern) 0)) (trackedVars (p .pattern)) (h .made x) in
-            rw names (joins x (boundNames nameOf (entries (p .pattern) 0)) (boundNames nameOf mid) s s′ (h .adds x ∙ ap (λ (b : Bool). b || elem x s) (sym same)) o)
+            let names : boundNames nameOf earlier ≡ boundNames nameOf (entries (p .pattern) (below 0 1)) ++ boundNames nameOf mid = ap (boundNames nameOf) i ∙ bound-append nameOf (pairEntries p) mid in
+            let same = same-elem x (boundNames nameOf (entries (p .pattern) (below 0 1))) (trackedVars (p .pattern)) (h .made x) in
+            rw names (joins x (boundNames nameOf (entries (p .pattern) (below 0 1))) (boundNames nameOf mid) s s′ (h .adds x ∙ ap (λ (b : Bool). b || elem x s) (sym same)) o)
 
 -- Form 4 with its entries, or another form, or a refusal.
 module _ (T : Tables) (s : Scope) where

@@ -16,7 +16,7 @@ use Rattle.table.specs.Expr.{Expr, literal, name, wildcard, array, set, object,
 use Rattle.base.specs.Lists.{elem}
 use Rattle.table.proofs.tests.Bools.{and-true, or-true}
 use Rattle.planner.specs.Plan.{var, equalityExpr, fresh, plan, plans, fieldPlans, after, afterAll, afterFields, trackedVars, trackedVarsAll, trackedVarsFields}
-use Rattle.planner.specs.Layout.{Entry, literalKey, Slot, placed, insert, FieldOrder, noFields, addField, heldIn, inOrder, concat, entries, entriesAll, fieldOrder, bindsAny, boundNames}
+use Rattle.planner.specs.Layout.{Entry, Place, below, top, literalKey, Slot, placed, insert, FieldOrder, noFields, addField, heldIn, inOrder, concat, entries, entriesAll, fieldOrder, bindsAny, boundNames}
 use Rattle.table.specs.Names.{isSame}
 use Rattle.planner.specs.Simple.{sameKey, hasKey, differing, addKey, keysOf, isLiteral, admitted, simple, simpleAll, simpleFields, mentions}
 use Rattle.planner.specs.Names.{occurrences, namesOf}
@@ -106,38 +106,38 @@ module _ {A : Type 0} (l : Literal) (ks : List Literal) (a : A) (o : FieldOrder 
       (insert-keys k (record { at = l; held = a }) (o .literals) t)
 
 module _ (u : ℕ → Bool) (w : List Entry → ℕ) where
-  unfoldable fieldsWeight : Fields → List ℕ → ℕ
-  fieldsWeight done seen = 0
-  fieldsWeight (field k v fs) seen = w (entries (plan u v seen) (nodeOf k)) + fieldsWeight fs (after u v seen)
+  unfoldable fieldsWeight : Fields → List ℕ → ℕ → ℕ
+  fieldsWeight done seen i = 0
+  fieldsWeight (field k v fs) seen i = w (entries (plan u v seen) (below (nodeOf k) i)) + fieldsWeight fs (after u v seen) (i + 1)
 
-  fields-weight : (fs : Fields) (seen : List ℕ) (o : FieldOrder (List Entry)) → simpleFields fs ≡ true → differing (keysOf fs) ≡ true → Apart (keysOf fs) (o .literals)
-      → total w (inOrder (fieldOrder (fieldPlans u fs seen) o)) ≡ fieldsWeight fs seen + total w (inOrder o)
+  fields-weight : (fs : Fields) (seen : List ℕ) (i : ℕ) (o : FieldOrder (List Entry)) → simpleFields fs ≡ true → differing (keysOf fs) ≡ true → Apart (keysOf fs) (o .literals)
+      → total w (inOrder (fieldOrder (fieldPlans u fs seen) i o)) ≡ fieldsWeight fs seen i + total w (inOrder o)
   unfolding admitted keysOf plan entries fieldsWeight
-  fields-weight done seen o p d apart = omega arith
-  fields-weight (field k v fs) seen o p d apart =
+  fields-weight done seen i o p d apart = omega arith
+  fields-weight (field k v fs) seen i o p d apart =
       let q = and-true (isLiteral (literalKey k)) _ p in
-      go (literalKey k) (q .0) d apart (λ r. fields-weight fs (after u v seen) r (and-true (simple v) _ (q .1) .1))
+      go (literalKey k) (q .0) d apart (λ r. fields-weight fs (after u v seen) (i + 1) r (and-true (simple v) _ (q .1) .1))
     where
       es : List Entry
-      es = entries (plan u v seen) (nodeOf k)
+      es = entries (plan u v seen) (below (nodeOf k) i)
 
       go : (key : Option Literal) → isLiteral key ≡ true → differing (addKey key (keysOf fs)) ≡ true → Apart (addKey key (keysOf fs)) (o .literals)
           → ((r : FieldOrder (List Entry)) → differing (keysOf fs) ≡ true → Apart (keysOf fs) (r .literals)
-          → total w (inOrder (fieldOrder (fieldPlans u fs (after u v seen)) r)) ≡ fieldsWeight fs (after u v seen) + total w (inOrder r))
-          → total w (inOrder (fieldOrder (fieldPlans u fs (after u v seen)) (addField key es o))) ≡ w es + fieldsWeight fs (after u v seen) + total w (inOrder o)
-      go Option.none i e a f = absurd (false≢true i)
-      go (Option.some l) i e a f =
+          → total w (inOrder (fieldOrder (fieldPlans u fs (after u v seen)) (i + 1) r)) ≡ fieldsWeight fs (after u v seen) (i + 1) + total w (inOrder r))
+          → total w (inOrder (fieldOrder (fieldPlans u fs (after u v seen)) (i + 1) (addField key es o))) ≡ w es + fieldsWeight fs (after u v seen) (i + 1) + total w (inOrder o)
+      go Option.none is e a f = absurd (false≢true is)
+      go (Option.some l) is e a f =
           let n = first-new l (keysOf fs) e in
           let rest = f (addField (Option.some l) es o) (n .1) (tail-apart l (keysOf fs) es o (n .0) a) in
           let here = add-new w l es o (head-new l (keysOf fs) es o a) in
           omega arith
 
   -- of a whole object
-  object-weight : (fs : Fields) (seen : List ℕ) → (differing (keysOf fs) && simpleFields fs) ≡ true → total w (inOrder (fieldOrder (fieldPlans u fs seen) noFields)) ≡ fieldsWeight fs seen
+  object-weight : (fs : Fields) (seen : List ℕ) → (differing (keysOf fs) && simpleFields fs) ≡ true → total w (inOrder (fieldOrder (fieldPlans u fs seen) 1 noFields)) ≡ fieldsWeight fs seen 1
   unfolding total hasKey
   object-weight fs seen p =
       let q = and-true (differing (keysOf fs)) (simpleFields fs) p in
-      let h = fields-weight fs seen noFields (q .1) (q .0) (λ k t e. false≢true e) in
+      let h = fields-weight fs seen 1 noFields (q .1) (q .0) (λ k t e. false≢true e) in
       omega arith
 
 -- Where no entry binds, nothing is planned.
@@ -188,7 +188,7 @@ module _ (u : ℕ → Bool) where
   mutual
     unfolding plan entries admitted occurrences namesOf elem total fieldsWeight
 
-    quiet : (e : Expr) (seen : List ℕ) (key : ℕ) → simple e ≡ true → weigh (entries (plan u e seen) key) ≡ 0 → Quiet (after u e seen) seen (λ x. mentions x e)
+    quiet : (e : Expr) (seen : List ℕ) (key : Place) → simple e ≡ true → weigh (entries (plan u e seen) key) ≡ 0 → Quiet (after u e seen) seen (λ x. mentions x e)
     quiet (literal n l) seen key p z = (refl, λ x t. absurd (false≢true t))
     quiet (name n x) seen key p z = go (fresh u seen x) refl z
       where
@@ -197,30 +197,30 @@ module _ (u : ℕ → Bool) where
         go true e h = absurd (omega arith)
         go false e h = (refl, λ y t. let q = eqb-true y x (sym (mentions-name y n x) ∙ t) in rw q (stale x seen e))
     quiet (wildcard n) seen key p z = absurd (omega arith)
-    quiet (array n es) seen key p z = quiet-all es seen p (omega arith)
+    quiet (array n es) seen key p z = quiet-all es seen 1 p (omega arith)
     quiet (set n es) seen key p z = absurd (false≢true p)
     quiet (object n fs) seen key p z =
         let h = object-weight u weigh fs seen p in
-        let t = total-concat binding (inOrder (fieldOrder (fieldPlans u fs seen) noFields)) in
-        quiet-fields fs seen (and-true (differing (keysOf fs)) (simpleFields fs) p .1) (omega arith)
+        let t = total-concat binding (inOrder (fieldOrder (fieldPlans u fs seen) 1 noFields)) in
+        quiet-fields fs seen 1 (and-true (differing (keysOf fs)) (simpleFields fs) p .1) (omega arith)
     quiet (other n) seen key p z = absurd (false≢true p)
 
-    quiet-all : (es : Exprs) (seen : List ℕ) → simpleAll es ≡ true → weigh (entriesAll (plans u es seen)) ≡ 0 → Quiet (afterAll u es seen) seen (λ x. mentionsAny x es)
-    quiet-all none seen p z = (refl, λ x t. absurd (false≢true t))
-    quiet-all (item e es) seen p z =
+    quiet-all : (es : Exprs) (seen : List ℕ) (i : ℕ) → simpleAll es ≡ true → weigh (entriesAll (plans u es seen) i) ≡ 0 → Quiet (afterAll u es seen) seen (λ x. mentionsAny x es)
+    quiet-all none seen i p z = (refl, λ x t. absurd (false≢true t))
+    quiet-all (item e es) seen i p z =
         let q = and-true (simple e) (simpleAll es) p in
-        let s = total-append binding (entries (plan u e seen) 0) (entriesAll (plans u es (after u e seen))) in
-        let a = quiet e seen 0 (q .0) (omega arith) in
-        let b = quiet-all es (after u e seen) (q .1) (omega arith) in
+        let s = total-append binding (entries (plan u e seen) (below 0 i)) (entriesAll (plans u es (after u e seen)) (i + 1)) in
+        let a = quiet e seen (below 0 i) (q .0) (omega arith) in
+        let b = quiet-all es (after u e seen) (i + 1) (q .1) (omega arith) in
         (b .0 ∙ a .0, λ x t. ⊎-elim (a .1 x) (λ r. rw (a .0) at (b .1 x r)) (or-true (mentions x e) (mentionsAny x es) (sym (mentions-item x e es) ∙ t)))
 
-    quiet-fields : (fs : Fields) (seen : List ℕ) → simpleFields fs ≡ true → fieldsWeight u weigh fs seen ≡ 0 → Quiet (afterFields u fs seen) seen (λ x. mentionsFields x fs)
-    quiet-fields done seen p z = (refl, λ x t. absurd (false≢true t))
-    quiet-fields (field k v fs) seen p z =
+    quiet-fields : (fs : Fields) (seen : List ℕ) (i : ℕ) → simpleFields fs ≡ true → fieldsWeight u weigh fs seen i ≡ 0 → Quiet (afterFields u fs seen) seen (λ x. mentionsFields x fs)
+    quiet-fields done seen i p z = (refl, λ x t. absurd (false≢true t))
+    quiet-fields (field k v fs) seen i p z =
         let q = and-true (isLiteral (literalKey k)) (simple v && simpleFields fs) p in
         let r = and-true (simple v) (simpleFields fs) (q .1) in
-        let a = quiet v seen (nodeOf k) (r .0) (omega arith) in
-        let b = quiet-fields fs (after u v seen) (r .1) (omega arith) in (
+        let a = quiet v seen (below (nodeOf k) i) (r .0) (omega arith) in
+        let b = quiet-fields fs (after u v seen) (i + 1) (r .1) (omega arith) in (
           b .0 ∙ a .0,
           λ x t.
               ⊎-elim (λ y. absurd (false≢true (sym (silent x k (q .0)) ∙ y)))
@@ -229,8 +229,8 @@ module _ (u : ℕ → Bool) where
         )
 
   -- a side that doesn't bind
-  pub settled : (e : Expr) (seen : List ℕ) → simple e ≡ true → bindsAny (entries (plan u e seen) 0) ≡ false → Settled u seen e
-  settled e seen p none-there = quiet e seen 0 p (none-binds (entries (plan u e seen) 0) none-there) .1
+  pub settled : (e : Expr) (seen : List ℕ) → simple e ≡ true → bindsAny (entries (plan u e seen) top) ≡ false → Settled u seen e
+  settled e seen p none-there = quiet e seen top p (none-binds (entries (plan u e seen) top) none-there) .1
 
   -- The names that the entries of a simple pattern bind are those of its plan; nm gives the name of a node.
   module _ (nm : ℕ → ℕ) (x : ℕ) where
@@ -240,7 +240,7 @@ module _ (u : ℕ → Bool) where
     mutual
       unfolding plan entries admitted trackedVars boundNames total AllNames concat fieldsWeight
 
-      pub bound-kept : (e : Expr) (seen : List ℕ) (key : ℕ) → simple e ≡ true → AllNames Named e → times nm x (entries (plan u e seen) key) ≡ occurs x (trackedVars (plan u e seen))
+      pub bound-kept : (e : Expr) (seen : List ℕ) (key : Place) → simple e ≡ true → AllNames Named e → times nm x (entries (plan u e seen) key) ≡ occurs x (trackedVars (plan u e seen))
       bound-kept (literal n l) seen key p all = refl
       bound-kept (name n y) seen key p all = go (fresh u seen y)
         where
@@ -248,31 +248,31 @@ module _ (u : ℕ → Bool) where
           go true = rw all
           go false = refl
       bound-kept (wildcard n) seen key p all = refl
-      bound-kept (array n es) seen key p all = bound-kept-all es seen p all
+      bound-kept (array n es) seen key p all = bound-kept-all es seen 1 p all
       bound-kept (set n es) seen key p all = absurd (false≢true p)
       bound-kept (object n fs) seen key p all =
           let h = object-weight u (times nm x) fs seen p in
-          let t = times-concat nm x (inOrder (fieldOrder (fieldPlans u fs seen) noFields)) in
-          let b = bound-kept-fields fs seen (and-true (differing (keysOf fs)) (simpleFields fs) p .1) all in
+          let t = times-concat nm x (inOrder (fieldOrder (fieldPlans u fs seen) 1 noFields)) in
+          let b = bound-kept-fields fs seen 1 (and-true (differing (keysOf fs)) (simpleFields fs) p .1) all in
           omega arith
       bound-kept (other n) seen key p all = absurd (false≢true p)
 
-      bound-kept-all : (es : Exprs) (seen : List ℕ) → simpleAll es ≡ true → AllNamesAll Named es → times nm x (entriesAll (plans u es seen)) ≡ occurs x (trackedVarsAll (plans u es seen))
-      bound-kept-all none seen p all = refl
-      bound-kept-all (item e es) seen p all =
+      bound-kept-all : (es : Exprs) (seen : List ℕ) (i : ℕ) → simpleAll es ≡ true → AllNamesAll Named es → times nm x (entriesAll (plans u es seen) i) ≡ occurs x (trackedVarsAll (plans u es seen))
+      bound-kept-all none seen i p all = refl
+      bound-kept-all (item e es) seen i p all =
           let q = and-true (simple e) (simpleAll es) p in
-          let a = bound-kept e seen 0 (q .0) (all .0) in
-          let b = bound-kept-all es (after u e seen) (q .1) (all .1) in
-          let s = times-append nm x (entries (plan u e seen) 0) (entriesAll (plans u es (after u e seen))) in
+          let a = bound-kept e seen (below 0 i) (q .0) (all .0) in
+          let b = bound-kept-all es (after u e seen) (i + 1) (q .1) (all .1) in
+          let s = times-append nm x (entries (plan u e seen) (below 0 i)) (entriesAll (plans u es (after u e seen)) (i + 1)) in
           let t = total-append (hit x) (trackedVars (plan u e seen)) (trackedVarsAll (plans u es (after u e seen))) in
           omega arith
 
-      bound-kept-fields : (fs : Fields) (seen : List ℕ) → simpleFields fs ≡ true → AllNamesFields Named fs → fieldsWeight u (times nm x) fs seen ≡ occurs x (trackedVarsFields (fieldPlans u fs seen))
-      bound-kept-fields done seen p all = refl
-      bound-kept-fields (field k v fs) seen p all =
+      bound-kept-fields : (fs : Fields) (seen : List ℕ) (i : ℕ) → simpleFields fs ≡ true → AllNamesFields Named fs → fieldsWeight u (times nm x) fs seen i ≡ occurs x (trackedVarsFields (fieldPlans u fs seen))
+      bound-kept-fields done seen i p all = refl
+      bound-kept-fields (field k v fs) seen i p all =
           let q = and-true (isLiteral (literalKey k)) (simple v && simpleFields fs) p in
           let r = and-true (simple v) (simpleFields fs) (q .1) in
-          let a = bound-kept v seen (nodeOf k) (r .0) (all .1) in
-          let b = bound-kept-fields fs (after u v seen) (r .1) (all .2) in
+          let a = bound-kept v seen (below (nodeOf k) i) (r .0) (all .1) in
+          let b = bound-kept-fields fs (after u v seen) (i + 1) (r .1) (all .2) in
           let t = total-append (hit x) (trackedVars (plan u v seen)) (trackedVarsFields (fieldPlans u fs (after u v seen))) in
           omega arith

@@ -13,7 +13,7 @@ use Rattle.table.specs.Tables.{Tables, isNode}
 use Rattle.table.specs.Decode.{expr}
 use Rattle.table.specs.code.Sound.{WellFormed}
 use Rattle.table.proofs.tests.Bools.{and-true}
-use Rattle.planner.specs.Layout.{Entry, entries, bindsAny}
+use Rattle.planner.specs.Layout.{Entry, top, entries, bindsAny}
 use Rattle.base.specs.Refusal.{colonEqualsRequiresBindableLeft, variableAlreadyDefined, incompatibleDestructuringPatterns}
 use Rattle.planner.specs.Operations.{planned, planOf}
 use Rattle.planner.specs.Short.{ShortEntry, Every, ShortOutcome}
@@ -49,7 +49,7 @@ first-short nodes s [] p = omega arith
 first-short nodes s (e ∷ es) p = go (boundHere nodes s (e .kind) (e .node)) (first-short nodes s es (p .1))
   where
     go : (b : Bool) → firstSameScope nodes s es < 1000000 → cond b (e .node) (firstSameScope nodes s es) < 1000000
-    go true r = p .0 .two
+    go true r = p .0 .front .two
     go false r = r
 
 module _ (T : Tables) (s : Scope) where
@@ -63,7 +63,7 @@ module _ (T : Tables) (s : Scope) where
     colon-short : ShortOutcome (colonEqualsPlanned T s left right)
     colon-short =
         let small = root-small T w left l in
-        let es = entries (planOf T s AllowShadowing left) 0 in
+        let es = entries (planOf T s AllowShadowing left) top in
         let each : Every ShortEntry es = entries-short T s AllowShadowing left small in
         let low = root-low T w left l in
         require-short (bindsAny es) (colonEqualsRequiresBindableLeft left) _ (refusal-short (omega arith) low)
@@ -71,21 +71,21 @@ module _ (T : Tables) (s : Scope) where
         (let f = first-short (T .nodes) s es each in short (omega arith) f (omega arith) (omega arith))
         (λ u. bind-short 1 left right es (omega arith) low small (root-small T w right r) (entries-few T s AllowShadowing left small) each))
 
-    sides-short : (a b : Bool) → ShortOutcome (bySides a b T s left right (entries (planOf T s RespectParent left) 0) (entries (planOf T s RespectParent right) 0))
+    sides-short : (a b : Bool) → ShortOutcome (bySides a b T s left right (entries (planOf T s RespectParent left) top) (entries (planOf T s RespectParent right) top))
     sides-short true true = pairs-short (isUnbound s RespectParent) (expr T right) (expr T left) [] (root-small T w right r) (root-small T w left l)
     sides-short false false = planned-short 5 0 [] (omega arith) (omega arith) (omega arith) tt
     sides-short true false =
-        bind-short 2 left right (entries (planOf T s RespectParent left) 0) (omega arith) (root-low T w left l) (root-small T w left l) (root-small T w right r)
+        bind-short 2 left right (entries (planOf T s RespectParent left) top) (omega arith) (root-low T w left l) (root-small T w left l) (root-small T w right r)
         (entries-few T s RespectParent left (root-small T w left l)) (entries-short T s RespectParent left (root-small T w left l))
     sides-short false true =
-        bind-short 3 right left (entries (planOf T s RespectParent right) 0) (omega arith) (root-low T w right r) (root-small T w right r) (root-small T w left l)
+        bind-short 3 right left (entries (planOf T s RespectParent right) top) (omega arith) (root-low T w right r) (root-small T w right r) (root-small T w left l)
         (entries-few T s RespectParent right (root-small T w right r)) (entries-short T s RespectParent right (root-small T w right r))
 
     equals-short : ShortOutcome (equalsPlanned T s left right)
     equals-short = go (eqb (sideOf T left right) 0)
       where
         go : (b : Bool) → ShortOutcome (cond b (equalsSides T s left right) (planned 6 (sideOf T left right) []))
-        go true = sides-short (bindsAny (entries (planOf T s RespectParent left) 0)) (bindsAny (entries (planOf T s RespectParent right) 0))
+        go true = sides-short (bindsAny (entries (planOf T s RespectParent left) top)) (bindsAny (entries (planOf T s RespectParent right) top))
         go false = planned-short 6 (sideOf T left right) [] (omega arith) (side-low (isUnderscore (expr T left)) (isUnderscore (expr T right))) (omega arith) tt
 
     operator-short : (op : AssignOp) → ShortOutcome (byOperator op T s left right)

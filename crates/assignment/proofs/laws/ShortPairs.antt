@@ -10,12 +10,12 @@ use lib.ListN.{length, length-append, length-map}
 use Rattle.literal.specs.Literal.{Literal}
 use Rattle.table.specs.Expr.{Expr, literal, name, wildcard, array, set, object, other, Exprs, none, item, Fields, done, field, nodeOf, count, countFields, parts, partsAll, partsFields}
 use Rattle.planner.specs.Plan.{DestructuringPlan, equalityExpr, plan, after}
-use Rattle.planner.specs.Layout.{entries, literalKey, FieldOrder, noFields, addField, heldIn, inOrder}
+use Rattle.planner.specs.Layout.{below, top, entries, literalKey, FieldOrder, noFields, addField, heldIn, inOrder}
 use Rattle.planner.specs.Held.{valueOrder}
 use Rattle.base.specs.Refusal.{objectKeyNotFound, arraySizeMismatch, objectFieldCountMismatch}
 use Rattle.planner.specs.Short.{ShortEntry, ShortRefusal, Every, ShortOutcome}
 use Rattle.planner.proofs.laws.Sizes.{add-length}
-use Rattle.planner.proofs.laws.ShortPlans.{Small, SmallTree, small-left, small-right, small-head, small-tail, node-low, count-few, fields-few, every-append, every-left, Held, held-under, values-small, plan-few, plan-short}
+use Rattle.planner.proofs.laws.ShortPlans.{Small, SmallTree, small-left, small-right, small-head, small-tail, node-low, count-few, fields-few, every-append, every-left, Held, held-under, values-small, LowPlace, low-top, short-entry, plan-few, plan-short}
 use Rattle.planner.proofs.laws.ShortOutcomes.{short, refusal-short, planned-short}
 use Rattle.assignment.proofs.flatten.FlatLoops.{entries-append}
 use Rattle.assignment.specs.Pairs.{Pair, pair, pairsEntries, Flat, failed, paired, require, before, further, flatOutcome, shapeOf, allLiteral, distinctKeys, lastUnder, hasPartner, checkKeys, onPartner, binds, side, whole, inParts, arrays, objects, flatten, flattenAll, flattenFields}
@@ -41,17 +41,20 @@ further-short m k (failed r) g p q = p
 further-short m k (paired ps seen) g p q = before-short m k ps (g seen) (p .0) (p .1) (q seen)
 
 -- one pair
-pair-short : (v : Expr) (p : DestructuringPlan) (seen : List ℕ) → nodeOf v ≤ 512 → length (entries p 0) ≤ 512 → Every ShortEntry (entries p 0) → ShortFlat 513 (paired (pair v p ∷ []) seen)
+low-pair : LowPlace (below 0 1)
+low-pair = record { low = omega arith; near = omega arith }
+
+pair-short : (v : Expr) (p : DestructuringPlan) (seen : List ℕ) → nodeOf v ≤ 512 → length (entries p (below 0 1)) ≤ 512 → Every ShortEntry (entries p (below 0 1)) → ShortFlat 513 (paired (pair v p ∷ []) seen)
 unfolding pairsEntries
 pair-short v p seen low few each =
-    let a = length-append (entries p 0) [] in
-    (omega arith, (short (omega arith) (omega arith) (omega arith) (omega arith), every-append ShortEntry (entries p 0) [] each tt))
+    let a = length-append (entries p (below 0 1)) [] in
+    (omega arith, (short-entry 7 (nodeOf v) 1 top low-top (omega arith) low (omega arith), every-append ShortEntry (entries p (below 0 1)) [] each tt))
 
 compared-short : (l r : Expr) (seen : List ℕ) → SmallTree l → SmallTree r → ShortFlat 513 (paired (pair r (equalityExpr l) ∷ []) seen)
 unfolding entries
 compared-short l r seen s t =
     let a = node-low l s in
-    pair-short r (equalityExpr l) seen (node-low r t) (omega arith) (short (omega arith) (omega arith) (omega arith) (omega arith), tt)
+    pair-short r (equalityExpr l) seen (node-low r t) (omega arith) (short-entry 3 (nodeOf l) 0 (below 0 1) low-pair (omega arith) a (omega arith), tt)
 
 -- the keys of an object
 values-count : (fs : Fields) (o : FieldOrder Expr) → length (inOrder (valueOrder fs o)) ≤ countFields fs + length (inOrder o)
@@ -99,13 +102,13 @@ module _ (u : ℕ → Bool) where
       go : (a b : Bool) → ShortFlat 513 (side u a b l r seen)
       go false false = compared-short l r seen s t
       go true false =
-          let f = plan-few u l seen 0 in
+          let f = plan-few u l seen (below 0 1) in
           let h = s .few in
-          pair-short r (plan u l seen) (after u l seen) (node-low r t) (omega arith) (plan-short u l seen 0 s (omega arith))
+          pair-short r (plan u l seen) (after u l seen) (node-low r t) (omega arith) (plan-short u l seen (below 0 1) s low-pair)
       go false true =
-          let f = plan-few u r seen 0 in
+          let f = plan-few u r seen (below 0 1) in
           let h = t .few in
-          pair-short l (plan u r seen) (after u r seen) (node-low l s) (omega arith) (plan-short u r seen 0 t (omega arith))
+          pair-short l (plan u r seen) (after u r seen) (node-low l s) (omega arith) (plan-short u r seen (below 0 1) t low-pair)
       go true true = refusal-short (omega arith) (node-low l s)
 
   -- 513 entries for each part of the right side

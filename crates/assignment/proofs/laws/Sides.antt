@@ -23,7 +23,7 @@ use Rattle.table.proofs.trees.Trees.{expr-name, expr-array, expr-object}
 use Rattle.planner.specs.declared.PlanAnswer.{PlanAnswer}
 use Rattle.planner.specs.declared.PlanAnswer.the-variants.{Planned, RootOutside, ColonEqualsRequiresBindableLeft, VariableAlreadyDefined}
 use Rattle.base.specs.Refusal.{colonEqualsRequiresBindableLeft}
-use Rattle.planner.specs.Layout.{Entry, entries, words, bindsAny, introducesBinding}
+use Rattle.planner.specs.Layout.{Entry, top, entryWords, entries, words, bindsAny, introducesBinding}
 use Rattle.planner.specs.Plan.{DestructuringPlan, plan}
 use Rattle.planner.specs.code.Passes.{stateBy, unboundIn}
 use Rattle.planner.specs.Operations.{planned, answered, written, Answered, planOf}
@@ -45,7 +45,7 @@ use Rattle.checks.proofs.Refused.{passes-undefined, refuses-defined}
 pub none-delivered : (form side : ℕ) {before later : List ℕ} → later ≡ replicate (length before) 0 → Answered (planned form side []) before later (Planned form side 0)
 unfolding answered written words
 none-delivered form side {before} e =
-    let z = leb-zero (length before / 4) in
+    let z = leb-zero (length before / entryWords) in
     record { answer = simp z; buffer = simp z e }
   where
     leb-zero : (n : ℕ) → leb 0 n ≡ true
@@ -73,7 +73,7 @@ module _ (T : Tables) (a b : ℕ) (g : GoodPair T a b) where
   ask-first = record { table = g .table; node = g .first; none-bound = refl; low = omega arith }
 
   module _ {before : List ℕ} (space : Roomy T before) (s : Scope) {binders scratch : List ℕ} {count : ℕ} (p : PatternPlanned T s AllowShadowing a 0 before binders scratch count) where
-    held : count ≤ length before / 4
+    held : count ≤ length before / entryWords
     held =
         let m = p .space in
         let h = g .first .high in
@@ -154,17 +154,17 @@ module _ (T : Tables) (s : Scope) (left right : ℕ) (g : GoodPair T left right)
     same : plan (unboundIn states) (expr T n) [] ≡ planOf T s RespectParent n
     same = same-plan T s RespectParent states of (g .table) n v []
 
-    told-by : {b : Bool} → b ≡ introducesBinding (plan (unboundIn states) (expr T n) []) → bindsAny (entries (planOf T s RespectParent n) 0) ≡ b
+    told-by : {b : Bool} → b ≡ introducesBinding (plan (unboundIn states) (expr T n) []) → bindsAny (entries (planOf T s RespectParent n) top) ≡ b
     told-by e = sym (e ∙ ap introducesBinding same)
 
-    read-by : {start binders scratch : List ℕ} {count : ℕ} {b : Bool} → Previewed T states n start binders scratch count b → readEntries scratch 0 count ≡ entries (planOf T s RespectParent n) 0
-    read-by p = previewed-entries p ∙ ap (λ (q : DestructuringPlan). entries q 0) same
+    read-by : {start binders scratch : List ℕ} {count : ℕ} {b : Bool} → Previewed T states n 0 start binders scratch count b → readEntries scratch 0 count ≡ entries (planOf T s RespectParent n) top
+    read-by p = previewed-entries p ∙ ap (λ (q : DestructuringPlan). entries q top) same
 
-  module _ {start binders scratch : List ℕ} {count : ℕ} {one other : Bool} (told : SidesTold T states left right start binders scratch count one other) where
-    left-is : bindsAny (entries (planOf T s RespectParent left) 0) ≡ one
+  module _ {start binders scratch : List ℕ} {count : ℕ} {one other : Bool} (told : SidesTold T states left right 0 start binders scratch count one other) where
+    left-is : bindsAny (entries (planOf T s RespectParent left) top) ≡ one
     left-is = told-by (g .first) (told .left-seen .told)
 
-    right-is : bindsAny (entries (planOf T s RespectParent right) 0) ≡ other
+    right-is : bindsAny (entries (planOf T s RespectParent right) top) ≡ other
     right-is = told-by (g .second) (told .right-told)
 
     module _ {before later : List ℕ} {answer : PlanAnswer} where
@@ -176,7 +176,7 @@ module _ (T : Tables) (s : Scope) (left right : ℕ) (g : GoodPair T left right)
           let e = read-by (g .first) (told .left-seen) in
           simp (left-is ∙ p, right-is ∙ q) (rw e at a)
 
-      pub equals-right : one ≡ false → other ≡ true → Answered (bindSide T 3 right left (entries (plan (unboundIn states) (expr T right) []) 0)) before later answer → Answered (equalsSides T s left right) before later answer
+      pub equals-right : one ≡ false → other ≡ true → Answered (bindSide T 3 right left (entries (plan (unboundIn states) (expr T right) []) top)) before later answer → Answered (equalsSides T s left right) before later answer
       equals-right p q a =
           let e = same (g .second) in
           simp (left-is ∙ p, right-is ∙ q) (rw e at a)
@@ -185,7 +185,7 @@ module _ (T : Tables) (s : Scope) (left right : ℕ) (g : GoodPair T left right)
       equals-none p q a = simp (left-is ∙ p, right-is ∙ q) a
 
 -- the right side, planned anew
-pub bound-right : {T : Tables} {states : List ℕ} (left : ℕ) {right : ℕ} {start binders scratch : List ℕ} {count : ℕ} {b : Bool} → Previewed T states right start binders scratch count b → {before later : List ℕ} {r : PlanAnswer}
+pub bound-right : {T : Tables} {states : List ℕ} (left : ℕ) {right : ℕ} {start binders scratch : List ℕ} {count : ℕ} {b : Bool} → Previewed T states right 0 start binders scratch count b → {before later : List ℕ} {r : PlanAnswer}
     → Answered (bindSide T 3 right left (readEntries scratch 0 count)) before later r → RightBound T states left right start binders scratch before later r
 bound-right left seen answer = record { answered = rw (previewed-entries seen) at answer; written = previewed-written seen }
 

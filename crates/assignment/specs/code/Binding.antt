@@ -10,7 +10,7 @@ use Rattle.base.specs.Lent.{Slices, old, new}
 use Rattle.table.specs.Tables.{Tables, tables, kindOf, firstOf}
 use Rattle.table.specs.Decode.{isWildcard}
 use Rattle.planner.specs.declared.PlanAnswer.{PlanAnswer}
-use Rattle.planner.specs.Layout.{entries}
+use Rattle.planner.specs.Layout.{top, entries}
 use Rattle.planner.specs.Entries.{putEntries}
 use Rattle.planner.specs.Operations.{Answered, AnsweredIn, planOf}
 use Rattle.planner.specs.code.Post.{GoodPair}
@@ -35,8 +35,8 @@ underscoreSide nodes names text left right = wildcardSide (underscoreAt nodes na
 
 -- the right side's entries, planned by the states
 pub record RightBound (T : Tables) (states : List ℕ) (left right : ℕ) (start binders scratch before after : List ℕ) (r : PlanAnswer) : Type 0 where
-  pub answered : Answered (bindSide T 3 right left (sideEntries T states right)) before after r
-  pub written : SideWritten T states right start binders scratch
+  pub answered : Answered (bindSide T 3 right left (sideEntries T states right 0)) before after r
+  pub written : SideWritten T states right 0 start binders scratch
 
 abbrev pub RightBoundIn : Slices → Slices → Slices → Tables → List ℕ → ℕ → ℕ → PlanAnswer → Type 0
 RightBoundIn plan scratch binders T states left right r = RightBound T states left right (old scratch) (new binders) (new scratch) (old plan) (new plan) r
@@ -44,4 +44,4 @@ RightBoundIn plan scratch binders T states left right r = RightBound T states le
 -- `:=`: the left side's entries stay in the scratch
 abbrev pub ColonEqualsIn : Slices → Slices → Tables → Scope → ℕ → ℕ → PlanAnswer → Type 0
 ColonEqualsIn plan scratch T s left right r =
-    AnsweredIn plan (colonEqualsPlanned T s left right) r × (new scratch ≡ putEntries (old scratch) 0 (entries (planOf T s AllowShadowing left) 0))
+    AnsweredIn plan (colonEqualsPlanned T s left right) r × (new scratch ≡ putEntries (old scratch) 0 (entries (planOf T s AllowShadowing left) top))

@@ -10,7 +10,7 @@ use Rattle.table.specs.Tables.{Tables, kindOf, childAt}
 use Rattle.base.specs.Lists.{elem}
 use Rattle.table.specs.code.Sound.{Node, WellFormed}
 use Rattle.planner.specs.declared.PlanAnswer.{PlanAnswer}
-use Rattle.planner.specs.Layout.{Entry, entry}
+use Rattle.planner.specs.Layout.{Entry, below, top, entry}
 use Rattle.assignment.specs.declared.flatten.Flattened.{Flattened}
 use Rattle.assignment.specs.declared.flatten.Flattened.the-variants.{Next, Refused}
 use Rattle.planner.specs.code.Post.{NameNumber, States, GoodPair}
@@ -24,13 +24,13 @@ use Rattle.assignment.specs.code.KeyMatching.{KeysAsks, SameKeys}
 pub record Compared (left right : ℕ) (before : List ℕ) (at : ℕ) (after : List ℕ) (r : Flattened) : Type 0 where
   pub next : ℕ
   pub is : r ≡ Next next
-  pub wrote : Wrote before at (entry 7 right 1 0 ∷ entry 3 left 0 0 ∷ []) after next
+  pub wrote : Wrote before at (entry 7 right 1 top ∷ entry 3 left 0 (below 0 1) ∷ []) after next
 
 -- the entries of a side that is bound, and its names known
 pub record Bound (value : ℕ) (es : List Entry) (states₀ binders before : List ℕ) (at : ℕ) (states after : List ℕ) (r : Flattened) : Type 0 where
   pub next : ℕ
   pub is : r ≡ Next next
-  pub wrote : Wrote before at (entry 7 value 1 0 ∷ es) after next
+  pub wrote : Wrote before at (entry 7 value 1 top ∷ es) after next
   pub learnt : Learnt states₀ binders states
 
 -- the names given become known, and no other state changes
@@ -122,7 +122,7 @@ ObjectFieldsAsksIn scratch T states left right order total at = ObjectFieldsAsks
 -- what each says of what it is lent
 abbrev pub SideFlattened : Slices → Slices → Slices → Slices → Tables → ℕ → ℕ → ℕ → Flattened → Type 0
 SideFlattened states scratch binders plan T pattern value at r =
-    Flattens (sideFlat T pattern value) T 513 (old states) (old plan) at (new states) (new plan) r × SideWritten T (old states) pattern (old scratch) (new binders) (new scratch)
+    Flattens (sideFlat T pattern value) T 513 (old states) (old plan) at (new states) (new plan) r × SideWritten T (old states) pattern 1 (old scratch) (new binders) (new scratch)
 
 abbrev pub NodesFlattened : Slices → Slices → Tables → ℕ → ℕ → ℕ → Flattened → Type 0
 NodesFlattened states plan T left right at r = Flattens (nodesFlat T left right) T (mostOf T right) (old states) (old plan) at (new states) (new plan) r

@@ -57,7 +57,7 @@ kindsPairing nodes children left right =
 pub record Judges (T : Tables) (states : List ℕ) (left right : ℕ) (before binders scratch : List ℕ) (count : ℕ) (r : Judgement) : Type 0 where
   pub one : Bool
   pub other : Bool
-  pub sides : SidesTold T states left right before binders scratch count one other
+  pub sides : SidesTold T states left right 1 before binders scratch count one other
   pub is : r ≡ judgementOf one other (pairingAt T left right)
 
 abbrev pub JudgesIn : Slices → Slices → Tables → List ℕ → ℕ → ℕ → ℕ → Judgement → Type 0

@@ -8,6 +8,7 @@ use borrow.Author.Tests.{eqb-true, eqb-false, le-leb, lt-leb, lt-ltb, le-ltb}
 use lib.Dec.{eqb}
 use lib.ListN.{length, getD, set, replicate, length-set, length-replicate, getD-replicate, List·getD-eq-default}
 use lib.Seq.{getD-set-same, getD-set-other, ext-getD}
+use Rattle.planner.specs.Layout.{entryWords}
 use Rattle.planner.specs.declared.PlanAnswer.the-variants.{Planned, PlanTooLarge}
 use Rattle.base.specs.Lists.{tabulate}
 use Rattle.planner.specs.code.Post.{wordAt, Closed}
@@ -98,8 +99,8 @@ all-cleared before e = e ∙ zeros (wordAt before 0) (λ i. sym (word-out before
 
 -- with and without space
 module _ (form count : ℕ) (before after : List ℕ) where
-  pub closed-small : length before / 4 < count → after ≡ replicate (length before) 0 → Closed form count before after (PlanTooLarge count)
-  closed-small lt e = let b = lt-leb count (length before / 4) lt in record { answer = simp b; buffer = simp b e }
+  pub closed-small : length before / entryWords < count → after ≡ replicate (length before) 0 → Closed form count before after (PlanTooLarge count)
+  closed-small lt e = let b = lt-leb count (length before / entryWords) lt in record { answer = simp b; buffer = simp b e }
 
-  pub closed-fits : count ≤ length before / 4 → after ≡ tabulate (wordAt before (count * 4)) 0 (length before) → Closed form count before after (Planned form 0 count)
-  closed-fits le e = let b = le-leb count (length before / 4) le in record { answer = simp b; buffer = simp b e }
+  pub closed-fits : count ≤ length before / entryWords → after ≡ tabulate (wordAt before (count * entryWords)) 0 (length before) → Closed form count before after (Planned form 0 count)
+  closed-fits le e = let b = le-leb count (length before / entryWords) le in record { answer = simp b; buffer = simp b e }

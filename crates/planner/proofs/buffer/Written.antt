@@ -3,10 +3,10 @@ use Prim.Native.Nat.{ℕ, suc, _+_, _-_, _*_}
 use mathlib.Core.Path.{_≡_, refl, sym, ap, _∙_}
 use mathlib.Core.List.{List, [], _∷_, _++_}
 use native.Mathlib.Omega.{arith}
-use native.Mathlib.Numerals.{add-one, add-two, add-three}
+use native.Mathlib.Numerals.{add-one, add-two, add-three, add-four}
 use lib.ListN.{length, set, length-append}
 use lib.Seq.{sets}
-use Rattle.planner.specs.Layout.{Entry, entry, words}
+use Rattle.planner.specs.Layout.{Entry, entryWords, below, entry, words}
 use Rattle.planner.specs.code.Post.{Laid}
 
 pub words-append : (es fs : List Entry) → words (es ++ fs) ≡ words es ++ words fs
@@ -14,7 +14,7 @@ unfolding words
 words-append [] fs = refl
 words-append (e ∷ es) fs = let h = words-append es fs in cc
 
-pub length-words : (es : List Entry) → length (words es) ≡ length es * 4
+pub length-words : (es : List Entry) → length (words es) ≡ length es * entryWords
 unfolding words
 length-words [] = refl
 length-words (e ∷ es) = let h = length-words es in omega arith
@@ -25,17 +25,17 @@ sets-append l i (x ∷ xs) ys =
     let e : i + suc (length xs) ≡ suc i + length xs = omega arith in
     ap (λ (j : ℕ). sets (sets (set l i x) (suc i) xs) j ys) e ∙ sets-append (set l i x) (suc i) xs ys
 
--- the four stores of an entry
-pub put-stores : (before : List ℕ) (at kind node count key : ℕ)
-    → set (set (set (set before (at * 4) kind) (at * 4 + 1) node) (at * 4 + 2) count) (at * 4 + 3) key ≡ sets before (at * 4) (words (entry kind node count key ∷ []))
+-- the five stores of an entry
+pub put-stores : (before : List ℕ) (at kind node count key position : ℕ)
+    → set (set (set (set (set before (at * entryWords) kind) (at * entryWords + 1) node) (at * entryWords + 2) count) (at * entryWords + 3) key) (at * entryWords + 4) position ≡ sets before (at * entryWords) (words (entry kind node count (below key position) ∷ []))
 unfolding words
-put-stores before at kind node count key = simp (add-one, add-two, add-three)
+put-stores before at kind node count key position = simp (add-one, add-two, add-three, add-four)
 
 pub laid-none : (before : List ℕ) (at : ℕ) → Laid before at [] before at
 unfolding words
 laid-none before at = record { end = omega arith; stored = refl }
 
-pub laid-put : {before after : List ℕ} {at : ℕ} {e : Entry} → after ≡ sets before (at * 4) (words (e ∷ [])) → Laid before at (e ∷ []) after (at + 1)
+pub laid-put : {before after : List ℕ} {at : ℕ} {e : Entry} → after ≡ sets before (at * entryWords) (words (e ∷ [])) → Laid before at (e ∷ []) after (at + 1)
 laid-put p = record { end = refl; stored = p }
 
 pub laid-append : {before mid after : List ℕ} {at r s : ℕ} {es fs : List Entry} → Laid before at es mid r → Laid mid r fs after s → Laid before at (es ++ fs) after s
@@ -43,9 +43,9 @@ laid-append {before} {mid} {after} {at} {r} {s} {es} {fs} a b = record {
   end = let p = a .end in let q = b .end in omega (arith, length-append es fs);
   stored =
       let p = a .end in
-      let place : r * 4 ≡ at * 4 + length (words es) = omega (arith, length-words es) in
+      let place : r * entryWords ≡ at * entryWords + length (words es) = omega (arith, length-words es) in
       b .stored
-      ∙ (ap (λ (l : List ℕ). sets l (r * 4) (words fs)) (a .stored)
-      ∙ (ap (λ (j : ℕ). sets (sets before (at * 4) (words es)) j (words fs)) place
-      ∙ (sets-append before (at * 4) (words es) (words fs) ∙ ap (λ (l : List ℕ). sets before (at * 4) l) (sym (words-append es fs)))));
+      ∙ (ap (λ (l : List ℕ). sets l (r * entryWords) (words fs)) (a .stored)
+      ∙ (ap (λ (j : ℕ). sets (sets before (at * entryWords) (words es)) j (words fs)) place
+      ∙ (sets-append before (at * entryWords) (words es) (words fs) ∙ ap (λ (l : List ℕ). sets before (at * entryWords) l) (sym (words-append es fs)))));
 }

@@ -15,6 +15,7 @@ use Rattle.table.specs.Tables.{Tables}
 use Rattle.table.specs.Expr.{Expr, literal, name, wildcard, array, set, object, other, Exprs, none, item, Fields, done, field, parts, partsAll, partsFields}
 use Rattle.table.specs.Decode.{expr}
 use Rattle.table.specs.Check.{checked, allNodes}
+use Rattle.planner.specs.Layout.{top}
 use Rattle.planner.specs.Operations.{Outcome, require, tableFirst, checkedFirst, patternPlanned, patternOutcome, parameterCheck, parameterOutcome}
 use Rattle.planner.specs.Steps.{writtenSteps, writtenStepsAll, writtenStepsFields, steps, StepLaws, StepsBetween, StepsOfRoot, OutcomeSteps}
 use Rattle.planner.proofs.laws.ShortPlans.{plan-few}
@@ -50,7 +51,7 @@ mutual
 
 pub step-laws : (u : ℕ → Bool) (e : Expr) → StepLaws u e
 unfolding steps
-step-laws u e = record { least = omega arith; most = let w = written-few e in let p = plan-few u e [] 0 in omega arith }
+step-laws u e = record { least = omega arith; most = let w = written-few e in let p = plan-few u e [] top in omega arith }
 
 -- the operations
 module _ (n nodes : ℕ) (o : Outcome) (p : StepsBetween n nodes o) where

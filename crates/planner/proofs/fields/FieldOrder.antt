@@ -17,7 +17,7 @@ use Rattle.literal.specs.Laws.{TotalOrder}
 use Rattle.table.specs.Expr.{Expr, nodeOf}
 use Rattle.table.specs.Tables.{childAt}
 use Rattle.table.specs.Decode.{fields}
-use Rattle.planner.specs.Layout.{Entry, literalKey, Slot, placed, insert, FieldOrder, noFields, addField, heldIn, inOrder}
+use Rattle.planner.specs.Layout.{Entry, below, literalKey, Slot, placed, insert, FieldOrder, noFields, addField, heldIn, inOrder}
 use Rattle.planner.specs.code.Passes.{layOut, layOutFields, orderFrom}
 use Rattle.planner.specs.code.Ordering.{At, KeyBetween}
 
@@ -59,19 +59,19 @@ module _ (g : ℕ → Expr) (ch : List ℕ) (first : ℕ) where
 
 module _ (b : List ℕ) (g : ℕ → Expr) (ch : List ℕ) (first : ℕ) where
   abbrev pub fieldEntries : ℕ → List Entry
-  fieldEntries i = layOut b (g (childAt ch (first + i * 2 + 1))) (nodeOf (g (childAt ch (first + i * 2))))
+  fieldEntries i = layOut b (g (childAt ch (first + i * 2 + 1))) (below (nodeOf (g (childAt ch (first + i * 2)))) (i + 1))
 
   pub order-entries-from : (i k : ℕ) (o : FieldOrder ℕ)
-      → layOutFields b (fields g ch (first + i * 2) k) (mapOrder fieldEntries o) ≡ mapOrder fieldEntries (orderFrom (fieldKey g ch first) i k o)
+      → layOutFields b (fields g ch (first + i * 2) k) (i + 1) (mapOrder fieldEntries o) ≡ mapOrder fieldEntries (orderFrom (fieldKey g ch first) i k o)
   unfolding fields layOut orderFrom
   order-entries-from i zero o = refl
   order-entries-from i (suc k) o =
       let e = add-map fieldEntries (fieldKey g ch first i) i o in
       let a : first + i * 2 + 2 ≡ first + (i + 1) * 2 = omega arith in
-      ap (λ (n : FieldOrder (List Entry)). layOutFields b (fields g ch (first + i * 2 + 2) k) n) e
+      ap (λ (n : FieldOrder (List Entry)). layOutFields b (fields g ch (first + i * 2 + 2) k) (i + 1 + 1) n) e
       ∙ rw a (order-entries-from (i + 1) k (addField (fieldKey g ch first i) i o))
 
-  pub order-entries : (k : ℕ) → inOrder (layOutFields b (fields g ch first k) noFields) ≡ map fieldEntries (inOrder (orderFrom (fieldKey g ch first) 0 k noFields))
+  pub order-entries : (k : ℕ) → inOrder (layOutFields b (fields g ch first k) 1 noFields) ≡ map fieldEntries (inOrder (orderFrom (fieldKey g ch first) 0 k noFields))
   order-entries k =
       let z : first + 0 * 2 ≡ first = omega arith in
       ap inOrder (rw z at (order-entries-from 0 k noFields)) ∙ in-order-map fieldEntries (orderFrom (fieldKey g ch first) 0 k noFields)

@@ -16,7 +16,7 @@ use Rattle.table.specs.Expr.{Expr, object, Exprs, Fields, nodeOf}
 use Rattle.table.specs.Decode.{expr, fields, isWildcard, headed, literalAt, literalNode, refOf}
 use Rattle.table.specs.code.Sound.{Node, WellFormed}
 use Rattle.table.proofs.trees.Trees.{expr-unfolds, expr-literal, expr-object, width-object, child-node}
-use Rattle.planner.specs.Layout.{Entry, entry, literalKey, Slot, heldIn, FieldOrder, noFields, inOrder, addField, concat}
+use Rattle.planner.specs.Layout.{Entry, Place, below, entry, literalKey, Slot, heldIn, FieldOrder, noFields, inOrder, addField, concat}
 use Rattle.planner.specs.Entries.{Wrote}
 use Rattle.planner.specs.code.Passes.{layOut, layOutFields, orderFrom, concatAt, layOutOrdered, keyNode, valueNode, fieldKey, fieldEntries, orderOf}
 use Rattle.planner.specs.code.Post.{StepRoom, LayObjectAsks, OrderAsks, OrderedBy, Arranged, LayOrderedAsks}
@@ -146,7 +146,7 @@ order-below key k =
     below-append k (map heldIn (orderFrom key 0 k noFields .literals)) (orderFrom key 0 k noFields .computed) (held-below k (orderFrom key 0 k noFields .literals) (b .literals)) (b .computed)
 
 -- an object node
-module _ (T : Tables) (states binders : List ℕ) (n key at : ℕ) (a : LayObjectAsks T states binders n key at) {first size : ℕ} (is-first : first ≡ firstOf (T .nodes) n) (is-size : size ≡ countOf (T .nodes) n) where
+module _ (T : Tables) (states binders : List ℕ) (n : ℕ) (key : Place) (at : ℕ) (a : LayObjectAsks T states binders n key at) {first size : ℕ} (is-first : first ≡ firstOf (T .nodes) n) (is-size : size ≡ countOf (T .nodes) n) where
   well : WellFormed T
   well = a .asks .walks .table
 
@@ -179,12 +179,12 @@ module _ (T : Tables) (states binders : List ℕ) (n key at : ℕ) (a : LayObjec
       let z : 0 + j ≡ j = omega arith in
       rw z (key-literal T well (keyNode T first j) (child (j * 2) (omega arith) .0)))
 
-  order-is : inOrder (layOutFields binders (fields (expr T) (T .children) first size) noFields) ≡ map (fieldEntries binders T first) (inOrder (orderOf T first size))
+  order-is : inOrder (layOutFields binders (fields (expr T) (T .children) first size) 1 noFields) ≡ map (fieldEntries binders T first) (inOrder (orderOf T first size))
   order-is =
       order-entries binders (expr T) (T .children) first size
       ∙ (ap (λ (o : FieldOrder ℕ). map (Fields.fieldEntries binders (expr T) (T .children) first) (inOrder o)) keys-same
       ∙ map-same (Fields.fieldEntries binders (expr T) (T .children) first) (fieldEntries binders T first) size (inOrder (orderOf T first size)) (order-below (fieldKey T first) size) (λ i lt.
-      ap (λ (k : ℕ). layOut binders (expr T (valueNode T first i)) k) (node-of T well (keyNode T first i) (child (i * 2) (omega arith) .0))))
+      ap (λ (k : ℕ). layOut binders (expr T (valueNode T first i)) (below k (i + 1))) (node-of T well (keyNode T first i) (child (i * 2) (omega arith) .0))))
 
   entries-of : layOut binders (expr T n) key ≡ entry 6 n (length (inOrder (orderOf T first size))) key ∷ concat (map (fieldEntries binders T first) (inOrder (orderOf T first size)))
   unfolding layOut

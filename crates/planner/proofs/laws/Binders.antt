@@ -23,7 +23,7 @@ use Rattle.table.proofs.trees.Lists.{elem-head, elem-left, elem-right, elem-tai
 use Rattle.table.proofs.trees.Trees.{width-array, width-set, width-object, child-node, expr-unfolds, expr-name, expr-array, expr-set, expr-object}
 use Rattle.table.proofs.trees.Forest.{forest}
 use Rattle.planner.specs.Plan.{var, equalityExpr, fresh, plan, plans, fieldPlans, after, afterAll, afterFields}
-use Rattle.planner.specs.Layout.{Entry, entry, literalKey, FieldOrder, noFields, addField, inOrder, concat, entries, entriesAll, countPlans, fieldOrder}
+use Rattle.planner.specs.Layout.{Entry, Place, below, entry, literalKey, FieldOrder, noFields, addField, inOrder, concat, entries, entriesAll, countPlans, fieldOrder}
 use Rattle.planner.specs.code.Passes.{binderOf, bindName, bindersOf, bindersAll, bindersFields, nameKind, layOut, layOutAll, layOutFields}
 
 -- P holds of every name's node and number, in sets and keys too
@@ -266,7 +266,7 @@ module _ (u : ℕ → Bool) where
 
   -- in the binders of the whole pattern
   module _ (final : List ℕ) (idle : (x : ℕ) → 1 ≤ x → x ≤ 128 → u x ≡ false → binderOf final x ≡ 0) where
-    lay-name : (n x : ℕ) (seen b : List ℕ) → 1 ≤ x → x ≤ 128 → Before (n ∷ []) seen b → Keeps (bindName u n x b) final → (key : ℕ)
+    lay-name : (n x : ℕ) (seen b : List ℕ) → 1 ≤ x → x ≤ 128 → Before (n ∷ []) seen b → Keeps (bindName u n x b) final → (key : Place)
         → entry (nameKind final n x) n 0 key ∷ [] ≡ entries (cond (fresh u seen x) (var n x) (equalityExpr (name n x))) key
     unfolding entries
     lay-name n x seen b low high a keeps key =
@@ -296,38 +296,38 @@ module _ (u : ℕ → Bool) where
     mutual
       unfolding plan entries layOut bindersOf after parts AllNames count
 
-      lay : (e : Expr) (seen b : List ℕ) → NamesIn e → Before (parts e) seen b → Keeps (bindersOf u e b) final → (key : ℕ) → layOut final e key ≡ entries (plan u e seen) key
+      lay : (e : Expr) (seen b : List ℕ) → NamesIn e → Before (parts e) seen b → Keeps (bindersOf u e b) final → (key : Place) → layOut final e key ≡ entries (plan u e seen) key
       lay (literal n l) seen b names a keeps key = refl
       lay (name n x) seen b names a keeps key = lay-name n x seen b (names .0) (names .1) a keeps key
       lay (wildcard n) seen b names a keeps key = refl
       lay (array n es) seen b names a keeps key =
           let c = count-plans es seen in
-          let t = lay-all es seen b names (before-tail n (partsAll es) a) keeps in
+          let t = lay-all es seen b names (before-tail n (partsAll es) a) keeps 1 in
           cc
       lay (Expr.set n es) seen b names a keeps key = refl
       lay (object n fs) seen b names a keeps key =
           ap (λ (o : FieldOrder (List Entry)). entry 6 n (length (inOrder o)) key ∷ concat (inOrder o))
-          (lay-fields fs seen b names (before-tail n (partsFields fs) a) keeps noFields)
+          (lay-fields fs seen b names (before-tail n (partsFields fs) a) keeps 1 noFields)
       lay (other n) seen b names a keeps key = refl
 
-      lay-all : (es : Exprs) (seen b : List ℕ) → NamesInAll es → Before (partsAll es) seen b → Keeps (bindersAll u es b) final → layOutAll final es ≡ entriesAll (plans u es seen)
-      lay-all none seen b names a keeps = refl
-      lay-all (item e es) seen b names a keeps =
+      lay-all : (es : Exprs) (seen b : List ℕ) → NamesInAll es → Before (partsAll es) seen b → Keeps (bindersAll u es b) final → (i : ℕ) → layOutAll final es i ≡ entriesAll (plans u es seen) i
+      lay-all none seen b names a keeps i = refl
+      lay-all (item e es) seen b names a keeps i =
           let here = lay e seen b (names .0) (before-left (parts e) (partsAll es) a)
-          (keeps-trans (bindersOf u e b) (bindersAll u es (bindersOf u e b)) final (keep-all u es (names .1) seen (bindersOf u e b)) keeps) 0 in
-          let rest = lay-all es (after u e seen) (bindersOf u e b) (names .1) (before-next e (partsAll es) seen b (names .0) a) keeps in
+          (keeps-trans (bindersOf u e b) (bindersAll u es (bindersOf u e b)) final (keep-all u es (names .1) seen (bindersOf u e b)) keeps) (below 0 i) in
+          let rest = lay-all es (after u e seen) (bindersOf u e b) (names .1) (before-next e (partsAll es) seen b (names .0) a) keeps (i + 1) in
           cc
 
       lay-fields : (fs : Fields) (seen b : List ℕ) → NamesInFields fs → Before (partsFields fs) seen b → Keeps (bindersFields u fs b) final
-          → (o : FieldOrder (List Entry)) → layOutFields final fs o ≡ fieldOrder (fieldPlans u fs seen) o
-      lay-fields done seen b names a keeps o = refl
-      lay-fields (field k v fs) seen b names a keeps o =
+          → (i : ℕ) (o : FieldOrder (List Entry)) → layOutFields final fs i o ≡ fieldOrder (fieldPlans u fs seen) i o
+      lay-fields done seen b names a keeps i o = refl
+      lay-fields (field k v fs) seen b names a keeps i o =
           let after-key = before-right (parts k) (parts v ++ partsFields fs) a in
           let here = lay v seen b (names .1) (before-left (parts v) (partsFields fs) after-key)
-          (keeps-trans (bindersOf u v b) (bindersFields u fs (bindersOf u v b)) final (keep-fields u fs (names .2) seen (bindersOf u v b)) keeps) (nodeOf k) in
-          lay-fields fs (after u v seen) (bindersOf u v b) (names .2) (before-next v (partsFields fs) seen b (names .1) after-key) keeps
-          (addField (literalKey k) (layOut final v (nodeOf k)) o)
-          ∙ ap (λ (es : List Entry). fieldOrder (fieldPlans u fs (after u v seen)) (addField (literalKey k) es o)) here
+          (keeps-trans (bindersOf u v b) (bindersFields u fs (bindersOf u v b)) final (keep-fields u fs (names .2) seen (bindersOf u v b)) keeps) (below (nodeOf k) i) in
+          lay-fields fs (after u v seen) (bindersOf u v b) (names .2) (before-next v (partsFields fs) seen b (names .1) after-key) keeps (i + 1)
+          (addField (literalKey k) (layOut final v (below (nodeOf k) i)) o)
+          ∙ ap (λ (es : List Entry). fieldOrder (fieldPlans u fs (after u v seen)) (i + 1) (addField (literalKey k) es o)) here
 
       count-plans : (es : Exprs) (seen : List ℕ) → count es ≡ countPlans (plans u es seen)
       count-plans none seen = refl
@@ -346,7 +346,7 @@ agree-first = record {
 }
 
 module _ (u : ℕ → Bool) (e : Expr) (different : noRepeat (parts e) ≡ true) (some : (m : ℕ) → elem m (parts e) ≡ true → 1 ≤ m) (names : NamesIn e) where
-  pub lay-plan : (key : ℕ) → layOut (bindersOf u e (replicate 128 0)) e key ≡ entries (plan u e []) key
+  pub lay-plan : (key : Place) → layOut (bindersOf u e (replicate 128 0)) e key ≡ entries (plan u e []) key
   lay-plan key =
       lay u (bindersOf u e (replicate 128 0)) (λ x l h known. binders-idle u e names [] (replicate 128 0) x l known ∙ unset x l h)
       e [] (replicate 128 0) names
@@ -435,7 +435,7 @@ module _ (T : Tables) (w : WellFormed T) where
       (omega arith, omega arith))
 
   module _ (u : ℕ → Bool) (n : ℕ) (v : Node T n) where
-    pub lay-plan-of : (key : ℕ) → layOut (bindersOf u (expr T n) (replicate 128 0)) (expr T n) key ≡ entries (plan u (expr T n) []) key
+    pub lay-plan-of : (key : Place) → layOut (bindersOf u (expr T n) (replicate 128 0)) (expr T n) key ≡ entries (plan u (expr T n) []) key
     lay-plan-of key = let f = forest T w n v in lay-plan u (expr T n) (f .different) (λ m h. f .within m h .0) (names-in n v) key
 
     pub bound-agree-of : (x : ℕ) → 1 ≤ x → x ≤ 128 → elem x (after u (expr T n) []) ≡ not (eqb (binderOf (bindersOf u (expr T n) (replicate 128 0)) x) 0)

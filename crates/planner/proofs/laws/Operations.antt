@@ -26,7 +26,7 @@ use Rattle.planner.specs.declared.PlanAnswer.the-variants.{TableRefused,
 use Rattle.base.specs.Refusal.{Refusal, refusalLine, passed, rootOutside}
 use Rattle.planner.specs.Answer.{lineOf}
 use Rattle.planner.specs.Plan.{DestructuringPlan, after}
-use Rattle.planner.specs.Layout.{entries}
+use Rattle.planner.specs.Layout.{top, entries}
 use Rattle.planner.specs.Steps.{writtenSteps, planSteps, steps}
 use Rattle.planner.specs.Entries.{Wrote}
 use Rattle.planner.specs.Operations.{Outcome, refused, answered, written, Answered, tableFirst, checkedFirst, planOf, patternPlanned}
@@ -42,10 +42,10 @@ module _ (T : Tables) (s : Scope) (mode : ScopingMode) (root : ℕ) {start : Lis
     pub ask-plan : PlanAsks T states root start at
     ask-plan = record { walks = record { table = a .table; states-ok = states-wild T s mode states of (a .table); node = a .node }; none-bound = a .none-bound; low = a .low }
 
-    pub pattern-planned : {before binders later : List ℕ} {r : ℕ} → PlannedBy T states root at before binders later r → PatternPlanned T s mode root at before binders later r
+    pub pattern-planned : {before binders later : List ℕ} {r : ℕ} → PlannedBy T states root 0 at before binders later r → PatternPlanned T s mode root at before binders later r
     pattern-planned {before} {binders} {later} {r} p = record {
       bound = p .bound ∙ same-binders T s mode states of (a .table) root (a .node) (replicate 128 0);
-      wrote = subst (λ (q : DestructuringPlan). Wrote before at (entries q 0) later r) (same-plan T s mode states of (a .table) root (a .node) []) (p .wrote);
+      wrote = subst (λ (q : DestructuringPlan). Wrote before at (entries q top) later r) (same-plan T s mode states of (a .table) root (a .node) []) (p .wrote);
       few = p .few;
       space = p .space;
     }
@@ -110,4 +110,4 @@ ask-pattern T root g = record { table = g .table; node = g .node; none-bound = r
 
 pub pattern-closed : (T : Tables) (s : Scope) (mode : ScopingMode) (root : ℕ) {binders before mid later : List ℕ} {count : ℕ} {r : PlanAnswer}
     → PatternPlanned T s mode root 0 before binders mid count → Closed 0 count mid later r → Answered (patternPlanned T s mode root) before later r
-pattern-closed T s mode root p d = wrote-closed 0 (entries (planOf T s mode root) 0) (p .wrote) d
+pattern-closed T s mode root p d = wrote-closed 0 (entries (planOf T s mode root) top) (p .wrote) d

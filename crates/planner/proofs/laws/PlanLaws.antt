@@ -17,7 +17,7 @@ use Rattle.table.specs.code.Sound.{Node, WellFormed}
 use Rattle.table.proofs.tests.Bools.{and-true}
 use Rattle.table.proofs.trees.Lists.{elem-nil, elem-cons, elem-append, no-repeat-cons, cons-no-repeat, append-no-repeat}
 use Rattle.planner.specs.Plan.{DestructuringPlan, var, ignore, equalityExpr, equalityValue, arrayPlan, objectPlan, Plans, noPlan, itemPlan, FieldPlans, noField, fieldPlan, fresh, plan, plans, fieldPlans, after, afterAll, afterFields, trackedVars, trackedVarsAll, trackedVarsFields}
-use Rattle.planner.specs.Layout.{Entry, literalKey, FieldOrder, noFields, addField, inOrder, concat, entries, entriesAll, fieldOrder, boundNames}
+use Rattle.planner.specs.Layout.{Entry, Place, below, literalKey, FieldOrder, noFields, addField, inOrder, concat, entries, entriesAll, fieldOrder, boundNames}
 use Rattle.planner.specs.Laws.{createPlan, createPlans, createFieldPlans, PlanLaws}
 use Rattle.planner.proofs.laws.Sizes.{total, total-append, add-total}
 use Rattle.planner.proofs.laws.Binders.{AllNames, AllNamesAll, AllNamesFields, names-all}
@@ -269,37 +269,37 @@ module _ (nm : ℕ → ℕ) where
     mutual
       unfolding entries trackedVars NamesNodes boundNames total concat
 
-      entries-times : (p : DestructuringPlan) → NamesNodes p → (key : ℕ) → times (entries p key) ≤ occurs x (trackedVars p)
+      entries-times : (p : DestructuringPlan) → NamesNodes p → (key : Place) → times (entries p key) ≤ occurs x (trackedVars p)
       entries-times (var n y) named key = rw named (omega arith)
       entries-times (ignore n) named key = omega arith
       entries-times (equalityExpr e) named key = omega arith
       entries-times (equalityValue n l) named key = omega arith
-      entries-times (arrayPlan n ps) named key = entries-times-all ps named
-      entries-times (objectPlan n fs) named key = let h = entries-times-fields fs named noFields in omega arith
+      entries-times (arrayPlan n ps) named key = entries-times-all ps named 1
+      entries-times (objectPlan n fs) named key = let h = entries-times-fields fs named 1 noFields in omega arith
 
-      entries-times-all : (ps : Plans) → NamesNodesAll ps → times (entriesAll ps) ≤ occurs x (trackedVarsAll ps)
-      entries-times-all noPlan named = omega arith
-      entries-times-all (itemPlan p ps) named =
-          let h = entries-times p (named .0) 0 in
-          let t = entries-times-all ps (named .1) in
-          let a = times-append (entries p 0) (entriesAll ps) in
+      entries-times-all : (ps : Plans) → NamesNodesAll ps → (i : ℕ) → times (entriesAll ps i) ≤ occurs x (trackedVarsAll ps)
+      entries-times-all noPlan named i = omega arith
+      entries-times-all (itemPlan p ps) named i =
+          let h = entries-times p (named .0) (below 0 i) in
+          let t = entries-times-all ps (named .1) (i + 1) in
+          let a = times-append (entries p (below 0 i)) (entriesAll ps (i + 1)) in
           let b = total-append (hit x) (trackedVars p) (trackedVarsAll ps) in
           omega arith
 
-      entries-times-fields : (fs : FieldPlans) → NamesNodesFields fs → (o : FieldOrder (List Entry))
-          → times (concat (inOrder (fieldOrder fs o))) ≤ occurs x (trackedVarsFields fs) + times (concat (inOrder o))
-      entries-times-fields noField named o = omega arith
-      entries-times-fields (fieldPlan k p fs) named o =
-          let new = addField (literalKey k) (entries p (nodeOf k)) o in
-          let h = entries-times p (named .0) (nodeOf k) in
-          let t = entries-times-fields fs (named .1) new in
-          let a = add-total times (literalKey k) (entries p (nodeOf k)) o in
+      entries-times-fields : (fs : FieldPlans) → NamesNodesFields fs → (i : ℕ) (o : FieldOrder (List Entry))
+          → times (concat (inOrder (fieldOrder fs i o))) ≤ occurs x (trackedVarsFields fs) + times (concat (inOrder o))
+      entries-times-fields noField named i o = omega arith
+      entries-times-fields (fieldPlan k p fs) named i o =
+          let new = addField (literalKey k) (entries p (below (nodeOf k) i)) o in
+          let h = entries-times p (named .0) (below (nodeOf k) i) in
+          let t = entries-times-fields fs (named .1) (i + 1) new in
+          let a = add-total times (literalKey k) (entries p (below (nodeOf k) i)) o in
           let b = total-append (hit x) (trackedVars p) (trackedVarsFields fs) in
           let d = times-concat (inOrder new) in
           let e = times-concat (inOrder o) in
           omega arith
 
-  pub entries-bound : (p : DestructuringPlan) → NamesNodes p → noRepeat (trackedVars p) ≡ true → (key : ℕ) → noRepeat (boundNames nm (entries p key)) ≡ true
+  pub entries-bound : (p : DestructuringPlan) → NamesNodes p → noRepeat (trackedVars p) ≡ true → (key : Place) → noRepeat (boundNames nm (entries p key)) ≡ true
   entries-bound p named once key =
       occurs-once (boundNames nm (entries p key)) (λ x. let a = entries-times x p named key in let b = once-occurs x (trackedVars p) once in omega arith)
 
@@ -330,7 +330,7 @@ module _ (nm : ℕ → ℕ) where
       plan-nodes-fields (field k v fs) all seen = (plan-nodes v (all .1) seen, plan-nodes-fields fs (all .2) (after u v seen))
 
 -- a table's pattern binds no name twice; a name node's `first` is its name's number
-pub entries-bound-of : (T : Tables) → WellFormed T → (u : ℕ → Bool) (n : ℕ) → Node T n → (key : ℕ)
+pub entries-bound-of : (T : Tables) → WellFormed T → (u : ℕ → Bool) (n : ℕ) → Node T n → (key : Place)
     → noRepeat (boundNames (firstOf (T .nodes)) (entries (plan u (expr T n) []) key)) ≡ true
 entries-bound-of T w u n v key =
     entries-bound (firstOf (T .nodes)) (plan u (expr T n) [])

@@ -19,11 +19,11 @@ use Rattle.table.proofs.trees.Facts.{sound-table}
 use Rattle.base.specs.Refusal as Refusal
 use Rattle.base.specs.Refusal.{Refusal, Tested, overLimit, breaksRules, tooDeep, equalNames, rootOutside, variableAlreadyDefined}
 use Rattle.table.proofs.tests.Bools.{and-true}
-use Rattle.planner.specs.Layout.{Entry, entries}
+use Rattle.planner.specs.Layout.{Entry, top, entries}
 use Rattle.planner.specs.Operations.{Outcome, planned, require, tableFirst, checkedFirst, planOf, patternPlanned, patternOutcome, indexOutcome, validated, unlessDefined, parameterCheck, parameterOutcome}
 use Rattle.planner.specs.Short.{Short, ShortEntry, ShortRefusal, Every, ShortOutcome}
 use Rattle.planner.proofs.laws.Operations.{root-node}
-use Rattle.planner.proofs.laws.ShortPlans.{SmallTree, tree-small, plan-few, plan-short, first-node-low}
+use Rattle.planner.proofs.laws.ShortPlans.{SmallTree, low-top, tree-small, plan-few, plan-short, first-node-low}
 
 -- what the operations share
 pub short : {a b c d : ℕ} → a < 1000000 → b < 1000000 → c < 1000000 → d < 1000000 → Short a b c d
@@ -71,14 +71,14 @@ pub root-small : (T : Tables) → WellFormed T → (root : ℕ) → isNode T roo
 root-small T w root i = tree-small T w root (root-node T root refl (ap not i))
 
 module _ (T : Tables) (s : Scope) (mode : ScopingMode) (root : ℕ) (small : SmallTree (expr T root)) where
-  pub entries-few : length (entries (planOf T s mode root) 0) ≤ 512
-  entries-few = let h = plan-few (isUnbound s mode) (expr T root) [] 0 in let f = small .few in omega arith
+  pub entries-few : length (entries (planOf T s mode root) top) ≤ 512
+  entries-few = let h = plan-few (isUnbound s mode) (expr T root) [] top in let f = small .few in omega arith
 
-  pub entries-short : Every ShortEntry (entries (planOf T s mode root) 0)
-  entries-short = plan-short (isUnbound s mode) (expr T root) [] 0 small (omega arith)
+  pub entries-short : Every ShortEntry (entries (planOf T s mode root) top)
+  entries-short = plan-short (isUnbound s mode) (expr T root) [] top small low-top
 
   pub pattern-planned-short : ShortOutcome (patternPlanned T s mode root)
-  pattern-planned-short = planned-short 0 0 (entries (planOf T s mode root) 0) (omega arith) (omega arith) (let f = entries-few in omega arith) entries-short
+  pattern-planned-short = planned-short 0 0 (entries (planOf T s mode root) top) (omega arith) (omega arith) (let f = entries-few in omega arith) entries-short
 
   pub validated-low : validated T s mode root ≤ 512
   unfolding validated

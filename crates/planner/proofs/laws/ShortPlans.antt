@@ -19,7 +19,7 @@ use Rattle.table.specs.code.Sound.{Node, WellFormed}
 use Rattle.table.proofs.trees.Forest.{forest, tree-few}
 use Rattle.table.proofs.trees.Lists.{elem-head, elem-tail, elem-left, elem-right}
 use Rattle.planner.specs.Plan.{var, equalityExpr, fresh, plan, plans, fieldPlans, after}
-use Rattle.planner.specs.Layout.{Entry, literalKey, Slot, placed, insert, FieldOrder, noFields, addField, heldIn, inOrder, concat, entries, entriesAll, countPlans, fieldOrder}
+use Rattle.planner.specs.Layout.{Entry, Place, below, top, entry, literalKey, Slot, placed, insert, FieldOrder, noFields, addField, heldIn, inOrder, concat, entries, entriesAll, countPlans, fieldOrder}
 use Rattle.planner.specs.Held.{valueOrder, firstOr, heldUnder}
 use Rattle.planner.specs.Names.{Occurrence, occurrences, occurrencesAll, occurrencesFields, firstNode}
 use Rattle.planner.specs.Short.{ShortEntry, Every}
@@ -157,6 +157,20 @@ values-small (field k v fs) o s p =
     values-small fs (addField (literalKey k) v o) (small-right (parts v) (partsFields fs) rest)
     (add-every SmallTree (literalKey k) v o (small-left (parts v) (partsFields fs) rest) p)
 
+-- a key node of a small tree, and a position
+pub record LowPlace (place : Place) : Type 0 where
+  pub low : place .key ≤ 512
+  pub near : place .position ≤ 1024
+
+pub low-top : LowPlace top
+low-top = record { low = omega arith; near = omega arith }
+
+pub short-entry : (kind node children : ℕ) (place : Place) → LowPlace place → kind ≤ 7 → node ≤ 512 → children ≤ 512 → ShortEntry (entry kind node children place)
+short-entry kind node children place k a b c =
+    let l = k .low in
+    let n = k .near in
+    record { front = record { one = omega arith; two = omega arith; three = omega arith; four = omega arith }; position = omega arith }
+
 -- no more entries than parts
 module _ (u : ℕ → Bool) where
   pub plans-count : (es : Exprs) (seen : List ℕ) → countPlans (plans u es seen) ≡ count es
@@ -164,96 +178,97 @@ module _ (u : ℕ → Bool) where
   plans-count none seen = refl
   plans-count (item e es) seen = let h = plans-count es (after u e seen) in omega arith
 
-  pub order-count : (fs : Fields) (seen : List ℕ) (o : FieldOrder (List Entry)) → length (inOrder (fieldOrder (fieldPlans u fs seen) o)) ≤ countFields fs + length (inOrder o)
+  pub order-count : (fs : Fields) (seen : List ℕ) (i : ℕ) (o : FieldOrder (List Entry)) → length (inOrder (fieldOrder (fieldPlans u fs seen) i o)) ≤ countFields fs + length (inOrder o)
   unfolding plan entries countFields
-  order-count done seen o = omega arith
-  order-count (field k v fs) seen o =
-      let h = order-count fs (after u v seen) (addField (literalKey k) (entries (plan u v seen) (nodeOf k)) o) in
-      let a = add-length (literalKey k) (entries (plan u v seen) (nodeOf k)) o in
+  order-count done seen i o = omega arith
+  order-count (field k v fs) seen i o =
+      let h = order-count fs (after u v seen) (i + 1) (addField (literalKey k) (entries (plan u v seen) (below (nodeOf k) i)) o) in
+      let a = add-length (literalKey k) (entries (plan u v seen) (below (nodeOf k) i)) o in
       omega arith
 
   mutual
     unfolding plan entries parts concat
 
-    pub plan-few : (e : Expr) (seen : List ℕ) (key : ℕ) → length (entries (plan u e seen) key) ≤ length (parts e)
-    plan-few (literal n l) seen key = omega arith
-    plan-few (name n x) seen key = go (fresh u seen x)
+    pub plan-few : (e : Expr) (seen : List ℕ) (place : Place) → length (entries (plan u e seen) place) ≤ length (parts e)
+    plan-few (literal n l) seen place = omega arith
+    plan-few (name n x) seen place = go (fresh u seen x)
       where
-        go : (b : Bool) → length (entries (cond b (var n x) (equalityExpr (name n x))) key) ≤ 1
+        go : (b : Bool) → length (entries (cond b (var n x) (equalityExpr (name n x))) place) ≤ 1
         go true = omega arith
         go false = omega arith
-    plan-few (wildcard n) seen key = omega arith
-    plan-few (array n es) seen key = let h = plans-few es seen in omega arith
-    plan-few (Expr.set n es) seen key = omega arith
-    plan-few (object n fs) seen key = let h = field-plans-few fs seen noFields in omega arith
-    plan-few (other n) seen key = omega arith
+    plan-few (wildcard n) seen place = omega arith
+    plan-few (array n es) seen place = let h = plans-few es seen 1 in omega arith
+    plan-few (Expr.set n es) seen place = omega arith
+    plan-few (object n fs) seen place = let h = field-plans-few fs seen 1 noFields in omega arith
+    plan-few (other n) seen place = omega arith
 
-    plans-few : (es : Exprs) (seen : List ℕ) → length (entriesAll (plans u es seen)) ≤ length (partsAll es)
-    plans-few none seen = omega arith
-    plans-few (item e es) seen =
-        let h = plan-few e seen 0 in
-        let t = plans-few es (after u e seen) in
-        let x = length-append (entries (plan u e seen) 0) (entriesAll (plans u es (after u e seen))) in
+    plans-few : (es : Exprs) (seen : List ℕ) (i : ℕ) → length (entriesAll (plans u es seen) i) ≤ length (partsAll es)
+    plans-few none seen i = omega arith
+    plans-few (item e es) seen i =
+        let h = plan-few e seen (below 0 i) in
+        let t = plans-few es (after u e seen) (i + 1) in
+        let x = length-append (entries (plan u e seen) (below 0 i)) (entriesAll (plans u es (after u e seen)) (i + 1)) in
         let y = length-append (parts e) (partsAll es) in
         omega arith
 
-    field-plans-few : (fs : Fields) (seen : List ℕ) (o : FieldOrder (List Entry))
-        → length (concat (inOrder (fieldOrder (fieldPlans u fs seen) o))) ≤ length (partsFields fs) + length (concat (inOrder o))
-    field-plans-few done seen o = omega arith
-    field-plans-few (field k v fs) seen o =
-        let h = plan-few v seen (nodeOf k) in
-        let t = field-plans-few fs (after u v seen) (addField (literalKey k) (entries (plan u v seen) (nodeOf k)) o) in
-        let a = add-concat (literalKey k) (entries (plan u v seen) (nodeOf k)) o in
+    field-plans-few : (fs : Fields) (seen : List ℕ) (i : ℕ) (o : FieldOrder (List Entry))
+        → length (concat (inOrder (fieldOrder (fieldPlans u fs seen) i o))) ≤ length (partsFields fs) + length (concat (inOrder o))
+    field-plans-few done seen i o = omega arith
+    field-plans-few (field k v fs) seen i o =
+        let h = plan-few v seen (below (nodeOf k) i) in
+        let t = field-plans-few fs (after u v seen) (i + 1) (addField (literalKey k) (entries (plan u v seen) (below (nodeOf k) i)) o) in
+        let a = add-concat (literalKey k) (entries (plan u v seen) (below (nodeOf k) i)) o in
         let x = length-append (parts k) (parts v ++ partsFields fs) in
         let y = length-append (parts v) (partsFields fs) in
         omega arith
 
   -- and each is short
   mutual
-    unfolding plan entries parts concat
+    unfolding plan entries parts concat count countFields
 
-    pub plan-short : (e : Expr) (seen : List ℕ) (key : ℕ) → SmallTree e → key ≤ 512 → Every ShortEntry (entries (plan u e seen) key)
-    plan-short (literal n l) seen key s k = let h = small-head n [] s in (record { one = omega arith; two = omega arith; three = omega arith; four = omega arith }, tt)
-    plan-short (name n x) seen key s k = go (fresh u seen x)
+    pub plan-short : (e : Expr) (seen : List ℕ) (place : Place) → SmallTree e → LowPlace place → Every ShortEntry (entries (plan u e seen) place)
+    plan-short (literal n l) seen place s k = let h = small-head n [] s in (short-entry 4 n 0 place k (omega arith) h (omega arith), tt)
+    plan-short (name n x) seen place s k = go (fresh u seen x)
       where
-        go : (b : Bool) → Every ShortEntry (entries (cond b (var n x) (equalityExpr (name n x))) key)
-        go true = let h = small-head n [] s in (record { one = omega arith; two = omega arith; three = omega arith; four = omega arith }, tt)
-        go false = let h = small-head n [] s in (record { one = omega arith; two = omega arith; three = omega arith; four = omega arith }, tt)
-    plan-short (wildcard n) seen key s k = let h = small-head n [] s in (record { one = omega arith; two = omega arith; three = omega arith; four = omega arith }, tt)
-    plan-short (array n es) seen key s k =
+        go : (b : Bool) → Every ShortEntry (entries (cond b (var n x) (equalityExpr (name n x))) place)
+        go true = let h = small-head n [] s in (short-entry 1 n 0 place k (omega arith) h (omega arith), tt)
+        go false = let h = small-head n [] s in (short-entry 3 n 0 place k (omega arith) h (omega arith), tt)
+    plan-short (wildcard n) seen place s k = let h = small-head n [] s in (short-entry 2 n 0 place k (omega arith) h (omega arith), tt)
+    plan-short (array n es) seen place s k =
         let h = small-head n (partsAll es) s in
         let t = small-tail n (partsAll es) s in
         let f = t .few in
         let c = plans-count es seen in
         let d = count-few es in
-        (record { one = omega arith; two = omega arith; three = omega arith; four = omega arith }, plans-short es seen t)
-    plan-short (Expr.set n es) seen key s k =
-        let h = small-head n (partsAll es) s in (record { one = omega arith; two = omega arith; three = omega arith; four = omega arith }, tt)
-    plan-short (object n fs) seen key s k =
+        (short-entry 5 n (countPlans (plans u es seen)) place k (omega arith) h (omega arith), plans-short es seen 1 t (omega arith))
+    plan-short (Expr.set n es) seen place s k = let h = small-head n (partsAll es) s in (short-entry 3 n 0 place k (omega arith) h (omega arith), tt)
+    plan-short (object n fs) seen place s k =
         let h = small-head n (partsFields fs) s in
         let t = small-tail n (partsFields fs) s in
         let f = t .few in
-        let c = order-count fs seen noFields in
+        let c = order-count fs seen 1 noFields in
         let d = fields-few fs in
-        (record { one = omega arith; two = omega arith; three = omega arith; four = omega arith }, every-concat ShortEntry (inOrder (fieldOrder (fieldPlans u fs seen) noFields)) (field-plans-short fs seen noFields t tt))
-    plan-short (other n) seen key s k = let h = small-head n [] s in (record { one = omega arith; two = omega arith; three = omega arith; four = omega arith }, tt)
+        let order = inOrder (fieldOrder (fieldPlans u fs seen) 1 noFields) in
+        (short-entry 6 n (length order) place k (omega arith) h (omega arith), every-concat ShortEntry order (field-plans-short fs seen 1 noFields t (omega arith) tt))
+    plan-short (other n) seen place s k = let h = small-head n [] s in (short-entry 3 n 0 place k (omega arith) h (omega arith), tt)
 
-    plans-short : (es : Exprs) (seen : List ℕ) → Small (partsAll es) → Every ShortEntry (entriesAll (plans u es seen))
-    plans-short none seen s = tt
-    plans-short (item e es) seen s =
-        every-append ShortEntry (entries (plan u e seen) 0) (entriesAll (plans u es (after u e seen)))
-        (plan-short e seen 0 (small-left (parts e) (partsAll es) s) (omega arith))
-        (plans-short es (after u e seen) (small-right (parts e) (partsAll es) s))
+    plans-short : (es : Exprs) (seen : List ℕ) (i : ℕ) → Small (partsAll es) → i + count es ≤ 1024 → Every ShortEntry (entriesAll (plans u es seen) i)
+    plans-short none seen i s few = tt
+    plans-short (item e es) seen i s few =
+        every-append ShortEntry (entries (plan u e seen) (below 0 i)) (entriesAll (plans u es (after u e seen)) (i + 1))
+        (plan-short e seen (below 0 i) (small-left (parts e) (partsAll es) s) (record { low = omega arith; near = omega arith }))
+        (plans-short es (after u e seen) (i + 1) (small-right (parts e) (partsAll es) s) (omega arith))
 
-    field-plans-short : (fs : Fields) (seen : List ℕ) (o : FieldOrder (List Entry)) → Small (partsFields fs) → Every (Every ShortEntry) (inOrder o)
-        → Every (Every ShortEntry) (inOrder (fieldOrder (fieldPlans u fs seen) o))
-    field-plans-short done seen o s p = p
-    field-plans-short (field k v fs) seen o s p =
+    field-plans-short : (fs : Fields) (seen : List ℕ) (i : ℕ) (o : FieldOrder (List Entry)) → Small (partsFields fs) → i + countFields fs ≤ 1024
+        → Every (Every ShortEntry) (inOrder o) → Every (Every ShortEntry) (inOrder (fieldOrder (fieldPlans u fs seen) i o))
+    field-plans-short done seen i o s few p = p
+    field-plans-short (field k v fs) seen i o s few p =
         let key = small-left (parts k) (parts v ++ partsFields fs) s in
         let rest = small-right (parts k) (parts v ++ partsFields fs) s in
-        field-plans-short fs (after u v seen) (addField (literalKey k) (entries (plan u v seen) (nodeOf k)) o) (small-right (parts v) (partsFields fs) rest)
-        (add-every (Every ShortEntry) (literalKey k) (entries (plan u v seen) (nodeOf k)) o
-        (plan-short v seen (nodeOf k) (small-left (parts v) (partsFields fs) rest) (node-low k key)) p)
+        field-plans-short fs (after u v seen) (i + 1) (addField (literalKey k) (entries (plan u v seen) (below (nodeOf k) i)) o)
+        (small-right (parts v) (partsFields fs) rest) (omega arith)
+        (add-every (Every ShortEntry) (literalKey k) (entries (plan u v seen) (below (nodeOf k) i)) o
+        (plan-short v seen (below (nodeOf k) i) (small-left (parts v) (partsFields fs) rest) (record { low = node-low k key; near = omega arith })) p)
 
 -- the nodes of a small tree's names
 abbrev LowNode : Occurrence → Type 0

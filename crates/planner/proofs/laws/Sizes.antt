@@ -14,7 +14,7 @@ use Rattle.table.specs.Tables.{Tables}
 use Rattle.table.specs.Decode.{expr}
 use Rattle.table.specs.code.Sound.{Node, WellFormed}
 use Rattle.table.proofs.trees.Forest.{forest, tree-few}
-use Rattle.planner.specs.Layout.{Entry, literalKey, Slot, placed, insert, FieldOrder, noFields, addField, heldIn, inOrder, concat}
+use Rattle.planner.specs.Layout.{Entry, Place, below, literalKey, Slot, placed, insert, FieldOrder, noFields, addField, heldIn, inOrder, concat}
 use Rattle.planner.specs.code.Passes.{layOut, layOutAll, layOutFields, orderFrom}
 
 -- the weights of a list's elements, summed
@@ -92,50 +92,50 @@ order-few key i (suc k) o =
     omega arith
 
 module _ (b : List ℕ) where
-  pub fields-few : (fs : Fields) (o : FieldOrder (List Entry)) → length (inOrder (layOutFields b fs o)) ≤ countFields fs + length (inOrder o)
+  pub fields-few : (fs : Fields) (i : ℕ) (o : FieldOrder (List Entry)) → length (inOrder (layOutFields b fs i o)) ≤ countFields fs + length (inOrder o)
   unfolding layOut countFields
-  fields-few done o = omega arith
-  fields-few (field k v fs) o =
-      let h = fields-few fs (addField (literalKey k) (layOut b v (nodeOf k)) o) in
-      let a = add-length (literalKey k) (layOut b v (nodeOf k)) o in
+  fields-few done i o = omega arith
+  fields-few (field k v fs) i o =
+      let h = fields-few fs (i + 1) (addField (literalKey k) (layOut b v (below (nodeOf k) i)) o) in
+      let a = add-length (literalKey k) (layOut b v (below (nodeOf k) i)) o in
       omega arith
 
-  pub object-few : (fs : Fields) → length (inOrder (layOutFields b fs noFields)) ≤ countFields fs
-  object-few fs = let h = fields-few fs noFields in omega arith
+  pub object-few : (fs : Fields) → length (inOrder (layOutFields b fs 1 noFields)) ≤ countFields fs
+  object-few fs = let h = fields-few fs 1 noFields in omega arith
 
   mutual
     unfolding layOut parts concat
 
-    pub lay-few : (e : Expr) (key : ℕ) → length (layOut b e key) ≤ length (parts e)
+    pub lay-few : (e : Expr) (key : Place) → length (layOut b e key) ≤ length (parts e)
     lay-few (literal n l) key = omega arith
     lay-few (name n x) key = omega arith
     lay-few (wildcard n) key = omega arith
-    lay-few (array n es) key = let h = lay-few-all es in omega arith
+    lay-few (array n es) key = let h = lay-few-all es 1 in omega arith
     lay-few (Expr.set n es) key = omega arith
-    lay-few (object n fs) key = let h = lay-few-fields fs noFields in omega arith
+    lay-few (object n fs) key = let h = lay-few-fields fs 1 noFields in omega arith
     lay-few (other n) key = omega arith
 
-    pub lay-few-all : (es : Exprs) → length (layOutAll b es) ≤ length (partsAll es)
-    lay-few-all none = omega arith
-    lay-few-all (item e es) =
-        let h = lay-few e 0 in
-        let t = lay-few-all es in
-        let x = length-append (layOut b e 0) (layOutAll b es) in
+    pub lay-few-all : (es : Exprs) (i : ℕ) → length (layOutAll b es i) ≤ length (partsAll es)
+    lay-few-all none i = omega arith
+    lay-few-all (item e es) i =
+        let h = lay-few e (below 0 i) in
+        let t = lay-few-all es (i + 1) in
+        let x = length-append (layOut b e (below 0 i)) (layOutAll b es (i + 1)) in
         let y = length-append (parts e) (partsAll es) in
         omega arith
 
-    pub lay-few-fields : (fs : Fields) (o : FieldOrder (List Entry))
-        → length (concat (inOrder (layOutFields b fs o))) ≤ length (partsFields fs) + length (concat (inOrder o))
-    lay-few-fields done o = omega arith
-    lay-few-fields (field k v fs) o =
-        let h = lay-few v (nodeOf k) in
-        let t = lay-few-fields fs (addField (literalKey k) (layOut b v (nodeOf k)) o) in
-        let a = add-concat (literalKey k) (layOut b v (nodeOf k)) o in
+    pub lay-few-fields : (fs : Fields) (i : ℕ) (o : FieldOrder (List Entry))
+        → length (concat (inOrder (layOutFields b fs i o))) ≤ length (partsFields fs) + length (concat (inOrder o))
+    lay-few-fields done i o = omega arith
+    lay-few-fields (field k v fs) i o =
+        let h = lay-few v (below (nodeOf k) i) in
+        let t = lay-few-fields fs (i + 1) (addField (literalKey k) (layOut b v (below (nodeOf k) i)) o) in
+        let a = add-concat (literalKey k) (layOut b v (below (nodeOf k) i)) o in
         let x = length-append (parts k) (parts v ++ partsFields fs) in
         let y = length-append (parts v) (partsFields fs) in
         omega arith
 
-module _ (T : Tables) (w : WellFormed T) (b : List ℕ) (n : ℕ) (v : Node T n) (key : ℕ) where
+module _ (T : Tables) (w : WellFormed T) (b : List ℕ) (n : ℕ) (v : Node T n) (key : Place) where
   -- no more than the node's number
   pub lay-space-of : length (layOut b (expr T n) key) ≤ n
   lay-space-of =

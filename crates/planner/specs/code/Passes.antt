@@ -17,7 +17,7 @@ use Rattle.table.specs.declared.NameClass.the-variants.{Underscore, InputOrData
 use Rattle.table.specs.Expr as Expr
 use Rattle.table.specs.Expr.{Expr, literal, name, wildcard, array, object, other, Exprs, none, item, Fields, done, field, nodeOf, count}
 use Rattle.planner.specs.Steps.{writtenSteps}
-use Rattle.planner.specs.Layout.{Entry, entry, literalKey, FieldOrder, noFields, addField, inOrder, concat}
+use Rattle.planner.specs.Layout.{Entry, Place, below, entry, literalKey, FieldOrder, noFields, addField, inOrder, concat}
 
 -- `binders` has for each name number the node that binds it, or 0
 abbrev pub binderOf : List ℕ → ℕ → ℕ
@@ -51,24 +51,24 @@ nameKind binders n x = cond (eqb (binderOf binders x) n) 1 3
 
 module _ (binders : List ℕ) where
   unfoldable mutual
-    pub layOut : Expr → ℕ → List Entry
-    layOut (literal n l) key = entry 4 n 0 key ∷ []
-    layOut (name n x) key = entry (nameKind binders n x) n 0 key ∷ []
-    layOut (wildcard n) key = entry 2 n 0 key ∷ []
-    layOut (array n es) key = entry 5 n (count es) key ∷ layOutAll es
-    layOut (Expr.set n es) key = entry 3 n 0 key ∷ []
-    layOut (object n fs) key =
-        let order = inOrder (layOutFields fs noFields) in
-        entry 6 n (length order) key ∷ concat order
-    layOut (other n) key = entry 3 n 0 key ∷ []
+    pub layOut : Expr → Place → List Entry
+    layOut (literal n l) place = entry 4 n 0 place ∷ []
+    layOut (name n x) place = entry (nameKind binders n x) n 0 place ∷ []
+    layOut (wildcard n) place = entry 2 n 0 place ∷ []
+    layOut (array n es) place = entry 5 n (count es) place ∷ layOutAll es 1
+    layOut (Expr.set n es) place = entry 3 n 0 place ∷ []
+    layOut (object n fs) place =
+        let order = inOrder (layOutFields fs 1 noFields) in
+        entry 6 n (length order) place ∷ concat order
+    layOut (other n) place = entry 3 n 0 place ∷ []
 
-    pub layOutAll : Exprs → List Entry
-    layOutAll none = []
-    layOutAll (item e es) = layOut e 0 ++ layOutAll es
+    pub layOutAll : Exprs → ℕ → List Entry
+    layOutAll none i = []
+    layOutAll (item e es) i = layOut e (below 0 i) ++ layOutAll es (i + 1)
 
-    pub layOutFields : Fields → FieldOrder (List Entry) → FieldOrder (List Entry)
-    layOutFields done o = o
-    layOutFields (field k v fs) o = layOutFields fs (addField (literalKey k) (layOut v (nodeOf k)) o)
+    pub layOutFields : Fields → ℕ → FieldOrder (List Entry) → FieldOrder (List Entry)
+    layOutFields done i o = o
+    layOutFields (field k v fs) i o = layOutFields fs (i + 1) (addField (literalKey k) (layOut v (below (nodeOf k) i)) o)
 
 -- the children at `at`, `at + step` and so on, k of them
 unfoldable pub bindersFrom : (ℕ → Bool) → (ℕ → Expr) → List ℕ → ℕ → ℕ → ℕ → List ℕ → List ℕ
@@ -96,6 +96,10 @@ unfoldable pub orderFrom : (ℕ → Option Literal) → ℕ → ℕ → FieldOrd
 orderFrom key i zero o = o
 orderFrom key i (suc k) o = orderFrom key (i + 1) k (addField (key i) i o)
 
+-- The steps of laying a node out, one for each entry.
+abbrev pub laySteps : List ℕ → Tables → ℕ → Place → ℕ
+laySteps binders T n place = length (layOut binders (expr T n) place)
+
 -- The entry kinds of a name node and of any other node with no entries below it.
 abbrev pub nameEntryKind : List ℕ → List ℕ → ℕ → ℕ → ℕ
 nameEntryKind states binders n x = cond (eqb (getD states (x - 1) 0) 2) 2 (nameKind binders n x)
@@ -103,9 +107,9 @@ nameEntryKind states binders n x = cond (eqb (getD states (x - 1) 0) 2) 2 (nameK
 abbrev pub leafEntryKind : ℕ → ℕ
 leafEntryKind kind = cond (leb kind 5) 4 3
 
--- The entries of k items from child entry `from` on.
-abbrev pub layOutItems : List ℕ → Tables → ℕ → ℕ → List Entry
-layOutItems binders T from k = layOutAll binders (items (expr T) (T .children) from k)
+-- The entries of k items from child entry `from` and position i on.
+abbrev pub layOutItems : List ℕ → Tables → ℕ → ℕ → ℕ → List Entry
+layOutItems binders T from k i = layOutAll binders (items (expr T) (T .children) from k) i
 
 -- Field i of an object whose child entries start at `first`: its key node, its literal key, its entries.
 abbrev pub keyNode : Tables → ℕ → ℕ → ℕ
@@ -118,7 +122,7 @@ abbrev pub fieldKey : Tables → ℕ → ℕ → Option Literal
 fieldKey T first i = literalAt T (keyNode T first i)
 
 abbrev pub fieldEntries : List ℕ → Tables → ℕ → ℕ → List Entry
-fieldEntries binders T first i = layOut binders (expr T (valueNode T first i)) (keyNode T first i)
+fieldEntries binders T first i = layOut binders (expr T (valueNode T first i)) (below (keyNode T first i) (i + 1))
 
 -- the order of an object's fields, and the entries of fields in an order
 abbrev pub orderOf : Tables → ℕ → ℕ → FieldOrder ℕ

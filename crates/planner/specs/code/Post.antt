@@ -14,7 +14,7 @@ use Rattle.scope.specs.declared.Scope.{Scope}
 use Rattle.scope.specs.declared.ScopingMode.{ScopingMode}
 use Rattle.scope.specs.Scope.{isUnbound}
 use Rattle.table.specs.Decode.{isWildcard, expr}
-use Rattle.planner.specs.Layout.{Entry, entries, words, inOrder}
+use Rattle.planner.specs.Layout.{Entry, entryWords, Place, below, top, entries, words, inOrder}
 use Rattle.planner.specs.Entries.{Wrote}
 use Rattle.planner.specs.code.Passes.{layOut, layOutItems, layOutOrdered, keyNode, valueNode, orderOf, nameState, bindersOf, unboundIn}
 use Rattle.planner.specs.Plan.{plan}
@@ -52,22 +52,28 @@ pub record StepRoom (steps more : ℕ) : Type 0 where
 abbrev pub Counts : Both (RefT ℕ) (RefT ℕ) → ℕ → Type 0
 Counts steps more = steps .exit .now ≡ steps .entry .now + more
 
+-- space for the plan of any pattern
+abbrev pub patternWords : ℕ
+patternWords = 512 * entryWords
+
 -- entries stand in a scratch from place `at` on, and r is the place after them
 pub record Laid (before : List ℕ) (at : ℕ) (es : List Entry) (after : List ℕ) (r : ℕ) : Type 0 where
   pub end : r ≡ at + length es
-  pub stored : after ≡ sets before (at * 4) (words es)
+  pub stored : after ≡ sets before (at * entryWords) (words es)
 
-pub record LayAsks (T : Tables) (states binders : List ℕ) (n key at : ℕ) : Type 0 where
+pub record LayAsks (T : Tables) (states binders : List ℕ) (n : ℕ) (place : Place) (at : ℕ) : Type 0 where
   pub walks : Walks T states n
-  pub room : at + length (layOut binders (expr T n) key) ≤ 2 ^ 41
+  pub room : at + length (layOut binders (expr T n) place) ≤ 2 ^ 41
 
-pub record LayObjectAsks (T : Tables) (states binders : List ℕ) (n key at : ℕ) : Type 0 where
-  pub asks : LayAsks T states binders n key at
+pub record LayObjectAsks (T : Tables) (states binders : List ℕ) (n : ℕ) (place : Place) (at : ℕ) : Type 0 where
+  pub asks : LayAsks T states binders n place at
   pub object : kindOf (T .nodes) n ≡ 9
 
-pub record LayItemsAsks (T : Tables) (states binders : List ℕ) (parent from left at : ℕ) : Type 0 where
+-- items from a position on
+pub record LayItemsAsks (T : Tables) (states binders : List ℕ) (parent from left position at : ℕ) : Type 0 where
   pub walks : WalksChildren T states parent from 1 left
-  pub room : at + length (layOutItems binders T from left) ≤ 2 ^ 41
+  pub room : at + length (layOutItems binders T from left position) ≤ 2 ^ 41
+  pub few : position + left ≤ 1024
 
 -- an object whose fields are to be put in order
 pub record OrderAsks (T : Tables) (first size : ℕ) : Type 0 where
@@ -100,10 +106,10 @@ pub record PlanAsks (T : Tables) (states : List ℕ) (root : ℕ) (binders : Lis
   pub none-bound : binders ≡ replicate 128 0
   pub low : at ≤ 2 ^ 40
 
--- its binders, and its plan's entries
-pub record PlannedBy (T : Tables) (states : List ℕ) (root at : ℕ) (before binders after : List ℕ) (r : ℕ) : Type 0 where
+-- its binders, and its plan's entries at a position below a pair, or 0
+pub record PlannedBy (T : Tables) (states : List ℕ) (root position at : ℕ) (before binders after : List ℕ) (r : ℕ) : Type 0 where
   pub bound : binders ≡ bindersOf (unboundIn states) (expr T root) (replicate 128 0)
-  pub wrote : Wrote before at (entries (plan (unboundIn states) (expr T root) []) 0) after r
+  pub wrote : Wrote before at (entries (plan (unboundIn states) (expr T root) []) (below 0 position)) after r
   pub few : r ≤ at + 512
   pub space : r ≤ at + root
 
@@ -117,8 +123,8 @@ statesOf names text s mode = tabulate (nameState names text s mode) 1 128
 
 -- as many entries of a buffer, if it has space for them, and zeros behind them
 pub record Closed (form count : ℕ) (before after : List ℕ) (r : PlanAnswer) : Type 0 where
-  pub answer : lineOf r ≡ cond (leb count (length before / 4)) (line 0 form 0 count) (refusalLine (planTooLarge count))
-  pub buffer : after ≡ cond (leb count (length before / 4)) (tabulate (wordAt before (count * 4)) 0 (length before)) (replicate (length before) 0)
+  pub answer : lineOf r ≡ cond (leb count (length before / entryWords)) (line 0 form 0 count) (refusalLine (planTooLarge count))
+  pub buffer : after ≡ cond (leb count (length before / entryWords)) (tabulate (wordAt before (count * entryWords)) 0 (length before)) (replicate (length before) 0)
 
 -- a root in a good table
 pub record GoodRoot (T : Tables) (root : ℕ) : Type 0 where
@@ -141,7 +147,7 @@ pub record PatternAsks (T : Tables) (root : ℕ) (binders : List ℕ) (at : ℕ)
 -- its binders, and its plan's entries, no more than its root's number
 pub record PatternPlanned (T : Tables) (s : Scope) (mode : ScopingMode) (root at : ℕ) (before binders after : List ℕ) (r : ℕ) : Type 0 where
   pub bound : binders ≡ bindersOf (isUnbound s mode) (expr T root) (replicate 128 0)
-  pub wrote : Wrote before at (entries (plan (isUnbound s mode) (expr T root) []) 0) after r
+  pub wrote : Wrote before at (entries (plan (isUnbound s mode) (expr T root) []) top) after r
   pub few : r ≤ at + 512
   pub space : r ≤ at + root
 
@@ -149,8 +155,8 @@ pub record PatternPlanned (T : Tables) (s : Scope) (mode : ScopingMode) (root at
 abbrev pub ClosedIn : Slices → ℕ → ℕ → PlanAnswer → Type 0
 ClosedIn plan form count r = Closed form count (plan .entry .now) (plan .exit .now) r
 
-abbrev pub PlannedIn : Slices → Slices → Tables → List ℕ → ℕ → ℕ → ℕ → Type 0
-PlannedIn plan binders T states root at r = PlannedBy T states root at (plan .entry .now) (binders .exit .now) (plan .exit .now) r
+abbrev pub PlannedIn : Slices → Slices → Tables → List ℕ → ℕ → ℕ → ℕ → ℕ → Type 0
+PlannedIn plan binders T states root position at r = PlannedBy T states root position at (plan .entry .now) (binders .exit .now) (plan .exit .now) r
 
 abbrev pub PatternPlannedIn : Slices → Slices → Tables → Scope → ScopingMode → ℕ → ℕ → ℕ → Type 0
 PatternPlannedIn plan binders T s mode root at r = PatternPlanned T s mode root at (plan .entry .now) (binders .exit .now) (plan .exit .now) r

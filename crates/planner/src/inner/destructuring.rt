@@ -121,7 +121,7 @@ fn decide_children(
     }
 }
 
-// A pattern's plan from no names: its entries from entry `at` on, as far as they fit.
+// A pattern's plan from no names, at a written position below a pair, or 0: its entries from entry `at` on, as far as they fit.
 pub fn create_destructuring_plan_with_tracking(
     nodes: &[u32],
     children: &[u32],
@@ -131,12 +131,13 @@ pub fn create_destructuring_plan_with_tracking(
     text: &[u8],
     states: &[u8; 128],
     root: u32,
+    position: u32,
     binders: &mut [u32; 128],
     plan: &mut [u32],
     at: usize,
 ) -> Progress
     requires { ⌜ PlanAsks (given nodes children numbers names strings text) (now states) root (now binders) at ⌝ }
-    ensures planned { λ r. ⌜ PlannedIn plan binders (lent nodes children numbers names strings text) (old states) root at (r .next) ⌝ }
+    ensures planned { λ r. ⌜ PlannedIn plan binders (lent nodes children numbers names strings text) (old states) root position at (r .next) ⌝ }
     ensures counted { λ r. ⌜ r .steps ≡ steps (unboundIn (old states)) (expr (lent nodes children numbers names strings text) root) ⌝ }
 {
     let mut steps: usize = 0;
@@ -163,6 +164,7 @@ pub fn create_destructuring_plan_with_tracking(
         binders,
         root,
         0,
+        position,
         plan,
         at,
         &mut steps,
@@ -199,6 +201,7 @@ pub fn plan_pattern(
         text,
         &states,
         root,
+        0,
         binders,
         plan,
         at,

@@ -5,8 +5,9 @@ ghost use mathlib.Core.Path.{_≡_};
 ghost use Prim.Native.Nat.{_-_};
 ghost use lib.ListN.{length};
 ghost use Rattle.table.specs.Decode.{expr};
+ghost use Rattle.planner.specs.Layout.{below};
 ghost use Rattle.planner.specs.Entries.{WroteIn};
-ghost use Rattle.planner.specs.code.Passes.{nameEntryKind, leafEntryKind, layOut, layOutItems, layOutOrdered};
+ghost use Rattle.planner.specs.code.Passes.{nameEntryKind, leafEntryKind, layOut, laySteps, layOutItems, layOutOrdered};
 ghost use Rattle.planner.specs.code.Post.{NameNumber, StepRoom, Counts, LayAsks, LayObjectAsks, LayItemsAsks, LayOrderedAsks};
 use crate::buffer::put_entry;
 use crate::entry_kind;
@@ -43,7 +44,7 @@ fn leaf_kind(kind: u32) -> u32
     entry_kind::COMPARE_EXPRESSION
 }
 
-// The entries of a node's plan from entry `at` on; the next entry's place.
+// The entries of a node's plan, under a key node or 0 and at a written position, from entry `at` on; the next entry's place.
 pub(crate) fn lay_out(
     nodes: &[u32],
     children: &[u32],
@@ -55,26 +56,27 @@ pub(crate) fn lay_out(
     binders: &[u32; 128],
     node: u32,
     key: u32,
+    position: u32,
     plan: &mut [u32],
     at: usize,
     steps: &mut usize,
 ) -> usize
-    requires asks { ⌜ LayAsks (given nodes children numbers names strings text) (now states) (now binders) node key at ⌝ }
-    requires room { ⌜ StepRoom (now steps) (length (layOut (now binders) (expr (given nodes children numbers names strings text) node) key)) ⌝ }
-    ensures laid { λ r. ⌜ WroteIn plan at (layOut (old binders) (expr (lent nodes children numbers names strings text) node) key) r ⌝ }
-    ensures counted { λ _. ⌜ Counts steps (length (layOut (old binders) (expr (lent nodes children numbers names strings text) node) key)) ⌝ }
+    requires asks { ⌜ LayAsks (given nodes children numbers names strings text) (now states) (now binders) node (below key position) at ⌝ }
+    requires room { ⌜ StepRoom (now steps) (laySteps (now binders) (given nodes children numbers names strings text) node (below key position)) ⌝ }
+    ensures laid { λ r. ⌜ WroteIn plan at (layOut (old binders) (expr (lent nodes children numbers names strings text) node) (below key position)) r ⌝ }
+    ensures counted { λ _. ⌜ Counts steps (laySteps (old binders) (lent nodes children numbers names strings text) node (below key position)) ⌝ }
 {
     *steps += 1;
     let kind = kind_of(nodes, node);
     let first = first_of(nodes, node);
     if kind == node_kind::NAME {
         let bound = name_kind(states, binders, node, first);
-        put_entry(plan, at, bound, node, 0, key);
+        put_entry(plan, at, bound, node, 0, key, position);
         return at + 1;
     }
     if kind == node_kind::ARRAY {
         let count = count_of(nodes, node);
-        put_entry(plan, at, entry_kind::ARRAY, node, count, key);
+        put_entry(plan, at, entry_kind::ARRAY, node, count, key, position);
         return lay_items(
             nodes,
             children,
@@ -104,16 +106,17 @@ pub(crate) fn lay_out(
             binders,
             node,
             key,
+            position,
             plan,
             at,
             steps,
         );
     }
-    put_entry(plan, at, leaf_kind(kind), node, 0, key);
+    put_entry(plan, at, leaf_kind(kind), node, 0, key, position);
     at + 1
 }
 
-// An array's items, `left` of them from child entry `from` on.
+// An array's items, `left` of them from child entry `from` on; their positions count up from 1.
 fn lay_items(
     nodes: &[u32],
     children: &[u32],
@@ -130,13 +133,14 @@ fn lay_items(
     at: usize,
     steps: &mut usize,
 ) -> usize
-    requires asks { ⌜ LayItemsAsks (given nodes children numbers names strings text) (now states) (now binders) parent from left at ⌝ }
-    requires room { ⌜ StepRoom (now steps) (length (layOutItems (now binders) (given nodes children numbers names strings text) from left)) ⌝ }
-    ensures laid { λ r. ⌜ WroteIn plan at (layOutItems (old binders) (lent nodes children numbers names strings text) from left) r ⌝ }
-    ensures counted { λ _. ⌜ Counts steps (length (layOutItems (old binders) (lent nodes children numbers names strings text) from left)) ⌝ }
+    requires asks { ⌜ LayItemsAsks (given nodes children numbers names strings text) (now states) (now binders) parent from left 1 at ⌝ }
+    requires room { ⌜ StepRoom (now steps) (length (layOutItems (now binders) (given nodes children numbers names strings text) from left 1)) ⌝ }
+    ensures laid { λ r. ⌜ WroteIn plan at (layOutItems (old binders) (lent nodes children numbers names strings text) from left 1) r ⌝ }
+    ensures counted { λ _. ⌜ Counts steps (length (layOutItems (old binders) (lent nodes children numbers names strings text) from left 1)) ⌝ }
 {
     let mut place = from;
     let mut more = left;
+    let mut position: u32 = 1;
     let mut here = at;
     while 0 < more {
         let child = child_at(children, place);
@@ -151,12 +155,14 @@ fn lay_items(
             binders,
             child,
             0,
+            position,
             plan,
             here,
             steps,
         );
         place += 1;
         more -= 1;
+        position += 1;
     }
     here
 }
@@ -173,14 +179,15 @@ fn lay_object(
     binders: &[u32; 128],
     node: u32,
     key: u32,
+    position: u32,
     plan: &mut [u32],
     at: usize,
     steps: &mut usize,
 ) -> usize
-    requires asks { ⌜ LayObjectAsks (given nodes children numbers names strings text) (now states) (now binders) node key at ⌝ }
-    requires room { ⌜ StepRoom (now steps) (length (layOut (now binders) (expr (given nodes children numbers names strings text) node) key) - 1) ⌝ }
-    ensures laid { λ r. ⌜ WroteIn plan at (layOut (old binders) (expr (lent nodes children numbers names strings text) node) key) r ⌝ }
-    ensures counted { λ _. ⌜ Counts steps (length (layOut (old binders) (expr (lent nodes children numbers names strings text) node) key) - 1) ⌝ }
+    requires asks { ⌜ LayObjectAsks (given nodes children numbers names strings text) (now states) (now binders) node (below key position) at ⌝ }
+    requires room { ⌜ StepRoom (now steps) (laySteps (now binders) (given nodes children numbers names strings text) node (below key position) - 1) ⌝ }
+    ensures laid { λ r. ⌜ WroteIn plan at (layOut (old binders) (expr (lent nodes children numbers names strings text) node) (below key position)) r ⌝ }
+    ensures counted { λ _. ⌜ Counts steps (laySteps (old binders) (lent nodes children numbers names strings text) node (below key position) - 1) ⌝ }
 {
     let first = first_of(nodes, node) as usize;
     let count = count_of(nodes, node) as usize;
@@ -196,7 +203,7 @@ fn lay_object(
         count,
         &mut order,
     );
-    put_entry(plan, at, entry_kind::OBJECT, node, total, key);
+    put_entry(plan, at, entry_kind::OBJECT, node, total, key, position);
     lay_fields(
         nodes,
         children,
@@ -242,7 +249,8 @@ fn lay_fields(
     let mut q: usize = 0;
     let mut here = at;
     while q < total {
-        let place = first + field_at(order, q) * 2;
+        let field = field_at(order, q);
+        let place = first + field * 2;
         let key = child_at(children, place);
         let value = child_at(children, place + 1);
         here = lay_out(
@@ -256,6 +264,7 @@ fn lay_fields(
             binders,
             value,
             key,
+            (field + 1) as u32,
             plan,
             here,
             steps,

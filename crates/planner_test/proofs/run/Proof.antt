@@ -8,7 +8,7 @@ use borrow.Author.Needs.{needs}
 use Rattle.planner_test.proofs.run.Statement.{statement}
 use Rattle.planner_test.proofs.run.Tie as tie
 
-taken : (n : ℕ) (l : List ℕ) → 32 ≡ length l → n ≤ 32 → n ≡ length (take n l)
+taken : (n : ℕ) (l : List ℕ) → 40 ≡ length l → n ≤ 40 → n ≡ length (take n l)
 taken n l size le = sym (length-take-le n l (omega arith))
 
 pub run-spec : {M : Type 1} → statement M

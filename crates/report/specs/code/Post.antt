@@ -10,7 +10,7 @@ use Rattle.scope.specs.declared.ScopingMode.{ScopingMode}
 use Rattle.table.specs.Tables.{Tables, firstOf, nameCount}
 use Rattle.table.specs.Expr.{Expr}
 use Rattle.base.specs.Lists.{elem, tabulate}
-use Rattle.planner.specs.Layout.{entries, boundNames}
+use Rattle.planner.specs.Layout.{top, entryWords, entries, boundNames}
 use Rattle.planner.specs.Operations.{planOf}
 use Rattle.planner.specs.code.Post.{GoodRoot}
 use Rattle.report.specs.Report.{namesMet, reported}
@@ -32,7 +32,7 @@ markedBy nodes kind node list = cond (eqb kind 1) (set list (firstOf nodes node 
 
 pub record BoundAsks (nodes scratch : List ℕ) (count : ℕ) (list : List ℕ) : Type 0 where
   pub few : count ≤ 512
-  pub each : (i : ℕ) → i < count → EntryBound nodes (getD scratch (i * 4) 0) (getD scratch (i * 4 + 1) 0) list
+  pub each : (i : ℕ) → i < count → EntryBound nodes (getD scratch (i * entryWords) 0) (getD scratch (i * entryWords + 1) 0) list
 
 -- 1 for each name that is bound, the others as before
 pub record BoundMarked (nodes scratch : List ℕ) (count : ℕ) (before after : List ℕ) : Type 0 where
@@ -45,7 +45,7 @@ pub record ReportAsks (T : Tables) (pattern : ℕ) (list : List ℕ) : Type 0 wh
 
 pub record PlannedMarked (T : Tables) (s : Scope) (mode : ScopingMode) (pattern : ℕ) (before after : List ℕ) : Type 0 where
   pub long : length after ≡ length before
-  pub each : (k : ℕ) → getD after k 0 ≡ cond (elem (k + 1) (boundNames (firstOf (T .nodes)) (entries (planOf T s mode pattern) 0))) 1 (getD before k 0)
+  pub each : (k : ℕ) → getD after k 0 ≡ cond (elem (k + 1) (boundNames (firstOf (T .nodes)) (entries (planOf T s mode pattern) top))) 1 (getD before k 0)
 
 pub record ReportMarked (T : Tables) (s : Scope) (mode : ScopingMode) (pattern : ℕ) (before after : List ℕ) : Type 0 where
   pub list : after ≡ tabulate (λ i. reported T s mode pattern (i + 1)) 0 (length before)

@@ -15,9 +15,9 @@ use Rattle.table.specs.Decode.{expr}
 use Rattle.table.specs.Check.{checked}
 use Rattle.table.specs.code.Sound.{Node}
 use Rattle.planner.specs.Plan.{plan}
-use Rattle.planner.specs.Layout.{entries}
+use Rattle.planner.specs.Layout.{top, entries}
 use Rattle.planner.specs.Operations.{planOf}
-use Rattle.planner.specs.code.Post.{Laid, PatternPlanned}
+use Rattle.planner.specs.code.Post.{patternWords, Laid, PatternPlanned}
 use Rattle.planner.specs.Simple.{simple, mentions}
 use Rattle.value.specs.Value.{isValue}
 use Rattle.run.specs.declared.RunAnswer.{RunAnswer}
@@ -39,7 +39,7 @@ pub record RunAsks (T : Tables) (s : Scope) (mode : ScopingMode) (pattern value 
 pub record MatchValuesAsks (T : Tables) (s : Scope) (mode : ScopingMode) (scratch : List ℕ) (count value : ℕ) (values : List ℕ) : Type 0 where
   pub root : ℕ
   pub asks : RunAsks T s mode root value values
-  pub laid : Laid (replicate 2048 0) 0 (entries (plan (isUnbound s mode) (expr T root) []) 0) scratch count
+  pub laid : Laid (replicate patternWords 0) 0 (entries (plan (isUnbound s mode) (expr T root) []) top) scratch count
 
 -- a run binds the names of the pattern that are unbound
 abbrev pub toBind : (ℕ → Bool) → Expr → ℕ → Bool
@@ -47,7 +47,7 @@ toBind unbound e x = mentions x e && unbound x
 
 -- what a run from the values in the list came to, whatever pattern the entries are the plan of
 pub record ValuesCame (T : Tables) (s : Scope) (mode : ScopingMode) (scratch : List ℕ) (count : ℕ) (binders : List ℕ) (value : ℕ) (before after : List ℕ) (r : RunAnswer) : Type 0 where
-  pub each : (root : ℕ) → RunAsks T s mode root value before → PatternPlanned T s mode root 0 (replicate 2048 0) binders scratch count
+  pub each : (root : ℕ) → RunAsks T s mode root value before → PatternPlanned T s mode root 0 (replicate patternWords 0) binders scratch count
       → (resultOf r ≡ carriedResult (ran T s mode root value before)) × (after ≡ setNames (toBind (isUnbound s mode) (expr T root)) (ran T s mode root value before) before)
 
 -- a run of a table that passed the check, with roots in it and a list that is long enough
@@ -63,7 +63,7 @@ ValuesCameIn values T s mode scratch count binders value r = ValuesCame T s mode
 
 abbrev pub CarriedIn : Slices → Slices → Tables → Scope → ScopingMode → ℕ → ℕ → RunAnswer → Type 0
 CarriedIn values plan T s mode pattern value r =
-    Ran (plannedName (known s mode) (expr T pattern)) (carriedOut (entries (planOf T s mode pattern) 0) (ran T s mode pattern value (old values))) (old values) (old plan) (new values) (new plan) r
+    Ran (plannedName (known s mode) (expr T pattern)) (carriedOut (entries (planOf T s mode pattern) top) (ran T s mode pattern value (old values))) (old values) (old plan) (new values) (new plan) r
 
 abbrev pub CheckedIn : Slices → Slices → Tables → Scope → ScopingMode → ℕ → ℕ → RunAnswer → Type 0
 CheckedIn values plan T s mode pattern value r =

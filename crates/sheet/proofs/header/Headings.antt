@@ -19,7 +19,7 @@ use Rattle.sheet.specs.declared.header.Heading.{Heading}
 use Rattle.sheet.specs.declared.header.Heading.the-variants as Heading
 use Rattle.sheet.specs.Lines.{lineLength, isLine, linesOk, wordAt}
 use Rattle.sheet.specs.Sheet.{line1, line2, countsOf, withinLimits, endPlace, operationNumbers, layoutOk, sheetOf, unparsed, parsed, parse}
-use Rattle.sheet.specs.Listing.{linesOfSheet, listingOf, Printed}
+use Rattle.sheet.specs.Listing.{alone, linesOfSheet, listingOf, Printed}
 use Rattle.sheet.specs.code.Header.{countsIn, operationIn, placesOf, headerOf, headOk, headingBy, headingOf, tablesOk, Headed}
 use Rattle.sheet.specs.code.Post.{Read, refusalBytes}
 use Rattle.sheet.proofs.header.HeaderTests.{limited, counts-read, operation-read}
@@ -116,13 +116,13 @@ headed-by sheet line-1 few ok =
     }
 
 module _ (sheet : List ℕ) {r : Heading} (is : r ≡ headingOf sheet) where
-  says-refused : {n : ℕ} → r ≡ Heading.Refused n → linesOfSheet (parse sheet) ≡ line n 0 0 0 ∷ []
+  says-refused : {n : ℕ} → r ≡ Heading.Refused n → linesOfSheet (parse sheet) ≡ alone (line n 0 0 0)
   unfolding headingOf headingBy parse
   says-refused {n} e = go (isLine sheet line1 6) (withinLimits (countsOf sheet)) (headOk sheet (countsOf sheet)) refl (sym e ∙ is)
     where
       go : (a b d : Bool) → headOk sheet (countsOf sheet) ≡ d
           → Heading.Refused n ≡ cond a (cond b (cond d (Heading.Good (headerOf sheet (countsOf sheet))) (Heading.Refused 7)) (Heading.Refused 1)) (Heading.Refused 7)
-          → linesOfSheet (cond a (cond b (cond (layoutOk sheet (countsOf sheet)) (parsed (sheetOf sheet (countsOf sheet))) (unparsed layoutBroken)) (unparsed overLimit)) (unparsed layoutBroken)) ≡ line n 0 0 0 ∷ []
+          → linesOfSheet (cond a (cond b (cond (layoutOk sheet (countsOf sheet)) (parsed (sheetOf sheet (countsOf sheet))) (unparsed layoutBroken)) (unparsed overLimit)) (unparsed layoutBroken)) ≡ alone (line n 0 0 0)
       go true true true h q = let z : _≡_ {A = ℕ} 0 1 = cc in never z
       go true true false h q = let m : n ≡ 7 = cc in rw (m, layout-split sheet (countsOf sheet), h)
       go true false d h q = let m : n ≡ 1 = cc in rw m

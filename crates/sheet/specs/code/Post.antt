@@ -1,7 +1,7 @@
 -- What the private functions ask and answer.
 use Prim.Native.Nat.{ℕ, _+_, _-_, _*_, _/_, _%_, _^_, _<_, _≤_}
 use mathlib.Core.Bool.{Bool, true, cond, _&&_}
-use mathlib.Core.List.{List, [], _∷_, _++_, map}
+use mathlib.Core.List.{List, _++_}
 use mathlib.Core.Path.{_≡_}
 use lib.Dec.{eqb, leb}
 use lib.ListN.{length, getD, set, replicate}
@@ -10,6 +10,7 @@ use Rattle.table.specs.Tables.{Tables}
 use Rattle.base.specs.Lists.{allFrom}
 use Rattle.columns.specs.Columns.{columnAt, writeColumn}
 use Rattle.base.specs.Refusal.{Line, line}
+use Rattle.planner.specs.Layout.{entryWords}
 use Rattle.planner.specs.Entries.{readEntries}
 use Rattle.sheet.specs.declared.header.Counts.{Counts}
 use Rattle.sheet.specs.declared.header.Header.{Header}
@@ -21,7 +22,7 @@ use Rattle.sheet.specs.declared.space.Tried.the-variants as Tried
 use Rattle.base.specs.Lent.{Slices}
 use Rattle.sheet.specs.Lines.{isReadable, numberAt, lineLength, numberLineLength, linesOk, wordAt, numberWord}
 use Rattle.sheet.specs.Sheet.{nodesPlace, markWord, childrenPlace, numbersPlace, namesPlace, marksOk}
-use Rattle.sheet.specs.Listing.{entryLine, linesOf, linesBytes, Printed}
+use Rattle.sheet.specs.Listing.{Listing, followed, alone, linesOf, linesBytes, Printed}
 use Rattle.sheet.specs.code.Header.{placesOf, Limited, tablesOk, Headed}
 
 -- so many parts of `line` bytes each, below 2^32
@@ -109,27 +110,31 @@ writePair left right = writeColumn left ++ writeColumn right
 abbrev pub entriesIn : Line → ℕ
 entriesIn l = cond (eqb (l .number) 0) (l .fourth) 0
 
--- the lines of k entries from entry i of a plan on
-abbrev pub entryLines : List ℕ → ℕ → ℕ → List Line
-entryLines plan i k = map entryLine (readEntries plan i k)
+abbrev pub answerLines : Line → List ℕ → Listing
+answerLines first plan = followed first (readEntries plan 0 (entriesIn first))
 
-abbrev pub answerLines : Line → List ℕ → List Line
-answerLines first plan = first ∷ entryLines plan 0 (entriesIn first)
+-- the line of an entry
+abbrev pub entryLength : ℕ
+entryLength = lineLength entryWords
+
+pub record EntryAsks (out : List ℕ) (at : ℕ) (plan : List ℕ) (i : ℕ) : Type 0 where
+  pub space : at + entryLength ≤ length out
+  pub held : i * entryWords + entryWords ≤ length plan
 
 pub record EntriesAsks (out plan : List ℕ) (count : ℕ) : Type 0 where
-  pub space : count * lineLength 4 + lineLength 4 ≤ length out
-  pub held : count * 4 ≤ length plan
+  pub space : lineLength 4 + count * entryLength ≤ length out
+  pub held : count * entryWords ≤ length plan
 
 -- the scope of a sheet, by its marks
 abbrev pub scopeIn : OperationNumbers → List ℕ → Scope
 scopeIn o marks = record { marks = marks; underscore = 0; scheduler = eqb (o .scheduler) 1 }
 
--- the words of a plan, four an entry, in the full space and in the small one
+-- the words of a plan in the full space and in the small one
 abbrev pub planWords : ℕ
-planWords = 4 * 1536
+planWords = entryWords * 1536
 
 abbrev pub smallWords : ℕ
-smallWords = 4 * 240
+smallWords = entryWords * 240
 
 -- tables for which the small space is enough
 unfoldable pub isSmall : Counts → Bool
@@ -154,7 +159,7 @@ TriedIn out listing space r = TriedBy listing space (out .entry .now) (out .exit
 
 -- a refusal that has no place and no counts
 abbrev pub refusalBytes : ℕ → List ℕ
-refusalBytes number = linesBytes (line number 0 0 0 ∷ [])
+refusalBytes number = linesBytes (alone (line number 0 0 0))
 
 -- counts for which arrays of such sizes have space
 pub record Space (c : Counts) (nodes children numbers names : ℕ) : Type 0 where

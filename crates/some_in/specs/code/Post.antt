@@ -7,7 +7,7 @@ use Rattle.scope.specs.declared.ScopingMode.the-variants.{RespectParent}
 use Rattle.table.specs.Tables.{Tables, childAt}
 use Rattle.table.specs.code.Sound.{Node, WellFormed}
 use Rattle.planner.specs.declared.PlanAnswer.{PlanAnswer}
-use Rattle.planner.specs.Layout.{Entry, entries}
+use Rattle.planner.specs.Layout.{Entry, top, entries}
 use Rattle.planner.specs.Entries.{Wrote}
 use Rattle.planner.specs.Operations.{planOf, planned, validated, Answered}
 use Rattle.checks.specs.declared.LiteralStructureCheck.{LiteralStructureCheck}
@@ -30,7 +30,7 @@ pub record PlaceAsks (T : Tables) (root at : ℕ) : Type 0 where
 
 -- its plan's entries from that place on, and its first name that is defined already, or 0
 pub record Validated (T : Tables) (s : Scope) (root at : ℕ) (before after : List ℕ) (end name : ℕ) : Type 0 where
-  pub wrote : Wrote before at (entries (planOf T s RespectParent root) 0) after end
+  pub wrote : Wrote before at (entries (planOf T s RespectParent root) top) after end
   pub few : end ≤ at + 512
   pub defined : name ≡ validated T s RespectParent root
 

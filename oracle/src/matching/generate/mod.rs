@@ -6,6 +6,7 @@ mod trees;
 use super::case::{is_unbound, Case, Origin};
 use super::reading::value_at;
 use super::value::equal;
+use crate::answer::ENTRY_WORDS;
 use crate::generate::{disguise::disguise, Random};
 use crate::sheets::draft::FIRST;
 use crate::sheets::{encode, Draft, Operation, Rule, Tree};
@@ -120,7 +121,8 @@ fn laid_out(random: &mut Random, origin: Origin, mut parts: Parts) -> Case {
         disguise(random, &mut draft);
     }
     let mut case = Case { origin, ..Case::new(draft) };
-    case.room = 4 * trees::entries(&parts.pattern) + random.weighted(&[30, 10, 10, 10, 20, 20]);
+    case.room =
+        ENTRY_WORDS * trees::entries(&parts.pattern) + random.weighted(&[30, 10, 10, 10, 20, 20]);
     if random.chance(50) {
         case.answer_room = random.below(7);
     }

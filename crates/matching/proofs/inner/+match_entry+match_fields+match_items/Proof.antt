@@ -1,8 +1,9 @@
 use Prim.Native.Nat.{_+_, _-_, _*_, ℕ, _<_}
 use Rattle.table.specs.Tables.{tables}
 use Rattle.matching.proofs.Entries.{ask-bind, bound, ignored, ask-compare, compared, ask-literal, literal-compared, some-rest, ask-items, ask-fields, parts-fall, entry-falls}
-use Rattle.matching.proofs.Parts.{not-array, uneven-items, TakingItems, taking-start, taking-place-fits, taking-from-fits, taking-range, taking-asks, taking-fails, taking-on, taking-ends, not-object, ask-key-sets, other-keys, TakingFields, fields-start, fields-object, fields-twice, fields-key-fits, fields-value-fits, fields-range, fields-asks, fields-fail, fields-on, fields-end}
+use Rattle.matching.proofs.Parts.{not-array, uneven-items, TakingItems, taking-start, taking-link, taking-from-fits, taking-asks, taking-fails, taking-on, taking-ends, not-object, ask-key-sets, other-keys, TakingFields, fields-start, fields-object, fields-link, fields-next-fits, fields-child, fields-key-word, fields-asks, fields-fail, fields-on, fields-end}
 use borrow.Author.Needs.{needs}
+use Prim.Native.Nat.{ℕ, _<_}
 use borrow.Fn.Kinds.{In}
 use borrow.Fn.PlainCycle.{Measures, is, falls, and}
 use Rattle.matching.proofs.inner.match_entry.Reads as match-entry
@@ -16,7 +17,7 @@ use Rattle.matching.proofs.inner.match_items.Kinds as match-items-kinds
 use Rattle.matching.proofs.inner.+match_entry+match_fields+match_items.Lts-match_items as match-items-lts
 use Rattle.matching.proofs.inner.bind_name.Reads as bind-name-reads
 use Rattle.matching.proofs.inner.equals_name.Reads as equals-name-reads
-use Rattle.matching.proofs.inner.place_of.Reads as place-of-reads
+use Rattle.matching.proofs.links.entry_number.Reads as entry-number-reads
 use Rattle.table.proofs.reading.child_at.Reads as child-at-reads
 use Rattle.table.proofs.reading.count_of.Reads as count-of-reads
 use Rattle.table.proofs.reading.first_of.Reads as first-of-reads
@@ -27,51 +28,51 @@ use Rattle.value.proofs.inner.fields.value_under.Reads as value-under-reads
 use Rattle.matching.proofs.inner.+match_entry+match_fields+match_items.{statement}
 use Rattle.matching.proofs.inner.+match_entry+match_fields+match_items.Tie.{close}
 
-abbrev μ-match-entry : Measures 9 match-entry-kinds.ps ℕ
-μ-match-entry κs a = 2 * a .1 .1 .1 .1 .1 .1 .1 .1 .1 .1 .0
+abbrev μ-match-entry : Measures 10 match-entry-kinds.ps ℕ
+μ-match-entry κs a = 2 * a .1 .1 .1 .1 .1 .1 .1 .1 .1 .1 .1 .0
 
-abbrev μ-match-fields : Measures 9 match-fields-kinds.ps ℕ
-μ-match-fields κs a = 2 * a .1 .1 .1 .1 .1 .1 .1 .1 .1 .1 .0 + 1
+abbrev μ-match-fields : Measures 10 match-fields-kinds.ps ℕ
+μ-match-fields κs a = 2 * a .1 .1 .1 .1 .1 .1 .1 .1 .1 .1 .1 .1 .0 + 1
 
-abbrev μ-match-items : Measures 9 match-items-kinds.ps ℕ
-μ-match-items κs a = 2 * a .1 .1 .1 .1 .1 .1 .1 .1 .1 .1 .1 .0 + 1
+abbrev μ-match-items : Measures 10 match-items-kinds.ps ℕ
+μ-match-items κs a = 2 * a .1 .1 .1 .1 .1 .1 .1 .1 .1 .1 .1 .1 .0 + 1
 
-abbrev match-entry-at : ℕ → In 9 match-entry-kinds.ps
+abbrev match-entry-at : ℕ → In 10 match-entry-kinds.ps
 match-entry-at t =
-    and 9 match-entry-kinds.ps (is 9 match-entry-kinds.ps μ-match-entry t) match-entry.Pre
+    and 10 match-entry-kinds.ps (is 10 match-entry-kinds.ps μ-match-entry t) match-entry.Pre
 
-abbrev match-entry-below : ℕ → In 9 match-entry-kinds.ps
+abbrev match-entry-below : ℕ → In 10 match-entry-kinds.ps
 match-entry-below t =
-    and 9 match-entry-kinds.ps (falls 9 match-entry-kinds.ps _<_ μ-match-entry t) match-entry.Pre
+    and 10 match-entry-kinds.ps (falls 10 match-entry-kinds.ps _<_ μ-match-entry t) match-entry.Pre
 
-abbrev match-fields-at : ℕ → In 9 match-fields-kinds.ps
+abbrev match-fields-at : ℕ → In 10 match-fields-kinds.ps
 match-fields-at t =
-    and 9 match-fields-kinds.ps (is 9 match-fields-kinds.ps μ-match-fields t) match-fields.Pre
+    and 10 match-fields-kinds.ps (is 10 match-fields-kinds.ps μ-match-fields t) match-fields.Pre
 
-abbrev match-fields-below : ℕ → In 9 match-fields-kinds.ps
+abbrev match-fields-below : ℕ → In 10 match-fields-kinds.ps
 match-fields-below t =
     and
-    9
+    10
     match-fields-kinds.ps
-    (falls 9 match-fields-kinds.ps _<_ μ-match-fields t)
+    (falls 10 match-fields-kinds.ps _<_ μ-match-fields t)
     match-fields.Pre
 
-abbrev match-items-at : ℕ → In 9 match-items-kinds.ps
+abbrev match-items-at : ℕ → In 10 match-items-kinds.ps
 match-items-at t =
-    and 9 match-items-kinds.ps (is 9 match-items-kinds.ps μ-match-items t) match-items.Pre
+    and 10 match-items-kinds.ps (is 10 match-items-kinds.ps μ-match-items t) match-items.Pre
 
-abbrev match-items-below : ℕ → In 9 match-items-kinds.ps
+abbrev match-items-below : ℕ → In 10 match-items-kinds.ps
 match-items-below t =
-    and 9 match-items-kinds.ps (falls 9 match-items-kinds.ps _<_ μ-match-items t) match-items.Pre
+    and 10 match-items-kinds.ps (falls 10 match-items-kinds.ps _<_ μ-match-items t) match-items.Pre
 
 abbrev match-entry-calls : ℕ → match-entry-lts.Claims
 match-entry-calls t = (bind-name-reads.Asked, bind-name-reads.Learnt, equals-name-reads.Asked, equals-name-reads.Learnt, same-value-reads.Asked, same-value-reads.Learnt, match-items-below t, match-items.Post, match-fields-below t, match-fields.Post)
 
 abbrev match-fields-calls : ℕ → match-fields-lts.Claims
-match-fields-calls t = (kind-of-reads.Asked, kind-of-reads.Learnt, same-key-sets-reads.Asked, same-key-sets-reads.Learnt, first-of-reads.Asked, first-of-reads.Learnt, count-of-reads.Asked, count-of-reads.Learnt, child-at-reads.Asked, child-at-reads.Learnt, value-under-reads.Asked, value-under-reads.Learnt, place-of-reads.Asked, place-of-reads.Learnt, match-entry-below t, match-entry.Post)
+match-fields-calls t = (kind-of-reads.Asked, kind-of-reads.Learnt, same-key-sets-reads.Asked, same-key-sets-reads.Learnt, entry-number-reads.Asked, entry-number-reads.Learnt, value-under-reads.Asked, value-under-reads.Learnt, match-entry-below t, match-entry.Post)
 
 abbrev match-items-calls : ℕ → match-items-lts.Claims
-match-items-calls t = (kind-of-reads.Asked, kind-of-reads.Learnt, count-of-reads.Asked, count-of-reads.Learnt, first-of-reads.Asked, first-of-reads.Learnt, child-at-reads.Asked, child-at-reads.Learnt, place-of-reads.Asked, place-of-reads.Learnt, match-entry-below t, match-entry.Post)
+match-items-calls t = (kind-of-reads.Asked, kind-of-reads.Learnt, count-of-reads.Asked, count-of-reads.Learnt, entry-number-reads.Asked, entry-number-reads.Learnt, first-of-reads.Asked, first-of-reads.Learnt, child-at-reads.Asked, child-at-reads.Learnt, match-entry-below t, match-entry.Post)
 
 match-entry-mul-kind : (t : ℕ) → match-entry-lts.Need-mul-kind (match-entry-calls t) (match-entry-at t) match-entry.Post
 match-entry-mul-kind t c = search needs
@@ -146,10 +147,10 @@ match-entry-returns-6 : (t : ℕ) → match-entry-lts.Need-returns-6 (match-entr
 match-entry-returns-6 t c = search needs
 
 abbrev match-fields-Inv-loop : match-fields-lts.InvT-loop
-match-fields-Inv-loop nodes children numbers names strings text scratch places node value rest list₀ first count i₀ list i = TakingFields (tables nodes children numbers names strings text) scratch places node value rest list₀ first count i list
+match-fields-Inv-loop nodes children numbers names strings text scratch starts links at count value rest list₀ node start i₀ list i = TakingFields (tables nodes children numbers names strings text) scratch starts links at count value rest list₀ start i list
 
 abbrev match-fields-μ-loop : match-fields-lts.MeasureT-loop
-match-fields-μ-loop nodes children numbers names strings text scratch places node value rest list₀ first count i₀ list i = count - i
+match-fields-μ-loop nodes children numbers names strings text scratch starts links at count value rest list₀ node start i₀ list i = count - i
 
 match-fields-kind-of-requires : (t : ℕ) → match-fields-lts.Need-kind-of-requires (match-fields-calls t) (match-fields-at t) match-fields.Post match-fields-Inv-loop match-fields-μ-loop
 match-fields-kind-of-requires t c κs = search needs
@@ -157,77 +158,92 @@ match-fields-kind-of-requires t c κs = search needs
 match-fields-returns : (t : ℕ) → match-fields-lts.Need-returns (match-fields-calls t) (match-fields-at t) match-fields.Post match-fields-Inv-loop match-fields-μ-loop
 match-fields-returns t c = search (not-object, needs)
 
+match-fields-mul-node : (t : ℕ) → match-fields-lts.Need-mul-node (match-fields-calls t) (match-fields-at t) match-fields.Post match-fields-Inv-loop match-fields-μ-loop
+match-fields-mul-node t c = search needs
+
+match-fields-add-node : (t : ℕ) → match-fields-lts.Need-add-node (match-fields-calls t) (match-fields-at t) match-fields.Post match-fields-Inv-loop match-fields-μ-loop
+match-fields-add-node t c = search needs
+
+match-fields-mul-node-2 : (t : ℕ) → match-fields-lts.Need-mul-node-2 (match-fields-calls t) (match-fields-at t) match-fields.Post match-fields-Inv-loop match-fields-μ-loop
+match-fields-mul-node-2 t c = search needs
+
+match-fields-element-copy-out-node : (t : ℕ) → match-fields-lts.Need-element-copy-out-node (match-fields-calls t) (match-fields-at t) match-fields.Post match-fields-Inv-loop match-fields-μ-loop
+match-fields-element-copy-out-node t c = search needs
+
 match-fields-same-key-sets-requires : (t : ℕ) → match-fields-lts.Need-same-key-sets-requires (match-fields-calls t) (match-fields-at t) match-fields.Post match-fields-Inv-loop match-fields-μ-loop
 match-fields-same-key-sets-requires t c κs = search (ask-key-sets, needs)
 
 match-fields-returns-2 : (t : ℕ) → match-fields-lts.Need-returns-2 (match-fields-calls t) (match-fields-at t) match-fields.Post match-fields-Inv-loop match-fields-μ-loop
 match-fields-returns-2 t c = search (other-keys, needs)
 
-match-fields-first-of-requires : (t : ℕ) → match-fields-lts.Need-first-of-requires (match-fields-calls t) (match-fields-at t) match-fields.Post match-fields-Inv-loop match-fields-μ-loop
-match-fields-first-of-requires t c κs = search needs
+match-fields-mul-entry-number : (t : ℕ) → match-fields-lts.Need-mul-entry-number (match-fields-calls t) (match-fields-at t) match-fields.Post match-fields-Inv-loop match-fields-μ-loop
+match-fields-mul-entry-number t c = search needs
 
-match-fields-cast-first : (t : ℕ) → match-fields-lts.Need-cast-first (match-fields-calls t) (match-fields-at t) match-fields.Post match-fields-Inv-loop match-fields-μ-loop
-match-fields-cast-first t c = search needs
+match-fields-element-copy-out-entry-number : (t : ℕ) → match-fields-lts.Need-element-copy-out-entry-number (match-fields-calls t) (match-fields-at t) match-fields.Post match-fields-Inv-loop match-fields-μ-loop
+match-fields-element-copy-out-entry-number t c = search needs
 
-match-fields-count-of-requires : (t : ℕ) → match-fields-lts.Need-count-of-requires (match-fields-calls t) (match-fields-at t) match-fields.Post match-fields-Inv-loop match-fields-μ-loop
-match-fields-count-of-requires t c κs = search needs
-
-match-fields-cast-count : (t : ℕ) → match-fields-lts.Need-cast-count (match-fields-calls t) (match-fields-at t) match-fields.Post match-fields-Inv-loop match-fields-μ-loop
-match-fields-cast-count t c = search needs
+match-fields-entry-number-requires : (t : ℕ) → match-fields-lts.Need-entry-number-requires (match-fields-calls t) (match-fields-at t) match-fields.Post match-fields-Inv-loop match-fields-μ-loop
+match-fields-entry-number-requires t c κs = search needs
 
 match-fields-loop-holds : (t : ℕ) → match-fields-lts.Need-loop-holds (match-fields-calls t) (match-fields-at t) match-fields.Post match-fields-Inv-loop match-fields-μ-loop
-match-fields-loop-holds t c = fields-start (c .before .before .before .before .before .before .before .before .before .before .before .before .pre .1) (c .before .before .before .before .before .kind-of .ensures) (c .before .before .before .before .if1 .left) (c .before .before .before .same-key-sets .ensures) (c .before .before .if2 .left) (c .before .first-of .ensures) (c .count-of .ensures)
+match-fields-loop-holds t c = fields-start (c .before .before .before .before .before .before .before .before .before .before .before .before .before .pre .1) (c .before .before .before .before .before .before .kind-of .ensures) (c .before .before .before .before .before .if1 .left) (c .before .before .before .same-key-sets .ensures) (c .before .before .if2 .left) (c .entry-number .ensures .0)
 
-match-fields-mul-child-at : (t : ℕ) → match-fields-lts.Need-mul-child-at (match-fields-calls t) (match-fields-at t) match-fields.Post match-fields-Inv-loop match-fields-μ-loop
-match-fields-mul-child-at t c = search (fields-twice, needs)
+match-fields-cast-entry-number : (t : ℕ) → match-fields-lts.Need-cast-entry-number (match-fields-calls t) (match-fields-at t) match-fields.Post match-fields-Inv-loop match-fields-μ-loop
+match-fields-cast-entry-number t c = search needs
 
-match-fields-add-child-at : (t : ℕ) → match-fields-lts.Need-add-child-at (match-fields-calls t) (match-fields-at t) match-fields.Post match-fields-Inv-loop match-fields-μ-loop
-match-fields-add-child-at t c = search (fields-key-fits, needs)
+match-fields-add-entry-number : (t : ℕ) → match-fields-lts.Need-add-entry-number (match-fields-calls t) (match-fields-at t) match-fields.Post match-fields-Inv-loop match-fields-μ-loop
+match-fields-add-entry-number t c = search (fields-link, needs)
 
-match-fields-child-at-requires : (t : ℕ) → match-fields-lts.Need-child-at-requires (match-fields-calls t) (match-fields-at t) match-fields.Post match-fields-Inv-loop match-fields-μ-loop
-match-fields-child-at-requires t c κs = search needs
+match-fields-mul-entry-number-2 : (t : ℕ) → match-fields-lts.Need-mul-entry-number-2 (match-fields-calls t) (match-fields-at t) match-fields.Post match-fields-Inv-loop match-fields-μ-loop
+match-fields-mul-entry-number-2 t c = search (fields-link, needs)
 
-match-fields-mul-child-at-2 : (t : ℕ) → match-fields-lts.Need-mul-child-at-2 (match-fields-calls t) (match-fields-at t) match-fields.Post match-fields-Inv-loop match-fields-μ-loop
-match-fields-mul-child-at-2 t c = search (fields-twice, needs)
+match-fields-element-copy-out-entry-number-2 : (t : ℕ) → match-fields-lts.Need-element-copy-out-entry-number-2 (match-fields-calls t) (match-fields-at t) match-fields.Post match-fields-Inv-loop match-fields-μ-loop
+match-fields-element-copy-out-entry-number-2 t c = search (fields-link, needs)
 
-match-fields-add-child-at-2 : (t : ℕ) → match-fields-lts.Need-add-child-at-2 (match-fields-calls t) (match-fields-at t) match-fields.Post match-fields-Inv-loop match-fields-μ-loop
-match-fields-add-child-at-2 t c = search (fields-key-fits, needs)
+match-fields-entry-number-requires-2 : (t : ℕ) → match-fields-lts.Need-entry-number-requires-2 (match-fields-calls t) (match-fields-at t) match-fields.Post match-fields-Inv-loop match-fields-μ-loop
+match-fields-entry-number-requires-2 t c κs = search needs
 
-match-fields-add-child-at-3 : (t : ℕ) → match-fields-lts.Need-add-child-at-3 (match-fields-calls t) (match-fields-at t) match-fields.Post match-fields-Inv-loop match-fields-μ-loop
-match-fields-add-child-at-3 t c = search (fields-value-fits, needs)
+match-fields-mul-key : (t : ℕ) → match-fields-lts.Need-mul-key (match-fields-calls t) (match-fields-at t) match-fields.Post match-fields-Inv-loop match-fields-μ-loop
+match-fields-mul-key t c = search (fields-child, needs)
 
-match-fields-child-at-requires-2 : (t : ℕ) → match-fields-lts.Need-child-at-requires-2 (match-fields-calls t) (match-fields-at t) match-fields.Post match-fields-Inv-loop match-fields-μ-loop
-match-fields-child-at-requires-2 t c κs = search needs
+match-fields-add-key : (t : ℕ) → match-fields-lts.Need-add-key (match-fields-calls t) (match-fields-at t) match-fields.Post match-fields-Inv-loop match-fields-μ-loop
+match-fields-add-key t c = search (fields-child, needs)
+
+match-fields-mul-key-2 : (t : ℕ) → match-fields-lts.Need-mul-key-2 (match-fields-calls t) (match-fields-at t) match-fields.Post match-fields-Inv-loop match-fields-μ-loop
+match-fields-mul-key-2 t c = search (fields-child, needs)
+
+match-fields-element-copy-out-key : (t : ℕ) → match-fields-lts.Need-element-copy-out-key (match-fields-calls t) (match-fields-at t) match-fields.Post match-fields-Inv-loop match-fields-μ-loop
+match-fields-element-copy-out-key t c = fields-key-word (c .before .before .before .loop .inv) (c .before .before .loop-test .taken) (c .entry-number2 .ensures .0)
+
+match-fields-cast-value-under : (t : ℕ) → match-fields-lts.Need-cast-value-under (match-fields-calls t) (match-fields-at t) match-fields.Post match-fields-Inv-loop match-fields-μ-loop
+match-fields-cast-value-under t c = search needs
 
 match-fields-value-under-requires : (t : ℕ) → match-fields-lts.Need-value-under-requires (match-fields-calls t) (match-fields-at t) match-fields.Post match-fields-Inv-loop match-fields-μ-loop
 match-fields-value-under-requires t c κs = search (fields-object, needs)
 
-match-fields-place-of-requires : (t : ℕ) → match-fields-lts.Need-place-of-requires (match-fields-calls t) (match-fields-at t) match-fields.Post match-fields-Inv-loop match-fields-μ-loop
-match-fields-place-of-requires t c κs = fields-range (c .before .before .before .before .loop .inv) (c .before .before .before .loop-test .taken) (c .before .child-at2 .ensures)
-
 match-fields-match-entry-requires : (t : ℕ) → match-fields-lts.Need-match-entry-requires (match-fields-calls t) (match-fields-at t) match-fields.Post match-fields-Inv-loop match-fields-μ-loop
-match-fields-match-entry-requires t c κs = (entry-falls _ _ (c .before .before .before .before .before .before .before .before .before .before .before .before .before .before .before .before .before .before .before .pre .0), fields-asks (c .before .before .before .before .before .before .loop .inv) (c .before .before .before .before .before .loop-test .taken) (c .before .before .before .before .child-at .ensures) (c .before .before .before .child-at2 .ensures) (c .before .before .value-under .ensures) (c .before .place-of .ensures .0))
+match-fields-match-entry-requires t c κs = (entry-falls _ _ (c .before .before .before .before .before .before .before .before .before .before .before .before .before .before .before .before .before .before .before .before .pre .0), fields-asks (c .before .before .before .before .before .before .loop .inv) (c .before .before .before .before .before .loop-test .taken) (c .before .before .before .entry-number2 .ensures .0) (c .before .value-under .ensures))
 
 match-fields-returns-3 : (t : ℕ) → match-fields-lts.Need-returns-3 (match-fields-calls t) (match-fields-at t) match-fields.Post match-fields-Inv-loop match-fields-μ-loop
-match-fields-returns-3 t c = fields-fail (c .before .before .before .before .before .before .before .before .loop .inv) (c .before .before .before .before .before .before .before .loop-test .taken) (c .before .before .before .before .before .before .child-at .ensures) (c .before .before .before .before .before .child-at2 .ensures) (c .before .before .before .before .value-under .ensures) (c .before .before .before .place-of .ensures .0) (c .before .match-entry .ensures) (c .if3 .taken)
+match-fields-returns-3 t c = fields-fail (c .before .before .before .before .before .before .before .before .loop .inv) (c .before .before .before .before .before .before .before .loop-test .taken) (c .before .before .before .before .before .entry-number2 .ensures .0) (c .before .before .before .value-under .ensures) (c .before .match-entry .ensures) (c .if3 .taken)
 
 match-fields-add-i : (t : ℕ) → match-fields-lts.Need-add-i (match-fields-calls t) (match-fields-at t) match-fields.Post match-fields-Inv-loop match-fields-μ-loop
-match-fields-add-i t c = search needs
+match-fields-add-i t c = fields-next-fits (c .before .before .before .before .before .before .before .before .loop .inv) (c .before .before .before .before .before .before .before .loop-test .taken)
 
 match-fields-loop-less : (t : ℕ) → match-fields-lts.Need-loop-less (match-fields-calls t) (match-fields-at t) match-fields.Post match-fields-Inv-loop match-fields-μ-loop
 match-fields-loop-less t c = search needs
 
 match-fields-loop-again : (t : ℕ) → match-fields-lts.Need-loop-again (match-fields-calls t) (match-fields-at t) match-fields.Post match-fields-Inv-loop match-fields-μ-loop
-match-fields-loop-again t c = fields-on (c .before .before .before .before .before .before .before .before .loop .inv) (c .before .before .before .before .before .before .before .loop-test .taken) (c .before .before .before .before .before .before .child-at .ensures) (c .before .before .before .before .before .child-at2 .ensures) (c .before .before .before .before .value-under .ensures) (c .before .before .before .place-of .ensures .0) (c .before .match-entry .ensures) (c .if3 .left)
+match-fields-loop-again t c = fields-on (c .before .before .before .before .before .before .before .before .loop .inv) (c .before .before .before .before .before .before .before .loop-test .taken) (c .before .before .before .before .before .entry-number2 .ensures .0) (c .before .before .before .value-under .ensures) (c .before .match-entry .ensures) (c .if3 .left)
 
 match-fields-returns-4 : (t : ℕ) → match-fields-lts.Need-returns-4 (match-fields-calls t) (match-fields-at t) match-fields.Post match-fields-Inv-loop match-fields-μ-loop
 match-fields-returns-4 t c = search (fields-end, needs)
 
 abbrev match-items-Inv-loop : match-items-lts.InvT-loop
-match-items-Inv-loop nodes children numbers names strings text scratch places node count value rest list₀ at from i₀ list i = TakingItems (tables nodes children numbers names strings text) scratch places node count value rest list₀ at from i list
+match-items-Inv-loop nodes children numbers names strings text scratch starts links at count value rest list₀ start from i₀ list i = TakingItems (tables nodes children numbers names strings text) scratch starts links at count value rest list₀ start from i list
 
 abbrev match-items-μ-loop : match-items-lts.MeasureT-loop
-match-items-μ-loop nodes children numbers names strings text scratch places node count value rest list₀ at from i₀ list i = count - i
+match-items-μ-loop nodes children numbers names strings text scratch starts links at count value rest list₀ start from i₀ list i = count - i
 
 match-items-kind-of-requires : (t : ℕ) → match-items-lts.Need-kind-of-requires (match-items-calls t) (match-items-at t) match-items.Post match-items-Inv-loop match-items-μ-loop
 match-items-kind-of-requires t c κs = search needs
@@ -241,47 +257,53 @@ match-items-count-of-requires t c κs = search needs
 match-items-returns-2 : (t : ℕ) → match-items-lts.Need-returns-2 (match-items-calls t) (match-items-at t) match-items.Post match-items-Inv-loop match-items-μ-loop
 match-items-returns-2 t c = search (uneven-items, needs)
 
+match-items-mul-entry-number : (t : ℕ) → match-items-lts.Need-mul-entry-number (match-items-calls t) (match-items-at t) match-items.Post match-items-Inv-loop match-items-μ-loop
+match-items-mul-entry-number t c = search needs
+
+match-items-element-copy-out-entry-number : (t : ℕ) → match-items-lts.Need-element-copy-out-entry-number (match-items-calls t) (match-items-at t) match-items.Post match-items-Inv-loop match-items-μ-loop
+match-items-element-copy-out-entry-number t c = search needs
+
+match-items-entry-number-requires : (t : ℕ) → match-items-lts.Need-entry-number-requires (match-items-calls t) (match-items-at t) match-items.Post match-items-Inv-loop match-items-μ-loop
+match-items-entry-number-requires t c κs = search needs
+
 match-items-first-of-requires : (t : ℕ) → match-items-lts.Need-first-of-requires (match-items-calls t) (match-items-at t) match-items.Post match-items-Inv-loop match-items-μ-loop
 match-items-first-of-requires t c κs = search needs
-
-match-items-cast-at : (t : ℕ) → match-items-lts.Need-cast-at (match-items-calls t) (match-items-at t) match-items.Post match-items-Inv-loop match-items-μ-loop
-match-items-cast-at t c = search needs
-
-match-items-first-of-requires-2 : (t : ℕ) → match-items-lts.Need-first-of-requires-2 (match-items-calls t) (match-items-at t) match-items.Post match-items-Inv-loop match-items-μ-loop
-match-items-first-of-requires-2 t c κs = search needs
 
 match-items-cast-from : (t : ℕ) → match-items-lts.Need-cast-from (match-items-calls t) (match-items-at t) match-items.Post match-items-Inv-loop match-items-μ-loop
 match-items-cast-from t c = search needs
 
 match-items-loop-holds : (t : ℕ) → match-items-lts.Need-loop-holds (match-items-calls t) (match-items-at t) match-items.Post match-items-Inv-loop match-items-μ-loop
-match-items-loop-holds t c = search (taking-start, needs)
+match-items-loop-holds t c = taking-start (c .before .before .before .before .before .before .before .before .before .before .before .before .before .pre .1) (c .before .before .before .before .before .before .kind-of .ensures) (c .before .before .before .before .before .if1 .left) (c .before .before .before .before .count-of .ensures) (c .before .before .before .if2 .left) (c .before .entry-number .ensures .0) (c .first-of .ensures)
+
+match-items-cast-entry-number : (t : ℕ) → match-items-lts.Need-cast-entry-number (match-items-calls t) (match-items-at t) match-items.Post match-items-Inv-loop match-items-μ-loop
+match-items-cast-entry-number t c = search needs
+
+match-items-add-entry-number : (t : ℕ) → match-items-lts.Need-add-entry-number (match-items-calls t) (match-items-at t) match-items.Post match-items-Inv-loop match-items-μ-loop
+match-items-add-entry-number t c = search (taking-link, needs)
+
+match-items-mul-entry-number-2 : (t : ℕ) → match-items-lts.Need-mul-entry-number-2 (match-items-calls t) (match-items-at t) match-items.Post match-items-Inv-loop match-items-μ-loop
+match-items-mul-entry-number-2 t c = search (taking-link, needs)
+
+match-items-element-copy-out-entry-number-2 : (t : ℕ) → match-items-lts.Need-element-copy-out-entry-number-2 (match-items-calls t) (match-items-at t) match-items.Post match-items-Inv-loop match-items-μ-loop
+match-items-element-copy-out-entry-number-2 t c = search (taking-link, needs)
+
+match-items-entry-number-requires-2 : (t : ℕ) → match-items-lts.Need-entry-number-requires-2 (match-items-calls t) (match-items-at t) match-items.Post match-items-Inv-loop match-items-μ-loop
+match-items-entry-number-requires-2 t c κs = search needs
 
 match-items-cast-child-at : (t : ℕ) → match-items-lts.Need-cast-child-at (match-items-calls t) (match-items-at t) match-items.Post match-items-Inv-loop match-items-μ-loop
 match-items-cast-child-at t c = search needs
 
 match-items-add-child-at : (t : ℕ) → match-items-lts.Need-add-child-at (match-items-calls t) (match-items-at t) match-items.Post match-items-Inv-loop match-items-μ-loop
-match-items-add-child-at t c = search (taking-place-fits, needs)
+match-items-add-child-at t c = search (taking-from-fits, needs)
 
 match-items-child-at-requires : (t : ℕ) → match-items-lts.Need-child-at-requires (match-items-calls t) (match-items-at t) match-items.Post match-items-Inv-loop match-items-μ-loop
 match-items-child-at-requires t c κs = search needs
 
-match-items-cast-child-at-2 : (t : ℕ) → match-items-lts.Need-cast-child-at-2 (match-items-calls t) (match-items-at t) match-items.Post match-items-Inv-loop match-items-μ-loop
-match-items-cast-child-at-2 t c = search needs
-
-match-items-add-child-at-2 : (t : ℕ) → match-items-lts.Need-add-child-at-2 (match-items-calls t) (match-items-at t) match-items.Post match-items-Inv-loop match-items-μ-loop
-match-items-add-child-at-2 t c = search (taking-from-fits, needs)
-
-match-items-child-at-requires-2 : (t : ℕ) → match-items-lts.Need-child-at-requires-2 (match-items-calls t) (match-items-at t) match-items.Post match-items-Inv-loop match-items-μ-loop
-match-items-child-at-requires-2 t c κs = search needs
-
-match-items-place-of-requires : (t : ℕ) → match-items-lts.Need-place-of-requires (match-items-calls t) (match-items-at t) match-items.Post match-items-Inv-loop match-items-μ-loop
-match-items-place-of-requires t c κs = taking-range (c .before .before .before .loop .inv) (c .before .before .loop-test .taken) (c .before .child-at .ensures) (c .child-at2 .ensures)
-
 match-items-match-entry-requires : (t : ℕ) → match-items-lts.Need-match-entry-requires (match-items-calls t) (match-items-at t) match-items.Post match-items-Inv-loop match-items-μ-loop
-match-items-match-entry-requires t c κs = (entry-falls _ _ (c .before .before .before .before .before .before .before .before .before .before .before .before .before .before .before .before .before .before .pre .0), taking-asks (c .before .before .before .before .before .loop .inv) (c .before .before .before .before .loop-test .taken) (c .before .before .before .child-at .ensures) (c .before .before .child-at2 .ensures) (c .before .place-of .ensures .0))
+match-items-match-entry-requires t c κs = (entry-falls _ _ (c .before .before .before .before .before .before .before .before .before .before .before .before .before .before .before .before .before .before .before .pre .0), taking-asks (c .before .before .before .before .before .loop .inv) (c .before .before .before .before .loop-test .taken) (c .before .before .entry-number2 .ensures .0) (c .before .child-at .ensures))
 
 match-items-returns-3 : (t : ℕ) → match-items-lts.Need-returns-3 (match-items-calls t) (match-items-at t) match-items.Post match-items-Inv-loop match-items-μ-loop
-match-items-returns-3 t c = taking-fails (c .before .before .before .before .before .before .before .loop .inv) (c .before .before .before .before .before .before .loop-test .taken) (c .before .before .before .before .before .child-at .ensures) (c .before .before .before .before .child-at2 .ensures) (c .before .before .before .place-of .ensures .0) (c .before .match-entry .ensures) (c .if3 .taken)
+match-items-returns-3 t c = taking-fails (c .before .before .before .before .before .before .before .loop .inv) (c .before .before .before .before .before .before .loop-test .taken) (c .before .before .before .before .entry-number2 .ensures .0) (c .before .before .before .child-at .ensures) (c .before .match-entry .ensures) (c .if3 .taken)
 
 match-items-add-i : (t : ℕ) → match-items-lts.Need-add-i (match-items-calls t) (match-items-at t) match-items.Post match-items-Inv-loop match-items-μ-loop
 match-items-add-i t c = search needs
@@ -290,7 +312,7 @@ match-items-loop-less : (t : ℕ) → match-items-lts.Need-loop-less (match-item
 match-items-loop-less t c = search needs
 
 match-items-loop-again : (t : ℕ) → match-items-lts.Need-loop-again (match-items-calls t) (match-items-at t) match-items.Post match-items-Inv-loop match-items-μ-loop
-match-items-loop-again t c = taking-on (c .before .before .before .before .before .before .before .loop .inv) (c .before .before .before .before .before .before .loop-test .taken) (c .before .before .before .before .before .child-at .ensures) (c .before .before .before .before .child-at2 .ensures) (c .before .before .before .place-of .ensures .0) (c .before .match-entry .ensures) (c .if3 .left)
+match-items-loop-again t c = taking-on (c .before .before .before .before .before .before .before .loop .inv) (c .before .before .before .before .before .before .loop-test .taken) (c .before .before .before .before .entry-number2 .ensures .0) (c .before .before .before .child-at .ensures) (c .before .match-entry .ensures) (c .if3 .left)
 
 match-items-returns-4 : (t : ℕ) → match-items-lts.Need-returns-4 (match-items-calls t) (match-items-at t) match-items.Post match-items-Inv-loop match-items-μ-loop
 match-items-returns-4 t c = search (taking-ends, needs)
@@ -340,16 +362,10 @@ pub +match-entry+match-fields+match-items-spec : {M : Type 1} → statement M
       kind-of-reads.Learnt,
       same-key-sets-reads.Asked,
       same-key-sets-reads.Learnt,
-      first-of-reads.Asked,
-      first-of-reads.Learnt,
-      count-of-reads.Asked,
-      count-of-reads.Learnt,
-      child-at-reads.Asked,
-      child-at-reads.Learnt,
+      entry-number-reads.Asked,
+      entry-number-reads.Learnt,
       value-under-reads.Asked,
       value-under-reads.Learnt,
-      place-of-reads.Asked,
-      place-of-reads.Learnt,
       match-entry-below t,
       match-entry.Post,
     )
@@ -359,22 +375,27 @@ pub +match-entry+match-fields+match-items-spec : {M : Type 1} → statement M
     match-fields-μ-loop
     (match-fields-kind-of-requires t)
     (match-fields-returns t)
+    (match-fields-mul-node t)
+    (match-fields-add-node t)
+    (match-fields-mul-node-2 t)
+    (match-fields-element-copy-out-node t)
     (match-fields-same-key-sets-requires t)
     (match-fields-returns-2 t)
-    (match-fields-first-of-requires t)
-    (match-fields-cast-first t)
-    (match-fields-count-of-requires t)
-    (match-fields-cast-count t)
+    (match-fields-mul-entry-number t)
+    (match-fields-element-copy-out-entry-number t)
+    (match-fields-entry-number-requires t)
     (match-fields-loop-holds t)
-    (match-fields-mul-child-at t)
-    (match-fields-add-child-at t)
-    (match-fields-child-at-requires t)
-    (match-fields-mul-child-at-2 t)
-    (match-fields-add-child-at-2 t)
-    (match-fields-add-child-at-3 t)
-    (match-fields-child-at-requires-2 t)
+    (match-fields-cast-entry-number t)
+    (match-fields-add-entry-number t)
+    (match-fields-mul-entry-number-2 t)
+    (match-fields-element-copy-out-entry-number-2 t)
+    (match-fields-entry-number-requires-2 t)
+    (match-fields-mul-key t)
+    (match-fields-add-key t)
+    (match-fields-mul-key-2 t)
+    (match-fields-element-copy-out-key t)
+    (match-fields-cast-value-under t)
     (match-fields-value-under-requires t)
-    (match-fields-place-of-requires t)
     (match-fields-match-entry-requires t)
     (match-fields-returns-3 t)
     (match-fields-add-i t)
@@ -386,12 +407,12 @@ pub +match-entry+match-fields+match-items-spec : {M : Type 1} → statement M
       kind-of-reads.Learnt,
       count-of-reads.Asked,
       count-of-reads.Learnt,
+      entry-number-reads.Asked,
+      entry-number-reads.Learnt,
       first-of-reads.Asked,
       first-of-reads.Learnt,
       child-at-reads.Asked,
       child-at-reads.Learnt,
-      place-of-reads.Asked,
-      place-of-reads.Learnt,
       match-entry-below t,
       match-entry.Post,
     )
@@ -403,18 +424,20 @@ pub +match-entry+match-fields+match-items-spec : {M : Type 1} → statement M
     (match-items-returns t)
     (match-items-count-of-requires t)
     (match-items-returns-2 t)
+    (match-items-mul-entry-number t)
+    (match-items-element-copy-out-entry-number t)
+    (match-items-entry-number-requires t)
     (match-items-first-of-requires t)
-    (match-items-cast-at t)
-    (match-items-first-of-requires-2 t)
     (match-items-cast-from t)
     (match-items-loop-holds t)
+    (match-items-cast-entry-number t)
+    (match-items-add-entry-number t)
+    (match-items-mul-entry-number-2 t)
+    (match-items-element-copy-out-entry-number-2 t)
+    (match-items-entry-number-requires-2 t)
     (match-items-cast-child-at t)
     (match-items-add-child-at t)
     (match-items-child-at-requires t)
-    (match-items-cast-child-at-2 t)
-    (match-items-add-child-at-2 t)
-    (match-items-child-at-requires-2 t)
-    (match-items-place-of-requires t)
     (match-items-match-entry-requires t)
     (match-items-returns-3 t)
     (match-items-add-i t)

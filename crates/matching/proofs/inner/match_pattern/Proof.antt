@@ -1,14 +1,14 @@
-use Rattle.matching.proofs.Placing.{pattern-places, pattern-asks, pattern-matched, pattern-missed}
+use Rattle.matching.proofs.Carried.{pattern-links, pattern-asks, pattern-matched, pattern-missed}
 use borrow.Author.Needs.{needs}
 use Rattle.matching.proofs.inner.match_pattern.Statement.{statement}
 use Rattle.matching.proofs.inner.match_pattern.Tie as tie
 use Rattle.matching.proofs.inner.match_pattern.Reads as reads
 use Rattle.matching.proofs.inner.match_pattern.Lts as lts
 use Rattle.matching.proofs.inner.match_entry.Reads as match-entry-reads
-use Rattle.matching.proofs.inner.note_places.Reads as note-places-reads
+use Rattle.matching.proofs.links.link_entries.Reads as link-entries-reads
 
-note-places-requires : tie.Need-note-places-requires
-note-places-requires c κs = search (pattern-places, needs)
+link-entries-requires : tie.Need-link-entries-requires
+link-entries-requires c κs = search (pattern-links, needs)
 
 match-entry-requires : tie.Need-match-entry-requires
 match-entry-requires c κs = search (pattern-asks, needs)
@@ -20,4 +20,4 @@ returns-2 : tie.Need-returns-2
 returns-2 c = search (pattern-missed, needs)
 
 pub match-pattern-spec : {M : Type 1} → statement M
-match-pattern-spec = tie.close (tie.spec note-places-requires match-entry-requires returns returns-2)
+match-pattern-spec = tie.close (tie.spec link-entries-requires match-entry-requires returns returns-2)

@@ -47,6 +47,12 @@ add-word-of-3 c = search needs
 word-of-requires-4 : tie.Need-word-of-requires-4 Inv-loop μ-loop
 word-of-requires-4 c κs = search needs
 
+add-word-of-4 : tie.Need-add-word-of-4 Inv-loop μ-loop
+add-word-of-4 c = search needs
+
+word-of-requires-5 : tie.Need-word-of-requires-5 Inv-loop μ-loop
+word-of-requires-5 c κs = search needs
+
 put-entry-requires : tie.Need-put-entry-requires Inv-loop μ-loop
 put-entry-requires c κs = search needs
 
@@ -62,8 +68,8 @@ loop-less c = search needs
 loop-again : tie.Need-loop-again Inv-loop μ-loop
 loop-again c =
     let s = c .before .before in
-    let words = s .before .before .before .before in
-    copying-on (words .before .before .before .before .loop .inv) (words .before .before .before .loop-test .taken) (words .word-of .ensures) (s .before .before .before .word-of2 .ensures) (s .before .before .word-of3 .ensures) (s .before .word-of4 .ensures) (s .put-entry .ensures)
+    let words = s .before .before .before .before .before in
+    copying-on (words .before .before .before .before .loop .inv) (words .before .before .before .loop-test .taken) (words .word-of .ensures) (s .before .before .before .before .word-of2 .ensures) (s .before .before .before .word-of3 .ensures) (s .before .before .word-of4 .ensures) (s .before .word-of5 .ensures) (s .put-entry .ensures)
 
 same-length-2 : tie.Need-same-length-2 Inv-loop μ-loop
 same-length-2 c = search needs
@@ -88,6 +94,8 @@ copy-entries-spec =
     word-of-requires-3
     add-word-of-3
     word-of-requires-4
+    add-word-of-4
+    word-of-requires-5
     put-entry-requires
     add-to
     add-i

@@ -1,5 +1,5 @@
 use lib.Seq.{lt-length-set}
-use Rattle.planner.proofs.buffer.Copies.{word-2, word-3, word-4, wrote-in, wrote-out}
+use Rattle.planner.proofs.buffer.Copies.{word-2, word-3, word-4, word-5, wrote-in, wrote-out}
 use borrow.Author.Needs.{needs}
 use Rattle.planner.proofs.buffer.put_entry.Statement.{statement}
 use Rattle.planner.proofs.buffer.put_entry.Tie as tie
@@ -42,6 +42,15 @@ mul-plan-4 c = search needs
 slice-write-plan-4 : tie.Need-slice-write-plan-4
 slice-write-plan-4 c = search (lt-length-set, word-4, needs)
 
+add-plan-4 : tie.Need-add-plan-4
+add-plan-4 c = search needs
+
+mul-plan-5 : tie.Need-mul-plan-5
+mul-plan-5 c = search needs
+
+slice-write-plan-5 : tie.Need-slice-write-plan-5
+slice-write-plan-5 c = search (lt-length-set, word-5, needs)
+
 same-length : tie.Need-same-length
 same-length c = search needs
 
@@ -67,6 +76,9 @@ put-entry-spec =
     add-plan-3
     mul-plan-4
     slice-write-plan-4
+    add-plan-4
+    mul-plan-5
+    slice-write-plan-5
     same-length
     returns
     returns-2)

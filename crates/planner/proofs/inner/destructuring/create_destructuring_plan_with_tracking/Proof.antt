@@ -20,7 +20,9 @@ same-length : tie.Need-same-length
 same-length c = search needs
 
 returns : tie.Need-returns
-returns c = (search (tracked, needs), search (tracked-steps, needs))
+returns c =
+    let decided = c .before .before .before .before .before .before .decide .ensures in
+    (search (tracked, needs), tracked-steps _ _ _ _ _ (c .before .before .before .before .before .before .before .before .before .before .before .before .before .before .before .before .pre) (decided .0) (decided .1) (c .before .before .lay-out .ensures .1))
 
 pub create-destructuring-plan-with-tracking-spec : {M : Type 1} → statement M
 create-destructuring-plan-with-tracking-spec =

@@ -1,6 +1,6 @@
 use Prim.Native.Nat.{_-_, _*_, ℕ, _<_}
 use Rattle.table.specs.Tables.{tables}
-use Rattle.planner.proofs.destructuring.SecondPass.{next-fits, lay-fits, object-room, object-counted, name-counted, items-room, array-counted, plain-counted, item-room, item-counted, items-counted, fields-counting, field-room, field-counted, fields-counted, object-next-fits, ask-object, ask-name, laid-name, ask-items, laid-array, laid-plain, LayingItems, laying-start, laying-child, laying-below, laying-on, laying-long, laying-fits, laying-ends, LayingFields, ordering-start, ordering-long, ordering-place, ordering-key, ordering-value, ordering-child, ordering-below, ordering-on, ordering-ends, object-falls, items-fall, fields-fall, child-falls}
+use Rattle.planner.proofs.destructuring.SecondPass.{next-fits, lay-fits, object-room, object-counted, name-counted, items-room, array-counted, plain-counted, item-room, item-counted, items-counted, fields-counting, field-room, field-counted, fields-counted, object-next-fits, ask-object, ask-name, laid-name, ask-items, laid-array, laid-plain, LayingItems, laying-start, laying-child, laying-below, laying-on, laying-long, laying-fits, laying-position, laying-ends, LayingFields, ordering-start, ordering-long, ordering-place, ordering-key, ordering-next, ordering-position, ordering-value, ordering-child, ordering-below, ordering-on, ordering-ends, object-falls, items-fall, fields-fall, child-falls}
 use Rattle.planner.proofs.destructuring.Counting.{Counting, counting-start}
 use Rattle.planner.specs.code.Passes.{layOutItems, layOutOrdered}
 use lib.ListN.{length}
@@ -114,6 +114,12 @@ lay-fields-add-child-at t c = search (ordering-value, needs)
 lay-fields-child-at-requires-2 : (t : ℕ) → lay-fields-lts.Need-child-at-requires-2 (lay-fields-calls t) (lay-fields-at t) lay-fields.Post lay-fields-Inv-loop lay-fields-μ-loop
 lay-fields-child-at-requires-2 t c κs = search needs
 
+lay-fields-add-lay-out : (t : ℕ) → lay-fields-lts.Need-add-lay-out (lay-fields-calls t) (lay-fields-at t) lay-fields.Post lay-fields-Inv-loop lay-fields-μ-loop
+lay-fields-add-lay-out t c = search (ordering-next, needs)
+
+lay-fields-cast-lay-out : (t : ℕ) → lay-fields-lts.Need-cast-lay-out (lay-fields-calls t) (lay-fields-at t) lay-fields.Post lay-fields-Inv-loop lay-fields-μ-loop
+lay-fields-cast-lay-out t c = search (ordering-position, needs)
+
 lay-fields-lay-out-requires : (t : ℕ) → lay-fields-lts.Need-lay-out-requires (lay-fields-calls t) (lay-fields-at t) lay-fields.Post lay-fields-Inv-loop lay-fields-μ-loop
 lay-fields-lay-out-requires t c κs =
     let s = c .before .before .before .before .before .before in
@@ -148,12 +154,12 @@ lay-fields-returns : (t : ℕ) → lay-fields-lts.Need-returns (lay-fields-calls
 lay-fields-returns t c = (search (ordering-ends, needs), search (fields-counted, needs))
 
 abbrev lay-items-Inv-loop : lay-items-lts.InvT-loop
-lay-items-Inv-loop nodes children numbers names strings text states binders parent from left plan₀ at steps₀ place₀ more₀ here₀ plan steps place more here =
-    LayingItems (tables nodes children numbers names strings text) states binders parent from left plan₀ at place more plan here
-    × Counting steps₀ (length (layOutItems binders (tables nodes children numbers names strings text) from left)) steps (length (layOutItems binders (tables nodes children numbers names strings text) place more))
+lay-items-Inv-loop nodes children numbers names strings text states binders parent from left plan₀ at steps₀ place₀ more₀ position₀ here₀ plan steps place more position here =
+    LayingItems (tables nodes children numbers names strings text) states binders parent from left plan₀ at place more position plan here
+    × Counting steps₀ (length (layOutItems binders (tables nodes children numbers names strings text) from left 1)) steps (length (layOutItems binders (tables nodes children numbers names strings text) place more position))
 
 abbrev lay-items-μ-loop : lay-items-lts.MeasureT-loop
-lay-items-μ-loop nodes children numbers names strings text states binders parent from left plan₀ at steps₀ place₀ more₀ here₀ plan steps place more here = more
+lay-items-μ-loop nodes children numbers names strings text states binders parent from left plan₀ at steps₀ place₀ more₀ position₀ here₀ plan steps place more position here = more
 
 lay-items-loop-holds : (t : ℕ) → lay-items-lts.Need-loop-holds (lay-items-calls t) (lay-items-at t) lay-items.Post lay-items-Inv-loop lay-items-μ-loop
 lay-items-loop-holds t c = (search (laying-start, needs), search (counting-start, needs))
@@ -169,6 +175,9 @@ lay-items-add-place t c = search (laying-fits, needs)
 
 lay-items-sub-more : (t : ℕ) → lay-items-lts.Need-sub-more (lay-items-calls t) (lay-items-at t) lay-items.Post lay-items-Inv-loop lay-items-μ-loop
 lay-items-sub-more t c = search needs
+
+lay-items-add-position : (t : ℕ) → lay-items-lts.Need-add-position (lay-items-calls t) (lay-items-at t) lay-items.Post lay-items-Inv-loop lay-items-μ-loop
+lay-items-add-position t c = search (laying-position, needs)
 
 lay-items-loop-less : (t : ℕ) → lay-items-lts.Need-loop-less (lay-items-calls t) (lay-items-at t) lay-items.Post lay-items-Inv-loop lay-items-μ-loop
 lay-items-loop-less t c = search needs
@@ -262,7 +271,9 @@ lay-out-add-lay-items : (t : ℕ) → lay-out-lts.Need-add-lay-items (lay-out-ca
 lay-out-add-lay-items t c = search (next-fits, needs)
 
 lay-out-lay-items-requires : (t : ℕ) → lay-out-lts.Need-lay-items-requires (lay-out-calls t) (lay-out-at t) lay-out.Post
-lay-out-lay-items-requires t c κs = (search (items-fall, needs), (search (ask-items, needs), search (items-room, needs)))
+lay-out-lay-items-requires t c κs =
+    let asked = c .before .before .before .before .before .before .before .before .before .before .before .before .before .before .before .before .before .before .before .pre in
+    (items-fall (asked .1 .0 .walks .node .low) (asked .0), (search (ask-items, needs), search (items-room, needs)))
 
 lay-out-same-length-2 : (t : ℕ) → lay-out-lts.Need-same-length-2 (lay-out-calls t) (lay-out-at t) lay-out.Post
 lay-out-same-length-2 t c = search needs
@@ -318,6 +329,8 @@ pub +lay-fields+lay-items+lay-object+lay-out-spec : {M : Type 1} → statement M
     (lay-fields-child-at-requires t)
     (lay-fields-add-child-at t)
     (lay-fields-child-at-requires-2 t)
+    (lay-fields-add-lay-out t)
+    (lay-fields-cast-lay-out t)
     (lay-fields-lay-out-requires t)
     (lay-fields-add-q t)
     (lay-fields-loop-less t)
@@ -339,6 +352,7 @@ pub +lay-fields+lay-items+lay-object+lay-out-spec : {M : Type 1} → statement M
     (lay-items-lay-out-requires t)
     (lay-items-add-place t)
     (lay-items-sub-more t)
+    (lay-items-add-position t)
     (lay-items-loop-less t)
     (lay-items-loop-again t)
     (lay-items-same-length t)
