@@ -12,7 +12,7 @@ const SAMPLES: usize = 11;
 /// A sheet that comes near the Rust's time is measured anew, with more samples.
 const NEAR: f64 = 1.1;
 const MORE_SAMPLES: usize = 301;
-/// How many of the lowest ratios are listed.
+/// What is below its bar is listed, and at least so many of the lowest ratios.
 const LISTED: usize = 5;
 
 /// The bars of docs/PERFORMANCE.md.
@@ -72,7 +72,7 @@ fn list(title: &str, bar: f64, measured: Vec<Measured>) {
         at(0.01),
         at(0.5)
     );
-    for one in measured.iter().take(LISTED) {
+    for one in measured.iter().take(below.max(LISTED)) {
         println!("    {:.3} {}", one.ratio, one.name);
     }
 }

@@ -1,7 +1,7 @@
 //! Sheets at the sizes at which our arrays change, refused as early and as late as can be, and
 //! sheets whose names, keys or pairs are slow to tell apart.
 
-use super::shapes::{array, assigned, equals};
+use super::shapes::{array, assigned, equals, repeated_object};
 use super::Input;
 use oracle::sheets::{limits, Draft, Tree};
 
@@ -134,9 +134,14 @@ fn slow() -> Vec<Input> {
         let named = Draft { names: beginnings, text: vec![b'a'; 255], ..draft(1, 0, 0, 0) };
         inputs.push(input(&format!("{size} names that begin one another"), named.bytes()));
     }
-    for (wildcards, times) in [(4, 2), (12, 5), (24, 8), (31, 19), (49, 15), (60, 11), (84, 8)] {
+    let pairs = [(4, 2), (12, 5), (21, 6), (24, 8), (30, 7), (31, 19), (49, 15), (60, 11), (84, 8)];
+    for (wildcards, times) in pairs {
         let name = format!("an array of {wildcards} paired {times} times");
         inputs.push(input(&name, limits::pairs(times, wildcards).bytes()));
+    }
+    for (fields, times) in [(9, 4), (15, 7), (17, 8)] {
+        let name = format!("an object of {fields} paired {times} times");
+        inputs.push(input(&name, repeated_object(times, fields).bytes()));
     }
     inputs
 }

@@ -183,7 +183,7 @@ fn pairs_of_levels(depth: usize) -> Draft {
 }
 
 /// `{"a": {..}, "b": 1, ..} = {"a": true, .., "b": y}`: the inner object is planned anew each time.
-fn repeated_object(times: usize, fields: usize) -> Draft {
+pub fn repeated_object(times: usize, fields: usize) -> Draft {
     let inner = (0..fields).map(|field| (short(reversed(field, fields)), Tree::name("_")));
     let mut left = vec![(Tree::string("a"), Tree::Object(inner.collect()))];
     left.push((Tree::string("b"), Tree::Number(1)));

@@ -1,14 +1,13 @@
-// Space for a sheet's tables and its plan, of two sizes, as arrays have to be cleared, which for a small sheet would take longer than all else. The sheet is read, then planned, then listed.
+// Space for a sheet's tables and its plan. Nodes and plan have two sizes, as arrays have to be cleared, which for a small sheet would take longer than all else. The sheet is read, then planned, then listed.
 ghost use mathlib.Core.Path.{_≡_};
-ghost use mathlib.Core.Bool.{true, _&&_};
-ghost use Prim.Native.Nat.{_≤_};
+ghost use mathlib.Core.Bool.{_&&_};
+ghost use Prim.Native.Nat.{_*_, _≤_};
 ghost use lib.Dec.{eqb, ltb};
 ghost use lib.ListN.{length};
 ghost use Rattle.base.specs.Lent.{old};
 ghost use Rattle.sheet.specs.Listing.{listingOf};
 ghost use Rattle.sheet.specs.code.Header.{Headed};
-ghost use Rattle.sheet.specs.code.Post.{planWords, smallWords, isSmall, PrintedIn, TriedIn, SheetHeld};
-use crate::header::Counts;
+ghost use Rattle.sheet.specs.code.Post.{planWords, smallWords, PrintedIn, TriedIn, SheetHeld};
 use crate::header::Header;
 use crate::header::MOST_CHILDREN;
 use crate::header::MOST_NAMES;
@@ -25,16 +24,10 @@ use scope::Scope;
 
 const PLAN_WORDS: usize = ENTRY_WORDS * 1536;
 
-// The small space. The longest plan found for 64 nodes is an `=` of 226 entries; what needs more is planned again.
-const SMALL_PLAN_WORDS: usize = ENTRY_WORDS * 240;
+// The small space. What needs more entries is planned again: the longest plan found for 64 nodes is an `=` of 226.
+const SMALL_PLAN_WORDS: usize = ENTRY_WORDS * 128;
 
 const SMALL_NODES: usize = 64;
-
-const SMALL_CHILDREN: usize = 64;
-
-const SMALL_NUMBERS: usize = 32;
-
-const SMALL_NAMES: usize = 16;
 
 // What became of a sheet in some space: the bytes of its listing, or its plan needs more.
 enum Tried {
@@ -50,22 +43,6 @@ fn needs_more(first: Row, words: usize) -> bool
         return words < PLAN_WORDS;
     }
     false
-}
-
-// Is the small space enough for the tables?
-fn is_small(counts: Counts) -> bool
-    ensures { λ r. ⌜ r ≡ isSmall counts ⌝ }
-{
-    if SMALL_NODES < counts.nodes {
-        return false;
-    }
-    if SMALL_CHILDREN < counts.children {
-        return false;
-    }
-    if SMALL_NUMBERS < counts.numbers {
-        return false;
-    }
-    counts.names <= SMALL_NAMES
 }
 
 // A sheet whose tables stand in arrays, perhaps longer than they are, planned and listed.
@@ -116,69 +93,55 @@ fn plan_tables(
     Tried::Listed(write_lines(out, first, plan))
 }
 
-fn plan_small(sheet: &[u8], header: Header, out: &mut [u8]) -> Tried
-    requires { ⌜ Headed (now sheet) header × (isSmall (header .counts) ≡ true) ⌝ }
+fn plan_small(
+    sheet: &[u8],
+    header: Header,
+    nodes: &[u32],
+    children: &[u32],
+    numbers: &[u64],
+    names: &[u32],
+    marks: &[u8; 128],
+    out: &mut [u8],
+) -> Tried
+    requires { ⌜ SheetHeld (now sheet) header (now nodes) (now children) (now numbers) (now names) (now marks) ⌝ }
     ensures { λ r. ⌜ TriedIn out (listingOf (old sheet)) smallWords r ⌝ }
 {
-    let mut nodes = [0u32; SMALL_NODES * 5];
-    let mut children = [0u32; SMALL_CHILDREN];
-    let mut numbers = [0u64; SMALL_NUMBERS * 2];
-    let mut names = [0u32; SMALL_NAMES * 3];
-    let mut marks = [0u8; 128];
-    if !read_tables(
-        sheet,
-        header,
-        &mut nodes,
-        &mut children,
-        &mut numbers,
-        &mut names,
-        &mut marks,
-    ) {
-        return Tried::Listed(refuse(7, out));
-    }
     let mut plan = [0u32; SMALL_PLAN_WORDS];
     plan_tables(
         sheet,
         header,
-        &nodes,
-        &children,
-        &numbers,
-        &names,
-        &marks,
+        nodes,
+        children,
+        numbers,
+        names,
+        marks,
         &mut plan,
         out,
     )
 }
 
-fn plan_full(sheet: &[u8], header: Header, out: &mut [u8]) -> usize
-    requires { ⌜ Headed (now sheet) header ⌝ }
+fn plan_full(
+    sheet: &[u8],
+    header: Header,
+    nodes: &[u32],
+    children: &[u32],
+    numbers: &[u64],
+    names: &[u32],
+    marks: &[u8; 128],
+    out: &mut [u8],
+) -> usize
+    requires { ⌜ SheetHeld (now sheet) header (now nodes) (now children) (now numbers) (now names) (now marks) ⌝ }
     ensures { λ r. ⌜ PrintedIn out (listingOf (old sheet)) r ⌝ }
 {
-    let mut nodes = [0u32; MOST_NODES * 5];
-    let mut children = [0u32; MOST_CHILDREN];
-    let mut numbers = [0u64; MOST_NUMBERS * 2];
-    let mut names = [0u32; MOST_NAMES * 3];
-    let mut marks = [0u8; 128];
-    if !read_tables(
-        sheet,
-        header,
-        &mut nodes,
-        &mut children,
-        &mut numbers,
-        &mut names,
-        &mut marks,
-    ) {
-        return refuse(7, out);
-    }
     let mut plan = [0u32; PLAN_WORDS];
     match plan_tables(
         sheet,
         header,
-        &nodes,
-        &children,
-        &numbers,
-        &names,
-        &marks,
+        nodes,
+        children,
+        numbers,
+        names,
+        marks,
         &mut plan,
         out,
     ) {
@@ -189,15 +152,68 @@ fn plan_full(sheet: &[u8], header: Header, out: &mut [u8]) -> usize
 }
 
 // Few nodes are planned in the small space first: an `=` may need more entries than there are nodes.
+fn plan_held(
+    sheet: &[u8],
+    header: Header,
+    nodes: &[u32],
+    children: &[u32],
+    numbers: &[u64],
+    names: &[u32],
+    marks: &[u8; 128],
+    out: &mut [u8],
+) -> usize
+    requires { ⌜ SheetHeld (now sheet) header (now nodes) (now children) (now numbers) (now names) (now marks) ⌝ }
+    ensures { λ r. ⌜ PrintedIn out (listingOf (old sheet)) r ⌝ }
+{
+    if SMALL_NODES < header.counts.nodes {
+        return plan_full(sheet, header, nodes, children, numbers, names, marks, out);
+    }
+    match plan_small(sheet, header, nodes, children, numbers, names, marks, out) {
+        Tried::Listed(bytes) => bytes,
+        Tried::TooLarge => plan_full(sheet, header, nodes, children, numbers, names, marks, out),
+    }
+}
+
+// The tables are read, the nodes into the space that is lent.
+fn plan_in(sheet: &[u8], header: Header, nodes: &mut [u32], out: &mut [u8]) -> usize
+    requires { ⌜ Headed (now sheet) header × (header .counts .nodes * 5 ≤ length (now nodes)) ⌝ }
+    ensures { λ r. ⌜ PrintedIn out (listingOf (old sheet)) r ⌝ }
+{
+    let mut children = [0u32; MOST_CHILDREN];
+    let mut numbers = [0u64; MOST_NUMBERS * 2];
+    let mut names = [0u32; MOST_NAMES * 3];
+    let mut marks = [0u8; 128];
+    if !read_tables(
+        sheet,
+        header,
+        nodes,
+        &mut children,
+        &mut numbers,
+        &mut names,
+        &mut marks,
+    ) {
+        return refuse(7, out);
+    }
+    plan_held(
+        sheet,
+        header,
+        nodes,
+        &children,
+        &numbers,
+        &names,
+        &marks,
+        out,
+    )
+}
+
 pub(crate) fn plan_headed(sheet: &[u8], header: Header, out: &mut [u8]) -> usize
     requires { ⌜ Headed (now sheet) header ⌝ }
     ensures { λ r. ⌜ PrintedIn out (listingOf (old sheet)) r ⌝ }
 {
-    if !is_small(header.counts) {
-        return plan_full(sheet, header, out);
+    if SMALL_NODES < header.counts.nodes {
+        let mut nodes = [0u32; MOST_NODES * 5];
+        return plan_in(sheet, header, &mut nodes, out);
     }
-    match plan_small(sheet, header, out) {
-        Tried::Listed(bytes) => bytes,
-        Tried::TooLarge => plan_full(sheet, header, out),
-    }
+    let mut nodes = [0u32; SMALL_NODES * 5];
+    plan_in(sheet, header, &mut nodes, out)
 }

@@ -1,64 +1,40 @@
 -- Tables in arrays, cut to their size, and the listing of their sheet.
 use Prim.Native.Nat.{ℕ, _+_, _-_, _*_, _<_, _≤_}
-use mathlib.Core.Bool.{Bool, true, false, not, _&&_, and-false}
+use mathlib.Core.Bool.{Bool, true, false, not}
 use mathlib.Core.List.{List, _++_}
 use mathlib.Core.Path.{_≡_, refl, sym, ap, _∙_}
 use native.Mathlib.Omega.{arith}
-use borrow.Author.Tests.{ltb-true, ltb-false, not-false, le-leb, lt-leb, leb-true}
-use lib.Dec.{leb, ltb}
+use borrow.Author.Tests.{ltb-true, ltb-false, not-false}
+use lib.Dec.{ltb}
 use lib.ListN.{length, getD, take, drop, replicate, length-append, length-replicate, getD-replicate, List·getD-append}
 use lib.Seq.{ext-getD, length-take-le, getD-append-add}
 use Rattle.table.specs.Tables.{tables}
-use Rattle.table.proofs.tests.Bools.{and-true, told-no, told-yes, never}
+use Rattle.table.proofs.tests.Bools.{told-no, told-yes}
 use Rattle.base.specs.Lists.{tabulate}
 use Rattle.planner.proofs.buffer.Filling.{length-tabulate, getD-tabulate}
 use Rattle.sheet.specs.declared.header.Counts.{Counts}
 use Rattle.sheet.specs.declared.header.Header.{Header}
 use Rattle.sheet.specs.declared.space.Tried.{Tried}
-use Rattle.sheet.specs.declared.space.Tried.the-variants as Tried
 use Rattle.sheet.specs.Sheet.{markWord, namesPlace, stringsPlace, textPlace, endPlace, marksOf}
 use Rattle.sheet.specs.Listing.{listingOf, Printed}
-use Rattle.sheet.specs.code.Header.{Headed}
-use Rattle.sheet.specs.code.Post.{isSmall, Overlaid, refusalBytes, plannedBytes, TriedBy, Space, Roomy, TablesAsks, TablesRead, SheetHeld}
+use Rattle.sheet.specs.code.Header.{Limited, Headed}
+use Rattle.sheet.specs.code.Post.{Overlaid, refusalBytes, plannedBytes, TriedBy, Roomy, TablesAsks, TablesRead, SheetHeld}
 use Rattle.sheet.proofs.lines.LineTests.{filled-first}
 
 -- space for the tables
-pub all-space : {sheet : List ℕ} {h : Header} → Headed sheet h → Space (h .counts) 512 512 256 128
-all-space headed = let l = headed .limited in record { nodes-fit = l .nodes-few; children-fit = l .children-few; numbers-fit = l .numbers-few; names-fit = l .names-few }
+pub most-nodes : (c : Counts) (nodes : List ℕ) → Limited c → length nodes ≡ 512 * 5 → c .nodes * 5 ≤ length nodes
+most-nodes c nodes l long = omega (arith, l .nodes-few)
 
-module _ (c : Counts) where
-  pub many-nodes : 64 < c .nodes → false ≡ isSmall c
-  unfolding isSmall
-  many-nodes h = simp (lt-leb (c .nodes) 64 h)
+pub few-nodes : (c : Counts) (nodes : List ℕ) → c .nodes ≤ 64 → length nodes ≡ 64 * 5 → c .nodes * 5 ≤ length nodes
+few-nodes c nodes few long = omega arith
 
-  pub many-children : 64 < c .children → false ≡ isSmall c
-  unfolding isSmall
-  many-children h = simp (lt-leb (c .children) 64 h, and-false)
+roomy : {c : Counts} → Limited c → (nodes children numbers names : List ℕ) → c .nodes * 5 ≤ length nodes → length children ≡ 512 → length numbers ≡ 256 * 2 → length names ≡ 128 * 3 → Roomy c nodes children numbers names
+roomy l nodes children numbers names a b d e =
+    record { nodes-room = a; children-room = omega (arith, l .children-few); numbers-room = omega (arith, l .numbers-few); names-room = omega (arith, l .names-few) }
 
-  pub many-numbers : 32 < c .numbers → false ≡ isSmall c
-  unfolding isSmall
-  many-numbers h = simp (lt-leb (c .numbers) 32 h, and-false)
-
-  pub few-names : c .nodes ≤ 64 → c .children ≤ 64 → c .numbers ≤ 32 → leb (c .names) 16 ≡ isSmall c
-  unfolding isSmall
-  few-names n k m = simp (le-leb (c .nodes) 64 n, le-leb (c .children) 64 k, le-leb (c .numbers) 32 m)
-
-pub small-space : {c : Counts} → isSmall c ≡ true → Space c 64 64 32 16
-unfolding isSmall
-small-space {c} all =
-    let a = and-true (leb (c .nodes) 64) (leb (c .children) 64 && (leb (c .numbers) 32 && leb (c .names) 16)) all in
-    let b = and-true (leb (c .children) 64) (leb (c .numbers) 32 && leb (c .names) 16) (a .1) in
-    let d = and-true (leb (c .numbers) 32) (leb (c .names) 16) (b .1) in
-    record { nodes-fit = leb-true (c .nodes) 64 (a .0); children-fit = leb-true (c .children) 64 (b .0); numbers-fit = leb-true (c .numbers) 32 (d .0); names-fit = leb-true (c .names) 16 (d .1) }
-
-roomy : {c : Counts} {n k m x : ℕ} → Space c n k m x → (nodes children numbers names : List ℕ) → length nodes ≡ n * 5 → length children ≡ k → length numbers ≡ m * 2 → length names ≡ x * 3 → Roomy c nodes children numbers names
-roomy s nodes children numbers names a b d e =
-    record { nodes-room = omega (arith, s); children-room = omega (arith, s); numbers-room = omega (arith, s); names-room = omega (arith, s) }
-
-pub tables-asked : {sheet : List ℕ} {h : Header} → Headed sheet h → {n k m x : ℕ} → Space (h .counts) n k m x
-    → (nodes children numbers names : List ℕ) → length nodes ≡ n * 5 → length children ≡ k → length numbers ≡ m * 2 → length names ≡ x * 3 → TablesAsks h nodes children numbers names
-tables-asked headed s nodes children numbers names a b d e =
-    record { limited = headed .limited; places-are = headed .places-are; roomy = roomy s nodes children numbers names a b d e }
+pub tables-asked : {sheet : List ℕ} {h : Header} → Headed sheet h → (nodes children numbers names : List ℕ) → h .counts .nodes * 5 ≤ length nodes → length children ≡ 512 → length numbers ≡ 256 * 2 → length names ≡ 128 * 3 → TablesAsks h nodes children numbers names
+tables-asked headed nodes children numbers names a b d e =
+    record { limited = headed .limited; places-are = headed .places-are; roomy = roomy (headed .limited) nodes children numbers names a b d e }
 
 pub cut : (n : ℕ) (array : List ℕ) → n ≤ length array → n ≡ length (take n array)
 cut n array le = sym (length-take-le n array le)
@@ -70,11 +46,11 @@ module _ {sheet : List ℕ} {h : Header} (headed : Headed sheet h) {nodes childr
   unfolding listingOf
   tables-refused t p = rw (headed .parses, told-no (read .ok) t) p
 
-  pub sheet-held : not r ≡ false → {n k m x : ℕ} → Space (h .counts) n k m x → length nodes ≡ n * 5 → length children ≡ k → length numbers ≡ m * 2 → length names ≡ x * 3 → SheetHeld sheet h nodes children numbers names marks
-  sheet-held t s a b d e = record {
+  pub sheet-held : not r ≡ false → h .counts .nodes * 5 ≤ length nodes → length children ≡ 512 → length numbers ≡ 256 * 2 → length names ≡ 128 * 3 → SheetHeld sheet h nodes children numbers names marks
+  sheet-held t a b d e = record {
     headed = headed;
     good = told-yes (read .ok) t;
-    roomy = roomy s nodes children numbers names a b d e;
+    roomy = roomy (headed .limited) nodes children numbers names a b d e;
     held = read .held (not-false r t);
   }
 
@@ -149,13 +125,6 @@ module _ {sheet : List ℕ} {h : Header} {nodes children numbers names marks : L
       let all : marks ≡ marksOf sheet c ++ replicate (128 - c .names) 0 = marks-all (markWord sheet (namesPlace c)) (c .names) (t .headed .limited .names-few) (held .names-held .marked) in
       let scope-marks : marks ≡ marksOf sheet c ++ replicate (128 - length (marksOf sheet c)) 0 = rw (length-tabulate (markWord sheet (namesPlace c)) 0 (c .names)) all in
       rw (t .headed .parses, t .good, t .headed .places-are, t .headed .operation-is, strings, text, scope-marks, filled-first (held .nodes-filled) nodes-inside, filled-first (held .children-filled) children-inside, filled-first (held .numbers-filled) numbers-inside, filled-first (held .names-held .words) names-inside)
-
-pub is-listed : {listing before after : List ℕ} {bytes : ℕ} (space : ℕ) → Printed listing before after bytes → TriedBy listing space before after (Tried.Listed bytes)
-is-listed {bytes = bytes} space p = record {
-  listed = λ n e. let same : bytes ≡ n = cc in rw (← same) p;
-  more = λ e. let z : _≡_ {A = ℕ} 0 1 = cc in never z;
-  kept = λ e. let z : _≡_ {A = ℕ} 0 1 = cc in never z;
-}
 
 pub tried-as : {listing other : List ℕ} → listing ≡ other → {space : ℕ} {before after : List ℕ} {r : Tried} → TriedBy listing space before after r → TriedBy other space before after r
 tried-as e t = rw e at t

@@ -134,11 +134,7 @@ abbrev pub planWords : ℕ
 planWords = entryWords * 1536
 
 abbrev pub smallWords : ℕ
-smallWords = entryWords * 240
-
--- tables for which the small space is enough
-unfoldable pub isSmall : Counts → Bool
-isSmall c = leb (c .nodes) 64 && (leb (c .children) 64 && (leb (c .numbers) 32 && leb (c .names) 16))
+smallWords = entryWords * 128
 
 -- what became of an operation in space of so many words: it is listed, or it needs more and nothing was written
 pub record TriedBy (listing : List ℕ) (space : ℕ) (before after : List ℕ) (r : Tried) : Type 0 where
@@ -160,13 +156,6 @@ TriedIn out listing space r = TriedBy listing space (out .entry .now) (out .exit
 -- a refusal that has no place and no counts
 abbrev pub refusalBytes : ℕ → List ℕ
 refusalBytes number = linesBytes (alone (line number 0 0 0))
-
--- counts for which arrays of such sizes have space
-pub record Space (c : Counts) (nodes children numbers names : ℕ) : Type 0 where
-  pub nodes-fit : c .nodes ≤ nodes
-  pub children-fit : c .children ≤ children
-  pub numbers-fit : c .numbers ≤ numbers
-  pub names-fit : c .names ≤ names
 
 -- arrays that have space for the tables: a name's line has three words
 pub record Roomy (c : Counts) (nodes children numbers names : List ℕ) : Type 0 where
