@@ -165,10 +165,11 @@ enum teluddru_reported {
 
 /*
  * The calls over tables. Each is lent the six tables (nodes of five words; children; numbers of two
- * words, 1 for below zero or 0, then the size; names of two words, start and length in the text; the
- * string bytes; the rule text) and a byte of marks for each name: at most 128 are read, and a name past
- * them has none. A call with a mark above 31 among those read, or with an operation, scheduler or
- * scoping that isn't listed above, is refused with TELUDDRU_LAYOUT_BROKEN before all else.
+ * words, 1 for below zero or 0, then the size, from -9223372036854775808 to 18446744073709551615, where
+ * minus zero is none; names of two words, start and length in the text; the string bytes; the rule text)
+ * and a byte of marks for each name: at most 128 are read, and a name past them has none. A call with a
+ * mark above 31 among those read, or with an operation, scheduler or scoping that isn't listed above, is
+ * refused with TELUDDRU_LAYOUT_BROKEN before all else.
  *
  * The answer is four words, of which as many are written as there is space for; words past the fourth
  * stay as they were. Its first number is also the result, whether or not there is space for it.

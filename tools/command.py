@@ -43,8 +43,9 @@ rule text:
 expressions:
   name  _  12  -3  "text"  `raw text`  true  false  null  [a, b]  {a, b}  set()
   {"k": v}  {}
-  Numbers are whole, of 64 signed bits; strings have JSON's escapes; {} is the
-  empty object. All others are taken whole, as compared but never taken apart:
+  Numbers are whole, from -9223372036854775808 to 18446744073709551615; strings
+  have JSON's escapes; {} is the empty object.
+  All others are taken whole, as compared but never taken apart:
   calls f(x), references a.b[c], operators (+ - * / % & | == != < <= > >= in), a
   minus before other than a number, comprehensions, all in parentheses, (x) too.
   Inside the brackets of these, text need only be balanced, and names there are

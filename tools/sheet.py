@@ -13,6 +13,8 @@ ALLOW_SHADOWING = 2
 
 COLUMN = 6
 NUMBER_COLUMN = 20
+LOWEST = -(2**63)
+HIGHEST = 2**64 - 1
 LARGEST = 10**COLUMN - 1
 
 
@@ -153,7 +155,7 @@ class Writer:
 
 
 def number_value(text: bytes, start: int) -> int:
-    """A whole number of 64 signed bits, written as a sheet writes it."""
+    """A whole number from LOWEST to HIGHEST, written as a sheet writes it."""
     end = start + len(text)
     digits = text.removeprefix(b"-")
     if not digits.isdigit():
@@ -163,8 +165,11 @@ def number_value(text: bytes, start: int) -> int:
         raise RuleTextError("a number has no leading zeros", start, end)
     if text == b"-0":
         raise RuleTextError("there is no minus zero, write 0", start, end)
-    if len(digits) > NUMBER_COLUMN or not -(2**63) <= int(text) < 2**63:
-        raise RuleTextError("this number has more than 64 signed bits", start, end)
+    below_zero = text.startswith(b"-")
+    if below_zero and (len(digits) > NUMBER_COLUMN or int(text) < LOWEST):
+        raise RuleTextError(f"this number is below the lowest, {LOWEST}", start, end)
+    if len(digits) > NUMBER_COLUMN or int(text) > HIGHEST:
+        raise RuleTextError(f"this number is above the highest, {HIGHEST}", start, end)
     return int(text)
 
 

@@ -94,15 +94,16 @@ class Sheets(unittest.TestCase):
 
 class Numbers(unittest.TestCase):
     def test_range(self) -> None:
-        ends = sheet("[-9223372036854775808, 9223372036854775807, 0]")
-        self.assertEqual(ends.numbers, [-(2**63), 2**63 - 1, 0])
-        self.assertIn(b"\n-9223372036854775808\n 9223372036854775807\n", ends.to_bytes())
+        ends = sheet("[-9223372036854775808, 18446744073709551615, 9223372036854775808, 0]")
+        self.assertEqual(ends.numbers, [-(2**63), 2**64 - 1, 2**63, 0])
+        self.assertIn(b"\n-9223372036854775808\n18446744073709551615\n", ends.to_bytes())
 
     def test_others(self) -> None:
         messages = {
-            "9223372036854775808": "64 signed bits",
-            "-9223372036854775809": "64 signed bits",
-            "1" * 5000: "64 signed bits",
+            "18446744073709551616": "above the highest, 18446744073709551615",
+            "-9223372036854775809": "below the lowest, -9223372036854775808",
+            "1" * 5000: "above the highest",
+            "-" + "1" * 5000: "below the lowest",
             "1.5": "whole",
             "1e3": "whole",
             "007": "leading zeros",

@@ -40,7 +40,7 @@ pub fn shapes() -> Vec<Shape> {
     }
     shapes.extend([
         Shape::new("object of 250 number keys, shuffled", 250, |size| {
-            pattern(object(size, |field| Tree::Number(shuffled(field, size) as i64)))
+            pattern(object(size, |field| Tree::Number(shuffled(field, size) as i128)))
         }),
         Shape::new("object of 250 overlapping keys, shuffled", 250, overlapping),
         Shape::new("32 levels of arrays", 32, |depth| pattern(nested_arrays(depth))),
@@ -81,7 +81,7 @@ fn object(size: usize, key: impl Fn(usize) -> Tree) -> Tree {
 
 fn literal(place: usize) -> Tree {
     match place % 4 {
-        0 => Tree::Number(place as i64),
+        0 => Tree::Number(place as i128),
         1 => Tree::string(&format!("part {place}")),
         2 => Tree::Bool(place % 8 == 2),
         _ => Tree::Null,
@@ -153,7 +153,7 @@ fn nested_objects(depth: usize) -> Tree {
 
 /// `{"k0": [n0, 0], ..} = {"k0": [0, m0], ..}`, the right in another order.
 fn pairs_of_objects(size: usize) -> Draft {
-    let number = |field| Tree::Number(field as i64);
+    let number = |field| Tree::Number(field as i128);
     let left = |field| (short(field), Tree::Array(vec![name(field), number(field)]));
     let right = |field| {
         let field = shuffled(field, size);
@@ -187,7 +187,7 @@ pub fn repeated_object(times: usize, fields: usize) -> Draft {
     let inner = (0..fields).map(|field| (short(reversed(field, fields)), Tree::name("_")));
     let mut left = vec![(Tree::string("a"), Tree::Object(inner.collect()))];
     left.push((Tree::string("b"), Tree::Number(1)));
-    left.extend((1..times).map(|key| (Tree::Number(key as i64), Tree::Null)));
+    left.extend((1..times).map(|key| (Tree::Number(key as i128), Tree::Null)));
     let mut right = vec![(Tree::string("a"), Tree::Bool(true)); times];
     right.push((Tree::string("b"), Tree::name("y")));
     equals(Tree::Object(left), Tree::Object(right))
@@ -196,7 +196,7 @@ pub fn repeated_object(times: usize, fields: usize) -> Draft {
 /// The names of the left against the numbers of the right, keys shuffled on both sides.
 fn colon_equals(size: usize) -> Draft {
     let left = |field| (long(shuffled(field, size)), name(field));
-    let right = |field| (long(shuffled(field + 7, size)), Tree::Number(field as i64));
+    let right = |field| (long(shuffled(field + 7, size)), Tree::Number(field as i128));
     let sides = [(0..size).map(left).collect(), (0..size).map(right).collect()].map(Tree::Object);
     let [left, right] = sides;
     assigned(left, right)
@@ -213,7 +213,7 @@ fn some_in(items: usize) -> Draft {
                 .collect(),
         )
     };
-    let collection = array(items, |item| fields(&|place| Tree::Number((item * 3 + place) as i64)));
+    let collection = array(items, |item| fields(&|place| Tree::Number((item * 3 + place) as i128)));
     let mut rule = Rule::two_sided(Operation::SomeIn, fields(&name), collection);
     rule.key = Some(Tree::name("hinge"));
     encode(&rule)

@@ -17,7 +17,7 @@ use Rattle.columns.specs.declared.Column.the-variants as Column
 use Rattle.columns.specs.declared.SignedColumn.{SignedColumn}
 use Rattle.columns.specs.declared.SignedColumn.the-variants as SignedColumn
 use Rattle.columns.specs.Columns.{afterBlanks, isDigit, allDigits, isDecimal, decimalNumber, readColumn, signedNumber, readSigned, justified, writeColumn, writeSigned}
-use Rattle.columns.specs.Laws.{belowWord, ReadBack}
+use Rattle.columns.specs.Laws.{belowWord, twentyEnd, ReadBack}
 use Rattle.columns.proofs.write.Writing.{justified-long}
 
 -- blanks
@@ -96,33 +96,35 @@ module _ (n : ℕ) (small : n < 10 ^ 6) where
   column-back =
       ap decimalNumber column-digits ∙ rw (decimal-is n (omega arith), decimal-form n (omega arith) .read-back)
 
-module _ (size : ℕ) (few : size ≤ 2 ^ 63) where
-  digits-few : length (decimal size) ≤ 19
-  digits-few = decimal-long 18 size (omega arith)
-
-  size-back : (below : ℕ) → isNumber below size ≡ true → signedNumber below (decimal size) ≡ SignedColumn.Number below size
+module _ (size : ℕ) (few : size < 2 ^ 64) where
+  size-back : (below : ℕ) → signedNumber below (decimal size) ≡ SignedColumn.Number below size
   unfolding signedNumber
-  size-back below is = rw (decimal-is size (omega arith), decimal-form size (omega arith) .read-back, is)
+  size-back below = rw (decimal-is size (omega arith), decimal-form size (omega arith) .read-back, lt-ltb size (2 ^ 64) few)
 
-  above-back : isNumber 0 size ≡ true → readSigned (writeSigned false size) ≡ SignedColumn.Number 0 size
+  above-back : readSigned (writeSigned false size) ≡ SignedColumn.Number 0 size
   unfolding readSigned
-  above-back is =
+  above-back =
       let low = first-digit size in
       let e : afterBlanks (writeSigned false size) ≡ decimal size =
-      unjustified 20 (decimal size) (omega (arith, digits-few)) (omega arith) in
-      rw (e, ne-eqb (getD (decimal size) 0 0) 45 (λ f. omega arith)) (size-back 0 is)
+      unjustified 20 (decimal size) (decimal-long 19 size (omega arith)) (omega arith) in
+      rw (e, ne-eqb (getD (decimal size) 0 0) 45 (λ f. omega arith)) (size-back 0)
 
-  below-back : isNumber 1 size ≡ true → readSigned (writeSigned true size) ≡ SignedColumn.Number 1 size
+  below-back : size < 10 ^ 19 → readSigned (writeSigned true size) ≡ SignedColumn.Number 1 size
   unfolding readSigned
-  below-back is =
+  below-back short =
       let e : afterBlanks (writeSigned true size) ≡ 45 ∷ decimal size =
-      unjustified 20 (45 ∷ decimal size) (omega (arith, digits-few)) (omega arith) in
-      rw e (size-back 1 is)
+      unjustified 20 (45 ∷ decimal size) (omega (arith, decimal-long 18 size short)) (omega arith) in
+      rw e (size-back 1)
 
-signed-back : (below : Bool) (size : ℕ) → isNumber (belowWord below) size ≡ true
+signed-back : (below : Bool) (size : ℕ) → size < twentyEnd below → readSigned (writeSigned below size) ≡ SignedColumn.Number (belowWord below) size
+signed-back true size short = below-back size (omega arith) short
+signed-back false size short = above-back size short
+
+-- every allowed number is among them
+pub number-back : (below : Bool) (size : ℕ) → isNumber (belowWord below) size ≡ true
     → readSigned (writeSigned below size) ≡ SignedColumn.Number (belowWord below) size
-signed-back true size is = below-back size (number-bounds 1 size is .largest) is
-signed-back false size is = above-back size (number-bounds 0 size is .largest) is
+number-back true size is = let low = number-bounds 1 size is .lowest refl in signed-back true size (omega arith)
+number-back false size is = signed-back false size (number-bounds 0 size is .largest)
 
 pub read-back : ReadBack
 read-back = record {

@@ -1,10 +1,9 @@
 -- A decimal column: blanks, then the decimal form of a number without leading zeros, right-justified.
-use Prim.Native.Nat.{ℕ, _+_, _-_}
+use Prim.Native.Nat.{ℕ, _+_, _-_, _^_}
 use mathlib.Core.Bool.{Bool, true, cond, not, _&&_}
 use mathlib.Core.List.{List, [], _∷_, _++_}
 use lib.Dec.{eqb, leb, ltb}
 use lib.ListN.{length, getD, take, drop, replicate}
-use Rattle.literal.specs.Literal.{isNumber}
 use Rattle.base.specs.Lists.{part}
 use Rattle.literal.specs.Text.{decimal, value, signed}
 use Rattle.columns.specs.declared.Column.{Column}
@@ -47,9 +46,9 @@ columnBytes bytes at width = cond (leb (at + width) (length bytes)) (part bytes 
 abbrev pub columnAt : List ℕ → ℕ → Column
 columnAt bytes at = readColumn (columnBytes bytes at 6)
 
--- a number of 64 signed bits, 1 for below zero or 0; minus zero is none
+-- 1 for below zero or 0, and a size of 64 bits; whether the two say an allowed number is the table check's question
 unfoldable pub signedNumber : ℕ → List ℕ → SignedColumn
-signedNumber below ds = cond (isDecimal ds && isNumber below (value 0 ds)) (SignedColumn.Number below (value 0 ds)) SignedColumn.Unreadable
+signedNumber below ds = cond (isDecimal ds && ltb (value 0 ds) (2 ^ 64)) (SignedColumn.Number below (value 0 ds)) SignedColumn.Unreadable
 
 -- a minus sign stands directly before the digits
 abbrev pub afterSign : Bool → List ℕ → SignedColumn

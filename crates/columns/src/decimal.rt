@@ -4,7 +4,7 @@ ghost use mathlib.Core.Path.{_≡_};
 ghost use Rattle.columns.specs.Columns.{afterBlanks};
 ghost use Rattle.columns.specs.code.Decimals.{digitsNumber, readDecimal};
 
-// No number: not a decimal form without leading zeros, or one above 2^63.
+// No number: not a decimal form without leading zeros, or one above 2^64 - 1.
 pub(crate) enum Decimal {
     Number(u64),
     NoNumber,
@@ -23,7 +23,7 @@ pub(crate) fn after_blanks(bytes: &[u8]) -> &[u8]
     &bytes[i..]
 }
 
-// What digits say; 922337203685477580 is the last tenth of 2^63.
+// What digits say. 1844674407370955161 is the last number of which ten times are below 2^64.
 fn digits_number(bytes: &[u8]) -> Decimal
     ensures { λ r. ⌜ r ≡ digitsNumber 0 (old bytes) ⌝ }
 {
@@ -37,14 +37,15 @@ fn digits_number(bytes: &[u8]) -> Decimal
         if 57 < byte {
             return Decimal::NoNumber;
         }
-        if 922337203685477580 < n {
+        if 1844674407370955161 < n {
             return Decimal::NoNumber;
         }
-        n = n * 10 + (byte - 48) as u64;
+        let digit = (byte - 48) as u64;
+        if 18446744073709551615 - n * 10 < digit {
+            return Decimal::NoNumber;
+        }
+        n = n * 10 + digit;
         i += 1;
-    }
-    if 9223372036854775808 < n {
-        return Decimal::NoNumber;
     }
     Decimal::Number(n)
 }

@@ -4,7 +4,6 @@ use crate::SignedColumn;
 use crate::decimal::Decimal;
 use crate::decimal::after_blanks;
 use crate::decimal::read_decimal;
-use literal::is_number;
 ghost use Rattle.base.specs.Lent.{old};
 ghost use mathlib.Core.Path.{_≡_};
 ghost use mathlib.Core.List.{[], _∷_};
@@ -115,17 +114,12 @@ fn signed_number(below: u64, digits: &[u8]) -> SignedColumn
     ensures { λ r. ⌜ r ≡ signedNumber below (old digits) ⌝ }
 {
     match read_decimal(digits) {
-        Decimal::Number(size) => {
-            if is_number(below, size) {
-                return SignedColumn::Number { below, size };
-            }
-            SignedColumn::Unreadable
-        }
+        Decimal::Number(size) => SignedColumn::Number { below, size },
         Decimal::NoNumber => SignedColumn::Unreadable,
     }
 }
 
-// The column of twenty bytes at a place, of a number of 64 signed bits.
+// The column of twenty bytes at a place: a sign and a size of 64 bits, minus zero too.
 pub fn read_signed_column(bytes: &[u8], at: usize) -> SignedColumn
     ensures { λ r. ⌜ r ≡ signedColumnAt (old bytes) at ⌝ }
 {

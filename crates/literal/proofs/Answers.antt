@@ -1,11 +1,12 @@
 -- The text of a key, by what `key_of` read; and its comparison.
-use Prim.Native.Nat.{ℕ, _+_, _*_, _^_, _≤_}
+use Prim.Native.Nat.{ℕ, _+_, _*_, _^_, _<_, _≤_}
 use mathlib.Core.Bool.{Bool, true, false, cond, _&&_}
 use mathlib.Core.List.{List, [], _∷_, _++_}
 use mathlib.Core.Option.{Option, none, some}
 use mathlib.Core.Path.{_≡_, refl, sym, ap, _∙_}
 use native.Mathlib.Omega.{arith}
 use lib.Dec.{eqb, leb}
+use borrow.Author.Tests.{eqb-true}
 use lib.ListN.{length, getD, take, drop, length-append}
 use lib.Seq.{take-append-seam, length-take-le}
 use Rattle.literal.specs.Literal.{Literal, null, boolean, number, string, isNumber}
@@ -55,22 +56,27 @@ module _ (l : Option Literal) {x : SortKey} (before : List ℕ) (e : x ≡ keyOf
       let n : l ≡ none = shown-last l e (omega arith) in
       rw n (record { answer = refl; array = refl })
 
--- A number of the store is small, so its text has room.
+-- A number of the store is small, so its text has room: with a minus sign it has one digit less.
+pub record Small (below : Bool) (size : ℕ) : Type 0 where
+  pub largest : size < 2 ^ 64
+  pub lowest : below ≡ true → size ≤ 2 ^ 63
+
 no-number : {A : Type 0} (b : Bool) (bs : List ℕ) (s : Bool) (n : ℕ) → cond b (some (string bs)) none ≡ some (number s n) → A
 no-number true bs s n e = never (cc)
 no-number false bs s n e = never (cc)
 
-in-bounds : (below size : ℕ) (inside : Bool) (s : Bool) (n : ℕ) → cond (inside && isNumber below size) (some (number (eqb below 1) size)) none ≡ some (number s n) → n ≤ 2 ^ 63
+in-bounds : (below size : ℕ) (inside : Bool) (s : Bool) (n : ℕ) → cond (inside && isNumber below size) (some (number (eqb below 1) size)) none ≡ some (number s n) → Small s n
 in-bounds below size inside s n e = go (inside && isNumber below size) refl e
   where
-    go : (b : Bool) → (inside && isNumber below size) ≡ b → cond b (some (number (eqb below 1) size)) none ≡ some (number s n) → n ≤ 2 ^ 63
+    go : (b : Bool) → (inside && isNumber below size) ≡ b → cond b (some (number (eqb below 1) size)) none ≡ some (number s n) → Small s n
     go true h f =
         let bounds = number-bounds below size (and-true inside (isNumber below size) h .1) in
         let same : size ≡ n = cc in
-        omega arith
+        let sign : eqb below 1 ≡ s = cc in
+        record { largest = omega arith; lowest = λ minus. omega (arith, bounds .lowest (eqb-true below 1 (sign ∙ minus))) }
     go false h f = never (cc)
 
-pub small-number : (numbers strings text : List ℕ) (l : LiteralRef) (s : Bool) (n : ℕ) → literalOf numbers strings text l ≡ some (number s n) → n ≤ 2 ^ 63
+pub small-number : (numbers strings text : List ℕ) (l : LiteralRef) (s : Bool) (n : ℕ) → literalOf numbers strings text l ≡ some (number s n) → Small s n
 unfolding literalOf
 small-number numbers strings text Null s n e = never (cc)
 small-number numbers strings text False s n e = never (cc)
@@ -79,9 +85,9 @@ small-number numbers strings text (Number place) s n e = in-bounds (getD numbers
 small-number numbers strings text (String start count) s n e = no-number (leb (start + count) (length strings)) _ s n e
 small-number numbers strings text (RawString start count) s n e = no-number (leb (start + count) (length text)) _ s n e
 
-signed-room : (s : Bool) (n : ℕ) → n ≤ 2 ^ 63 → length (signed s (decimal n)) ≤ 20
-signed-room true n h = omega (arith, digits-length 20 18 n (omega arith))
-signed-room false n h = omega (arith, digits-length 20 18 n (omega arith))
+signed-room : (s : Bool) (n : ℕ) → Small s n → length (signed s (decimal n)) ≤ 20
+signed-room true n h = let low = h .lowest refl in omega (arith, digits-length 20 18 n (omega arith))
+signed-room false n h = let top = h .largest in omega (arith, digits-length 20 19 n (omega arith))
 
 pub number-room : (numbers strings text : List ℕ) (l : LiteralRef) (out : List ℕ) {x : SortKey} → x ≡ keyOf (literalOf numbers strings text l) → x .rank ≡ 3 → length out ≡ 20 → length (signed (x .below) (decimal (x .size))) ≤ length out
 number-room numbers strings text l out {x} e h long =

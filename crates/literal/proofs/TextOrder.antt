@@ -162,7 +162,7 @@ module _ (numbers strings text : List ℕ) (l m : LiteralRef) {x y : SortKey} (e
       let long = eqb-true (length (decimal (x .size))) (length (decimal (y .size))) (more .1) in
       let lx = shown-key (literalOf numbers strings text l) 3 ex h in
       let ly = shown-key (literalOf numbers strings text m) 3 ey k in
-      let sx = small-number numbers strings text l (x .below) (x .size) lx in
-      let sy = small-number numbers strings text m (y .below) (y .size) ly in
+      let sx = small-number numbers strings text l (x .below) (x .size) lx .largest in
+      let sy = small-number numbers strings text m (y .below) (y .size) ly .largest in
       let order = signed-order (y .below) (decimal (x .size)) (decimal (y .size)) ∙ digits-order 20 (x .size) (y .size) (omega arith) (omega arith) long in
       is ∙ rw (lx, ly, sign, order)

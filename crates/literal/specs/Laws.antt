@@ -17,9 +17,9 @@ pub record TotalOrder {A : Type 0} (order : A → A → Order) : Type 0 where
 -- what two words that say a number are
 pub record NumberBounds (below size : ℕ) : Type 0 where
   pub sign : below ≤ 1
-  pub above-zero : below ≡ 0 → size < 2 ^ 63
+  pub largest : size < 2 ^ 64
   pub below-zero : below ≡ 1 → 1 ≤ size
-  pub largest : size ≤ 2 ^ 63
+  pub lowest : below ≡ 1 → size ≤ 2 ^ 63
 
 -- Read back, the decimal form gives the number, and no zero stands in front.
 pub record DecimalForm (n : ℕ) : Type 0 where

@@ -11,6 +11,6 @@ pub data Literal : Type 0 where
   number : Bool → ℕ → Literal
   string : List ℕ → Literal
 
--- Do two words, 1 for below zero or 0, then the size, say a whole number of 64 signed bits? Minus zero is none.
+-- Do two words, 1 for below zero or 0, then the size, say a whole number from -2^63 to 2^64 - 1? Minus zero is none.
 unfoldable pub isNumber : ℕ → ℕ → Bool
-isNumber below size = (eqb below 0 && ltb size (2 ^ 63)) || (eqb below 1 && (leb 1 size && leb size (2 ^ 63)))
+isNumber below size = (eqb below 0 && ltb size (2 ^ 64)) || (eqb below 1 && (leb 1 size && leb size (2 ^ 63)))

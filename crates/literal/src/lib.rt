@@ -37,7 +37,7 @@ pub fn is_number(below: u64, size: u64) -> bool
     ensures { λ r. ⌜ r ≡ isNumber below size ⌝ }
 {
     if below == 0 {
-        return size < 9223372036854775808;
+        return true;
     }
     if below == 1 {
         if size == 0 {

@@ -81,7 +81,7 @@ fn write_word(out: &mut [u8], word: &[u8]) -> KeyText
     KeyText::Written { length: i }
 }
 
-// The longest is -9223372036854775808, of 20 bytes.
+// The longest have 20 bytes: -9223372036854775808, and sizes of 20 digits above zero.
 pub fn key_text(
     numbers: &[u64],
     strings: &[u8],

@@ -5,8 +5,9 @@ use literal::KeyText;
 use literal::LiteralRef;
 ghost use Prim.Native.Nat.{_≤_};
 
-// Two words a number: the least, -1, 0, 10, the greatest, and minus zero, which is none.
-const NUMBERS: [u64; 12] = [
+// Two words a number: the least, -1, 0, 10, 2^63, the greatest; then minus zero and one below the
+// least, which are none.
+const NUMBERS: [u64; 16] = [
     1,
     9223372036854775808,
     1,
@@ -16,9 +17,13 @@ const NUMBERS: [u64; 12] = [
     0,
     10,
     0,
-    9223372036854775807,
+    9223372036854775808,
+    0,
+    18446744073709551615,
     1,
     0,
+    1,
+    9223372036854775809,
 ];
 
 const STRINGS: [u8; 6] = *b"abcab\xff";
@@ -27,22 +32,24 @@ const TEXT: [u8; 9] = *b"[abc, 10]";
 
 // Five words a literal: its kind (0 null, 1 false, 2 true, 3 number, 4 string, 5 raw string), place or
 // start, count, and its places in the orders of keys and of key texts, 99 where there is no literal.
-const TABLE: [[usize; 5]; 19] = [
-    [0, 0, 0, 0, 9], // null
-    [1, 0, 0, 1, 8], // false
-    [2, 0, 0, 2, 10], // true
+const TABLE: [[usize; 5]; 21] = [
+    [0, 0, 0, 0, 10], // null
+    [1, 0, 0, 1, 9], // false
+    [2, 0, 0, 2, 11], // true
     [3, 0, 0, 3, 2], // -9223372036854775808
     [3, 1, 0, 4, 1], // -1
     [3, 2, 0, 5, 3], // 0
     [3, 3, 0, 6, 4], // 10
-    [3, 4, 0, 7, 5], // 9223372036854775807
-    [4, 6, 0, 8, 0], // an empty string at the very end
-    [5, 6, 2, 9, 4], // 10, raw
-    [4, 0, 2, 10, 6], // ab
-    [4, 3, 2, 10, 6], // ab, elsewhere
-    [5, 1, 2, 10, 6], // ab, raw
-    [4, 0, 3, 11, 7], // abc
-    [3, 5, 0, 99, 99], // minus zero
+    [3, 4, 0, 7, 6], // 9223372036854775808
+    [3, 5, 0, 8, 5], // 18446744073709551615
+    [4, 6, 0, 9, 0], // an empty string at the very end
+    [5, 6, 2, 10, 4], // 10, raw
+    [4, 0, 2, 11, 7], // ab
+    [4, 3, 2, 11, 7], // ab, elsewhere
+    [5, 1, 2, 11, 7], // ab, raw
+    [4, 0, 3, 12, 8], // abc
+    [3, 6, 0, 99, 99], // minus zero
+    [3, 7, 0, 99, 99], // one below the least
     [3, 9223372036854775808, 0, 99, 99], // a place far out
     [4, 5, 2, 99, 99], // one byte too long
     [4, 7, 0, 99, 99], // past the end
@@ -50,7 +57,7 @@ const TABLE: [[usize; 5]; 19] = [
 ];
 
 fn entry(i: usize, column: usize) -> usize {
-    if i < 19 {
+    if i < 21 {
         if column < 5 {
             return TABLE[i][column];
         }
@@ -106,7 +113,7 @@ fn texts_agree(a: usize, b: usize) -> u64
 
 fn print_counts(keys: u64, texts: u64) {
     io::print_decimal(STDOUT_FILENO, keys);
-    io::write_all(STDOUT_FILENO, b" of 361 compare as keys, ");
+    io::write_all(STDOUT_FILENO, b" of 441 compare as keys, ");
     io::print_decimal(STDOUT_FILENO, texts);
     io::write_all(STDOUT_FILENO, b" as texts\n");
 }
@@ -134,7 +141,7 @@ fn print_text(l: LiteralRef) {
 
 fn print_texts() {
     let mut i = 0;
-    while i < 19 {
+    while i < 21 {
         print_text(literal_at(i));
         i += 1;
     }
@@ -144,9 +151,9 @@ fn main() {
     let mut keys = 0;
     let mut texts = 0;
     let mut pair = 0;
-    while pair < 361 {
-        keys += keys_agree(pair / 19, pair % 19);
-        texts += texts_agree(pair / 19, pair % 19);
+    while pair < 441 {
+        keys += keys_agree(pair / 21, pair % 21);
+        texts += texts_agree(pair / 21, pair % 21);
         pair += 1;
     }
     print_counts(keys, texts);

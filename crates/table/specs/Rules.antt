@@ -81,7 +81,7 @@ unfoldable pub usedPlaces : List ℕ → ℕ → ℕ → List ℕ
 usedPlaces nodes n zero = []
 usedPlaces nodes n (suc k) = placesFrom (firstOf nodes n) (width nodes n) ++ usedPlaces nodes (n + 1) k
 
--- a number is one of 64 signed bits, and not minus zero
+-- a number is one from -2^63 to 2^64 - 1, and not minus zero
 abbrev pub numberOk : Tables → ℕ → Bool
 numberOk T place = isNumber (getD (T .numbers) (place * 2) 0) (getD (T .numbers) (place * 2 + 1) 0)
 

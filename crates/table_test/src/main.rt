@@ -91,7 +91,7 @@ const CASES: [u64; 63] = [
     2_001_990_0, // the least number
     2_001_992_2, // one below it
     2_003_991_0, // the greatest number
-    2_003_990_2, // one above it
+    2_003_990_0, // 2^63, above the signed range
     5_000_031_0, // a mark of 31
     5_000_032_2, // a mark of 32
     5_127_032_2, // a mark of 32 for no name
@@ -105,7 +105,7 @@ const CASES: [u64; 63] = [
 fn value_of(code: u64) -> u64 {
     match code {
         990 => 9223372036854775808,
-        991 => 9223372036854775807,
+        991 => 18446744073709551615,
         992 => 9223372036854775809,
         993 => 4294967295,
         _ => code,

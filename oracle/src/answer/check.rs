@@ -2,7 +2,7 @@
 //! Refusal 1 is given by line 1 of the sheet.
 
 use super::listing::Refusal;
-use super::tables::{kind, Name, Node, Tables};
+use super::tables::{kind, Name, Node, Number, Tables};
 use std::collections::BTreeSet;
 
 /// Of nodes, and of child entries.
@@ -24,6 +24,7 @@ pub fn check(tables: &Tables) -> Result<(), Refusal> {
 
 fn keeps_the_rules(tables: &Tables) -> bool {
     tables.names.iter().all(|name| name_holds(tables, name))
+        && tables.numbers.iter().all(number_holds)
         && tables.children.iter().all(|&child| is_node(tables, child))
         && all_differ(tables.children.iter().copied())
         && tables.nodes.iter().all(|node| words_hold(tables, node))
@@ -55,6 +56,11 @@ fn range_holds(first: u32, length: u32, whole: usize) -> bool {
 fn name_holds(tables: &Tables, name: &Name) -> bool {
     (1..=MAX_NAME_LENGTH).contains(&name.length)
         && range_holds(name.start, name.length, tables.text.len())
+}
+
+/// Document 02: a sign and a size of 64 bits, down to -2^63; there is no minus zero.
+fn number_holds(number: &Number) -> bool {
+    !number.below_zero || (1..=1 << 63).contains(&number.size)
 }
 
 /// The names are known to hold.

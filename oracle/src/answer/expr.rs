@@ -1,10 +1,10 @@
 //! The Rust's expressions, made from checked tables.
 
-use super::tables::{kind, Node, Tables};
+use super::tables::{self, kind, Node, Tables};
 use super::texts::Texts;
 use planner::ast::{ArithOp, AssignOp, BinOp, BoolOp, Expr, ExprRef, Query, Ref};
 use planner::lexer::Span;
-use planner::value::Value;
+use planner::value::{Number, Value};
 use std::collections::BTreeMap;
 
 /// Makes one of an operation's expressions. `eidx` and the span's `node` are a part's number.
@@ -48,8 +48,9 @@ impl Builder<'_> {
             kind::STRING => Expr::String { span, value: string(), eidx },
             kind::RAW_STRING => Expr::RawString { span, value: string(), eidx },
             kind::NUMBER => {
-                let value = Value::Number(self.tables.numbers[node.first as usize]);
-                Expr::Number { span, value, eidx }
+                let tables::Number { below_zero, size } = self.tables.numbers[node.first as usize];
+                let number = Number::new(below_zero, size).expect("a checked number");
+                Expr::Number { span, value: Value::Number(number), eidx }
             }
             kind::BOOL => Expr::Bool { span, value: Value::Bool(node.first == 1), eidx },
             kind::NULL => Expr::Null { span, value: Value::Null, eidx },

@@ -1,7 +1,7 @@
-//! Reads a sheet. Written from document 01, "Sheet", and not from the crates.
+//! Reads a sheet. Written from document 01, "Sheet", and document 02, and not from the crates.
 
 use super::listing::Refusal;
-use super::tables::{Name, Node, Tables};
+use super::tables::{Name, Node, Number, Tables};
 
 #[derive(Debug)]
 pub struct Sheet<'a> {
@@ -97,7 +97,7 @@ impl<'a> Reader<'a> {
         (marks <= 31).then_some(Name { start, length, marks })
     }
 
-    fn number(&mut self) -> Option<i128> {
+    fn number(&mut self) -> Option<Number> {
         let number = signed(justified(self.take(NUMBER_COLUMN)?))?;
         self.line_feed()?;
         Some(number)
@@ -124,18 +124,18 @@ fn decimal(bytes: &[u8]) -> Option<u32> {
     digits(bytes).map(|digits| digits.iter().fold(0, value))
 }
 
-fn wide_decimal(bytes: &[u8]) -> Option<i128> {
-    let value = |sum, digit: &u8| 10 * sum + i128::from(digit - b'0');
-    digits(bytes).map(|digits| digits.iter().fold(0, value))
+fn wide_decimal(bytes: &[u8]) -> Option<u64> {
+    let value = |sum: u128, digit: &u8| 10 * sum + u128::from(digit - b'0');
+    digits(bytes)?.iter().fold(0, value).try_into().ok()
 }
 
-/// A whole number of 64 signed bits; there is no -0.
-fn signed(bytes: &[u8]) -> Option<i128> {
-    let number = match bytes {
-        [b'-', size @ ..] => -wide_decimal(size).filter(|&size| size != 0)?,
-        _ => wide_decimal(bytes)?,
+/// A sign and a size of 64 bits; whether there is such a number is a question of the table rules.
+fn signed(bytes: &[u8]) -> Option<Number> {
+    let (below_zero, size) = match bytes {
+        [b'-', size @ ..] => (true, size),
+        _ => (false, bytes),
     };
-    i64::try_from(number).ok().map(i128::from)
+    Some(Number { below_zero, size: wide_decimal(size)? })
 }
 
 #[cfg(test)]
@@ -222,14 +222,17 @@ mod tests {
             let sheet = format!("{head}{column:>20}\n");
             read(sheet.as_bytes()).ok().map(|sheet| sheet.tables.numbers[0])
         };
-        assert_eq!(numbers("0"), Some(0));
-        assert_eq!(numbers("-1"), Some(-1));
-        assert_eq!(numbers("9223372036854775807"), Some(i128::from(i64::MAX)));
-        assert_eq!(numbers("-9223372036854775808"), Some(i128::from(i64::MIN)));
-        for broken in ["", "-", "-0", "-01", "00", "+1", "1 ", "- 1", "1.0"] {
+        let number = |below_zero, size| Some(Number { below_zero, size });
+        assert_eq!(numbers("0"), number(false, 0));
+        assert_eq!(numbers("-1"), number(true, 1));
+        assert_eq!(numbers("18446744073709551615"), number(false, u64::MAX));
+        assert_eq!(numbers("-9223372036854775808"), number(true, 1 << 63));
+        assert_eq!(numbers("-0"), number(true, 0));
+        assert_eq!(numbers("-9999999999999999999"), number(true, 9_999_999_999_999_999_999));
+        for broken in ["", "-", "-00", "-01", "00", "+1", "1 ", "- 1", "1.0", "--1"] {
             assert_eq!(numbers(broken), None, "{broken}");
         }
-        for outside in ["9223372036854775808", "-9223372036854775809", "18446744073709551615"] {
+        for outside in ["18446744073709551616", "99999999999999999999"] {
             assert_eq!(numbers(outside), None, "{outside}");
         }
     }

@@ -5,7 +5,7 @@ pub struct Tables<'a> {
     /// Node `n` stands at place `n - 1`.
     pub nodes: Vec<Node>,
     pub children: Vec<u32>,
-    pub numbers: Vec<i128>,
+    pub numbers: Vec<Number>,
     pub names: Vec<Name>,
     pub strings: &'a [u8],
     pub text: &'a [u8],
@@ -18,6 +18,13 @@ pub struct Node {
     pub end: u32,
     pub first: u32,
     pub count: u32,
+}
+
+/// As a column says it: minus zero, and numbers that the table rules don't allow, too.
+#[derive(Clone, Copy, Debug, PartialEq)]
+pub struct Number {
+    pub below_zero: bool,
+    pub size: u64,
 }
 
 #[derive(Debug)]

@@ -5,10 +5,11 @@ use crate::sheets::draft::{Draft, COUNT, END, FIRST, KIND, START};
 
 /// Breaks, mostly, one of the table rules.
 pub fn break_tables(random: &mut Random, draft: &mut Draft) {
-    match random.weighted(&[60, 25, 15]) {
+    match random.weighted(&[55, 25, 15, 5]) {
         0 => break_node(random, draft),
         1 => break_children(random, draft),
-        _ => break_names(random, draft),
+        2 => break_names(random, draft),
+        _ => break_numbers(random, draft),
     }
 }
 
@@ -73,6 +74,17 @@ fn break_names(random: &mut Random, draft: &mut Draft) {
     }
 }
 
+/// At the lower end, and below it as far as a column goes.
+fn break_numbers(random: &mut Random, draft: &mut Draft) {
+    let lowest = -(1 << 63);
+    let number = *random.pick(&[lowest, lowest - 1, lowest - 1, -9_999_999_999_999_999_999]);
+    if draft.numbers.is_empty() {
+        return draft.numbers.push(number);
+    }
+    let place = random.below(draft.numbers.len());
+    draft.numbers[place] = number;
+}
+
 /// Two names of equal bytes.
 pub fn repeat_name(random: &mut Random, draft: &mut Draft) {
     if draft.names.is_empty() {
@@ -88,8 +100,17 @@ pub fn move_root(random: &mut Random, draft: &mut Draft) {
     draft.roots[random.below(3)] = *random.pick(&outside);
 }
 
-const ODD_NUMBERS: [&str; 10] = [
+/// At both ends and past them, and what only nearly is a number.
+const ODD_NUMBERS: [&str; 18] = [
     "-0",
+    "18446744073709551615",
+    "18446744073709551616",
+    "18446744073709551620",
+    "99999999999999999999",
+    "-9999999999999999999",
+    "-9223372036854775807",
+    "0",
+    "1",
     "00",
     "-",
     "+1",
@@ -112,10 +133,12 @@ pub fn with_odd_words(random: &mut Random, mut draft: Draft) -> Vec<u8> {
             draft.names[place][2] = *random.pick(&[31, 32, 33, 64, 255]);
         }
         _ => {
-            draft.numbers.push(0);
-            let names = 19 * draft.names.len();
+            if draft.numbers.is_empty() {
+                draft.numbers.push(0);
+            }
+            let after = 21 * random.below(draft.numbers.len()) + 19 * draft.names.len();
             let mut sheet = draft.bytes();
-            let end = sheet.len() - draft.strings.len() - draft.text.len() - names - 1;
+            let end = sheet.len() - draft.strings.len() - draft.text.len() - after - 1;
             let column = format!("{:>20}", random.pick(&ODD_NUMBERS));
             sheet[end - 20..end].copy_from_slice(column.as_bytes());
             return sheet;

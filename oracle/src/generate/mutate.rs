@@ -88,7 +88,7 @@ fn respelled(key: &Tree) -> Tree {
         Tree::Bool(value) => Tree::String(value.to_string()),
         Tree::Null => Tree::string("null"),
         Tree::String(text) => {
-            let number = text.parse().ok().filter(|number: &i64| number.to_string() == *text);
+            let number = text.parse().ok().filter(|number: &i128| number.to_string() == *text);
             number.map_or_else(|| Tree::RawString(text.clone()), Tree::Number)
         }
         Tree::RawString(text) => Tree::String(text.clone()),

@@ -5,8 +5,22 @@ use crate::sheets::Tree;
 
 const NAMES: [&str; 12] =
     ["x", "y", "z", "w", "input", "data", "xs", "_x", "__", "é", "名前", "a_long_name_of_a_panel"];
-const TEXTS: [&str; 12] = ["a", "b", "c", "1", "-1", "true", "null", "", "ab", "é", "x", "Z"];
-const NUMBERS: [i64; 8] = [1, 2, 0, -1, 10, 9, i64::MAX, i64::MIN];
+const TEXTS: [&str; 13] =
+    ["a", "b", "c", "1", "-1", "true", "null", "", "ab", "é", "x", "Z", "18446744073709551615"];
+const NUMBERS: [i128; 12] = [
+    1,
+    2,
+    0,
+    -1,
+    10,
+    9,
+    (1 << 63) - 1,
+    1 << 63,
+    (1 << 64) - 1,
+    (1 << 64) - 2,
+    -(1 << 63),
+    1 - (1 << 63),
+];
 const KNOWN_MARKS: [u32; 5] = [1, 3, 16, 17, 19];
 const UNBOUND_MARKS: [u32; 6] = [0, 0, 0, 2, 4, 5];
 
@@ -43,10 +57,11 @@ impl Palette {
 
     /// A literal key from the few that often meet.
     pub fn literal_key(random: &mut Random) -> Tree {
-        match random.weighted(&[60, 10, 15, 15]) {
+        match random.weighted(&[55, 10, 15, 5, 15]) {
             0 => Tree::String(text(random, &TEXTS[..4])),
             1 => Tree::RawString(text(random, &TEXTS[..4])),
             2 => Tree::Number(*random.pick(&NUMBERS[..3])),
+            3 => Tree::Number(*random.pick(&NUMBERS[6..])),
             _ => Self::literal(random),
         }
     }

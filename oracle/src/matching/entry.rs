@@ -32,7 +32,7 @@ mod linked {
     #[rustfmt::skip]
     pub fn call(case: &Case, values: &mut [u32], plan: &mut [u32], answer: &mut [u32]) -> u32 {
         let draft = &case.draft;
-        let sign_and_size = |&number: &i64| [u64::from(number < 0), number.unsigned_abs()];
+        let sign_and_size = |&number: &i128| [u64::from(number < 0), number.unsigned_abs() as u64];
         let start_and_length = |&[start, length, _]: &[u32; 3]| [start, length];
         let nodes = draft.nodes.concat();
         let numbers: Vec<u64> = draft.numbers.iter().flat_map(sign_and_size).collect();

@@ -110,15 +110,15 @@ fn advance(choice: &mut [usize], base: usize) -> bool {
 mod tests {
     use super::*;
 
-    fn number(number: i64) -> Rc<Value> {
+    fn number(number: i128) -> Rc<Value> {
         Rc::new(Value::Literal(Literal::Number(number)))
     }
 
-    fn array(items: &[i64]) -> Rc<Value> {
+    fn array(items: &[i128]) -> Rc<Value> {
         Rc::new(Value::Array(items.iter().map(|&item| number(item)).collect()))
     }
 
-    fn found(pattern: &[Expr], known: &[(u32, i64)], value: &[i64]) -> Vec<Filling> {
+    fn found(pattern: &[Expr], known: &[(u32, i128)], value: &[i128]) -> Vec<Filling> {
         let pattern = Expr::Array(pattern.to_vec());
         let known = known.iter().map(|&(name, value)| (name, number(value))).collect();
         Blanks::new(&pattern, known).fillings(&array(value))

@@ -7,7 +7,7 @@ use std::rc::Rc;
 pub enum Literal {
     Null,
     Bool(bool),
-    Number(i64),
+    Number(i128),
     String(Vec<u8>),
 }
 
@@ -63,12 +63,12 @@ pub fn parts(value: &Rc<Value>) -> Vec<Rc<Value>> {
 mod tests {
     use super::*;
 
-    fn number(number: i64) -> Rc<Value> {
+    fn number(number: i128) -> Rc<Value> {
         Rc::new(Value::Literal(Literal::Number(number)))
     }
 
-    fn object(fields: &[(&str, i64)]) -> Value {
-        let field = |(key, value): &(&str, i64)| (Literal::String((*key).into()), number(*value));
+    fn object(fields: &[(&str, i128)]) -> Value {
+        let field = |(key, value): &(&str, i128)| (Literal::String((*key).into()), number(*value));
         Value::Object(fields.iter().map(field).collect())
     }
 
@@ -81,7 +81,7 @@ mod tests {
 
     #[test]
     fn arrays_by_length_and_items_in_order() {
-        let array = |numbers: &[i64]| Value::Array(numbers.iter().map(|&n| number(n)).collect());
+        let array = |numbers: &[i128]| Value::Array(numbers.iter().map(|&n| number(n)).collect());
         assert!(equal(&array(&[1, 2]), &array(&[1, 2])));
         assert!(!equal(&array(&[1, 2]), &array(&[2, 1])));
         assert!(!equal(&array(&[1, 2]), &array(&[1])) && !equal(&array(&[]), &array(&[1])));

@@ -12,7 +12,7 @@ pub struct Draft {
     /// Kind, start, end, first, count.
     pub nodes: Vec<[u32; 5]>,
     pub children: Vec<u32>,
-    pub numbers: Vec<i64>,
+    pub numbers: Vec<i128>,
     /// Start, length, marks.
     pub names: Vec<[u32; 3]>,
     pub strings: Vec<u8>,

@@ -20,7 +20,7 @@ pub fn children(count: usize) -> Draft {
 }
 
 pub fn numbers(count: usize) -> Draft {
-    pattern(Tree::Array((0..count as i64).map(Tree::Number).collect()))
+    pattern(Tree::Array((0..count as i128).map(Tree::Number).collect()))
 }
 
 pub fn names(count: usize) -> Draft {
@@ -55,7 +55,7 @@ pub fn pairs(times: usize, wildcards: usize) -> Draft {
     let field = |key: &str, value| (Tree::string(key), value);
     let mut left = vec![field("a", Tree::Array(vec![Tree::name("_"); wildcards]))];
     left.push(field("b", Tree::Number(1)));
-    left.extend((1..times).map(|key| (Tree::Number(key as i64), Tree::Null)));
+    left.extend((1..times).map(|key| (Tree::Number(key as i128), Tree::Null)));
     let mut right = vec![field("a", Tree::Bool(true)); times];
     right.push(field("b", Tree::name("y")));
     encode(&Rule::two_sided(Operation::Equals, Tree::Object(left), Tree::Object(right)))

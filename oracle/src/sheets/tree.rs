@@ -4,7 +4,7 @@
 pub enum Tree {
     String(String),
     RawString(String),
-    Number(i64),
+    Number(i128),
     Bool(bool),
     Null,
     Name(String),

@@ -17,6 +17,7 @@ const SHEET: &str = concat!(
 );
 const PLAN: &str = "0 0 0 3, 5 3 2 0 0, 1 1 0 0 1, 3 2 0 0 2";
 const OVER: &str = "1 0 0 0";
+const NO_NUMBER: &str = "2 0 0 0";
 const BROKEN: &str = "7 0 0 0";
 
 /// Name, a part of the sheet, what stands there, the answer.
@@ -47,14 +48,17 @@ const EDITS: &[Edit] = &[
     ("marks 31", "     1     1     0\n", "     1     1    31\n", PLAN),
     ("marks 32", "     1     1     0\n", "     1     1    32\n", BROKEN),
     ("roots that index does not use", "     3     0     0\n", "     3999999999999\n", PLAN),
-    ("-0", "                  10\n", "                  -0\n", BROKEN),
+    ("-0", "                  10\n", "                  -0\n", NO_NUMBER),
     ("-1", "                  10\n", "                  -1\n", PLAN),
     ("-01", "                  10\n", "                 -01\n", BROKEN),
     ("- alone", "                  10\n", "                   -\n", BROKEN),
-    ("the highest number", "                  10\n", " 9223372036854775807\n", PLAN),
-    ("one above", "                  10\n", " 9223372036854775808\n", BROKEN),
+    ("above the signed range", "                  10\n", " 9223372036854775808\n", PLAN),
+    ("the highest number", "                  10\n", "18446744073709551615\n", PLAN),
+    ("one above", "                  10\n", "18446744073709551616\n", BROKEN),
+    ("the highest of twenty digits", "                  10\n", "99999999999999999999\n", BROKEN),
     ("the lowest number", "                  10\n", "-9223372036854775808\n", PLAN),
-    ("one below", "                  10\n", "-9223372036854775809\n", BROKEN),
+    ("one below", "                  10\n", "-9223372036854775809\n", NO_NUMBER),
+    ("the lowest of the column", "                  10\n", "-9999999999999999999\n", NO_NUMBER),
     ("513 nodes told", "     3     2     1", "   513     2     1", OVER),
     ("513 child entries told", "     3     2     1", "     3   513     1", OVER),
     ("257 numbers told", "     3     2     1", "     3     2   257", OVER),

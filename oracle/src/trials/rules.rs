@@ -1,4 +1,4 @@
-//! Rules, with the answers that document 01 gives them.
+//! Rules, with the answers that documents 01 and 02 give them.
 
 use super::{trial, Trial};
 use crate::sheets::{encode, rule};
@@ -114,6 +114,20 @@ const SENTENCES: &[Row] = &[
     ("1 = x", &[], "0 3 0 1, 1 2 0 0 0"),
 ];
 
+/// Document 02: numbers from -2^63 to 2^64 - 1, as keys in their order, as key texts and as literals.
+#[rustfmt::skip]
+const NUMBERS: &[Row] = &[
+    ("pattern {18446744073709551615: a, 9223372036854775808: b, -9223372036854775808: c, 9223372036854775807: d, 0: e, -1: f, 1: g}", &[],
+        "0 0 0 8, 6 15 7 0 0, 1 6 0 5 3, 1 12 0 11 6, 1 10 0 9 5, 1 14 0 13 7, 1 8 0 7 4, 1 4 0 3 2, 1 2 0 1 1"),
+    ("pattern {18446744073709551615: x, 18446744073709551615: y}", &[], "0 0 0 2, 6 5 1 0 0, 1 4 0 3 2"),
+    ("pattern {9223372036854775808: x, -9223372036854775808: y}", &[], "0 0 0 3, 6 5 2 0 0, 1 4 0 3 2, 1 2 0 1 1"),
+    (r#"{18446744073709551615: x} := {"18446744073709551615": 2}"#, &[], "0 1 0 2, 6 3 1 0 0, 1 2 0 1 1"),
+    ("{9223372036854775808: x} := {-9223372036854775808: 1}", &[], "14 6 3 0"),
+    ("{9: x, 18446744073709551615: y} := {18446744073709551615: 1, 9: 2}", &[], "0 1 0 3, 6 5 2 0 0, 1 2 0 1 1, 1 4 0 3 2"),
+    ("[{18446744073709551615: x}, 1] = [{18446744073709551614: 2}, z]", &[], "16 6 0 0"),
+    ("[x, -9223372036854775808] = [18446744073709551615, y]", &[], "0 4 0 4, 7 4 1 0 0, 1 1 0 0 1, 7 2 1 0 0, 1 5 0 0 1"),
+];
+
 /// Smallest inputs where the Rust and the Rego reference differ, beside those above.
 #[rustfmt::skip]
 const DIFFERENCES: &[Row] = &[
@@ -131,7 +145,7 @@ const DIFFERENCES: &[Row] = &[
 ];
 
 pub fn trials() -> impl Iterator<Item = Trial> {
-    [ON_TRIAL, SENTENCES, DIFFERENCES].into_iter().flatten().map(of_row)
+    [ON_TRIAL, SENTENCES, NUMBERS, DIFFERENCES].into_iter().flatten().map(of_row)
 }
 
 fn of_row((text, scope, expected): &Row) -> Trial {

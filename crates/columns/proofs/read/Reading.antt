@@ -6,13 +6,12 @@ use mathlib.Core.Path.{_≡_, refl, sym, ap, _∙_}
 use native.Mathlib.Numerals.{add-one}
 use native.Mathlib.Omega.{arith}
 use native.Mathlib.Nat.{pow-le-pow-right}
-use borrow.Author.Tests.{lt-ltb, le-leb, lt-leb, leb-true, leb-false, eq-eqb, ne-eqb}
+use borrow.Author.Tests.{lt-ltb, le-ltb, le-leb, lt-leb, leb-true, eq-eqb, ne-eqb}
 use lib.Dec.{eqb, leb, ltb}
 use lib.ListN.{length, getD, take, drop, length-drop, drop-of-length-le}
 use lib.Seq.{drop-cons, take-all}
-use Rattle.literal.specs.Literal.{isNumber}
 use Rattle.literal.specs.Text.{value}
-use Rattle.literal.proofs.Numbers.{number-bounds, and-true}
+use Rattle.literal.proofs.Numbers.{and-true}
 use Rattle.columns.specs.declared.decimal.Decimal.{Decimal}
 use Rattle.columns.specs.declared.decimal.Decimal.the-variants.{Number, NoNumber}
 use Rattle.columns.specs.declared.Column.{Column}
@@ -58,7 +57,7 @@ module _ {bytes : List ℕ} {i : ℕ} (s : Skipping bytes i) where
 -- Digits: what is left says, after what was read, the same as all.
 pub record Reading (bytes : List ℕ) (n i : ℕ) : Type 0 where
   pub inside : i ≤ length bytes
-  pub small : n ≤ 2 ^ 63 + 1
+  pub small : n < 2 ^ 64
   pub same : digitsNumber n (drop i bytes) ≡ digitsNumber 0 bytes
 
 pub reading-start : (bytes : List ℕ) → Reading bytes 0 0
@@ -82,11 +81,11 @@ module _ (n b : ℕ) (ds : List ℕ) where
   unfolding digitsNumber allDigits value
   digit-high low high = rw (le-leb 48 b low, lt-leb b 57 high)
 
-  digit-past : 922337203685477580 < n → digitsNumber n (b ∷ ds) ≡ NoNumber
+  digit-past : 18446744073709551615 < n * 10 + (b - 48) → digitsNumber n (b ∷ ds) ≡ NoNumber
   unfolding digitsNumber value
   digit-past past =
       let above = value-above (n * 10 + (b - 48)) ds in
-      rw (lt-leb (value (n * 10 + (b - 48)) ds) (2 ^ 63) (omega arith), and-false (allDigits (b ∷ ds)))
+      rw (le-ltb (value (n * 10 + (b - 48)) ds) (2 ^ 64) (omega arith), and-false (allDigits (b ∷ ds)))
 
 module _ {bytes : List ℕ} {n i : ℕ} (r : Reading bytes n i) where
   module _ (lt : i < length bytes) where
@@ -99,11 +98,15 @@ module _ {bytes : List ℕ} {n i : ℕ} (r : Reading bytes n i) where
     pub reading-high : 48 ≤ getD bytes i 0 → 57 < getD bytes i 0 → NoNumber ≡ digitsNumber 0 bytes
     reading-high low high = sym (digit-high n (getD bytes i 0) (drop (i + 1) bytes) low high) ∙ here
 
-    pub reading-past : 922337203685477580 < n → NoNumber ≡ digitsNumber 0 bytes
-    reading-past past = sym (digit-past n (getD bytes i 0) (drop (i + 1) bytes) past) ∙ here
+    pub reading-past : 1844674407370955161 < n → NoNumber ≡ digitsNumber 0 bytes
+    reading-past past = sym (digit-past n (getD bytes i 0) (drop (i + 1) bytes) (omega arith)) ∙ here
 
-    pub reading-on : 48 ≤ getD bytes i 0 → getD bytes i 0 ≤ 57 → n ≤ 922337203685477580 → Reading bytes (n * 10 + (getD bytes i 0 - 48)) (i + 1)
-    reading-on low high few = record {
+    pub reading-large : n ≤ 1844674407370955161 → 18446744073709551615 - n * 10 < getD bytes i 0 - 48 → NoNumber ≡ digitsNumber 0 bytes
+    reading-large tens past = sym (digit-past n (getD bytes i 0) (drop (i + 1) bytes) (omega arith)) ∙ here
+
+    pub reading-on : 48 ≤ getD bytes i 0 → getD bytes i 0 ≤ 57 → n ≤ 1844674407370955161 → getD bytes i 0 - 48 ≤ 18446744073709551615 - n * 10
+        → Reading bytes (n * 10 + (getD bytes i 0 - 48)) (i + 1)
+    reading-on low high tens few = record {
       inside = omega arith;
       small = omega arith;
       same = sym (digit-next n (getD bytes i 0) (drop (i + 1) bytes) low high) ∙ here;
@@ -113,13 +116,9 @@ module _ {bytes : List ℕ} {n i : ℕ} (r : Reading bytes n i) where
     all-read : digitsNumber n [] ≡ digitsNumber 0 bytes
     all-read = let e : drop i bytes ≡ [] = drop-of-length-le bytes le in rw e at (r .same)
 
-    pub reading-large : 9223372036854775808 < n → NoNumber ≡ digitsNumber 0 bytes
+    pub reading-ends : Number n ≡ digitsNumber 0 bytes
     unfolding digitsNumber allDigits value
-    reading-large large = rw (lt-leb n (2 ^ 63) large) at all-read
-
-    pub reading-ends : n ≤ 9223372036854775808 → Number n ≡ digitsNumber 0 bytes
-    unfolding digitsNumber allDigits value
-    reading-ends few = rw (le-leb n (2 ^ 63) few) at all-read
+    reading-ends = rw (lt-ltb n (2 ^ 64) (r .small)) at all-read
 
 -- the whole decimal form
 module _ (bytes : List ℕ) where
@@ -146,22 +145,22 @@ module _ (bytes : List ℕ) where
 pub record ReadAs (ds : List ℕ) (n : ℕ) : Type 0 where
   pub form : isDecimal ds ≡ true
   pub is : value 0 ds ≡ n
-  pub few : n ≤ 2 ^ 63
+  pub few : ltb (value 0 ds) (2 ^ 64) ≡ true
 
 pub read-as : (ds : List ℕ) (n : ℕ) → readDecimal ds ≡ Number n → ReadAs ds n
 unfolding readDecimal
-read-as ds n e = go (isDecimal ds) (leb (value 0 ds) (2 ^ 63)) refl refl e
+read-as ds n e = go (isDecimal ds) (ltb (value 0 ds) (2 ^ 64)) refl refl e
   where
-    go : (a b : Bool) → isDecimal ds ≡ a → leb (value 0 ds) (2 ^ 63) ≡ b → cond (a && b) (Number (value 0 ds)) NoNumber ≡ Number n → ReadAs ds n
+    go : (a b : Bool) → isDecimal ds ≡ a → ltb (value 0 ds) (2 ^ 64) ≡ b → cond (a && b) (Number (value 0 ds)) NoNumber ≡ Number n → ReadAs ds n
     go true true p q f =
         let same : value 0 ds ≡ n = cc in
-        record { form = p; is = same; few = omega (arith, leb-true (value 0 ds) (2 ^ 63) q) }
+        record { form = p; is = same; few = q }
     go true false p q f = let z : _≡_ {A = ℕ} 0 1 = cc in absurd (omega arith)
     go false b p q f = let z : _≡_ {A = ℕ} 0 1 = cc in absurd (omega arith)
 
-pub read-not : (ds : List ℕ) → readDecimal ds ≡ NoNumber → (isDecimal ds && leb (value 0 ds) (2 ^ 63)) ≡ false
+pub read-not : (ds : List ℕ) → readDecimal ds ≡ NoNumber → (isDecimal ds && ltb (value 0 ds) (2 ^ 64)) ≡ false
 unfolding readDecimal
-read-not ds e = go (isDecimal ds && leb (value 0 ds) (2 ^ 63)) e
+read-not ds e = go (isDecimal ds && ltb (value 0 ds) (2 ^ 64)) e
   where
     go : (b : Bool) → cond b (Number (value 0 ds)) NoNumber ≡ NoNumber → b ≡ false
     go true f = let z : _≡_ {A = ℕ} 0 1 = cc in absurd (omega arith)
@@ -210,29 +209,15 @@ decimal-below m ds form le =
 
 -- columns of twenty
 module _ (below : ℕ) (ds : List ℕ) {d : Decimal} (is : d ≡ readDecimal ds) where
-  pub signed-number : {n : ℕ} {r : Bool} → d ≡ Number n → r ≡ isNumber below n → r ≡ true → SignedColumn.Number below n ≡ signedNumber below ds
+  pub signed-number : {n : ℕ} → d ≡ Number n → SignedColumn.Number below n ≡ signedNumber below ds
   unfolding signedNumber
-  signed-number {n} e t y =
+  signed-number {n} e =
       let r = read-as ds n (sym is ∙ e) in
-      rw (r .form, r .is, ← t, y)
-
-  pub signed-large : {n : ℕ} {r : Bool} → d ≡ Number n → r ≡ isNumber below n → r ≡ false → SignedColumn.Unreadable ≡ signedNumber below ds
-  unfolding signedNumber
-  signed-large {n} e t y =
-      let r = read-as ds n (sym is ∙ e) in
-      rw (r .form, r .is, ← t, y)
+      rw (r .form, r .few, r .is)
 
   pub signed-none : d ≡ NoNumber → SignedColumn.Unreadable ≡ signedNumber below ds
   unfolding signedNumber
-  signed-none e = go (isDecimal ds) (isNumber below (value 0 ds)) refl (read-not ds (sym is ∙ e))
-    where
-      go : (a b : Bool) → isNumber below (value 0 ds) ≡ b → (a && leb (value 0 ds) (2 ^ 63)) ≡ false
-          → SignedColumn.Unreadable ≡ cond (a && b) (SignedColumn.Number below (value 0 ds)) SignedColumn.Unreadable
-      go true true t missing =
-          let bounds = number-bounds below (value 0 ds) t in
-          absurd (omega (arith, leb-false (value 0 ds) (2 ^ 63) missing))
-      go true false t missing = refl
-      go false b t missing = refl
+  signed-none e = rw (read-not ds (sym is ∙ e))
 
 module _ (bytes : List ℕ) (at : ℕ) {column number : List ℕ} (fours : List ℕ) (there : column ≡ columnBytes bytes at 20) (same : afterBlanks fours ≡ afterBlanks column) (skipped : number ≡ afterBlanks fours) where
   is-number : number ≡ afterBlanks (columnBytes bytes at 20)

@@ -4,8 +4,8 @@ use mathlib.Core.Bool.{Bool, true, false, cond, not, _&&_, and-false}
 use mathlib.Core.List.{List, [], _∷_}
 use mathlib.Core.Path.{_≡_, refl, sym, ap, _∙_}
 use native.Mathlib.Omega.{arith}
-use borrow.Author.Tests.{le-leb, lt-leb, leb-true, leb-false, eq-eqb, ne-eqb, eqb-true, eqb-false, not-false}
-use lib.Dec.{eqb, leb}
+use borrow.Author.Tests.{le-leb, lt-leb, leb-true, ltb-false, eq-eqb, ne-eqb, eqb-true, eqb-false, not-false}
+use lib.Dec.{eqb, leb, ltb}
 use lib.ListN.{length, getD, take, drop, length-drop}
 use lib.Seq.{length-take-le}
 use mir.Syntax.{w8, w32}
@@ -131,11 +131,11 @@ module _ (bytes : List ℕ) {ds : List ℕ} {d : Decimal} (few : length bytes �
   six-none e = go (isDecimal (afterBlanks bytes)) refl (read-not (afterBlanks bytes) (sym is ∙ e))
     where
       go : (b : Bool) → isDecimal (afterBlanks bytes) ≡ b
-          → (b && leb (value 0 (afterBlanks bytes)) (2 ^ 63)) ≡ false
+          → (b && ltb (value 0 (afterBlanks bytes)) (2 ^ 64)) ≡ false
           → 1000000 ≡ columnWord (cond b (Column.Number (value 0 (afterBlanks bytes))) Column.Unreadable)
       go true form missing =
           let b = decimal-below 6 (afterBlanks bytes) form few-digits in
-          absurd (omega (arith, leb-false (value 0 (afterBlanks bytes)) (2 ^ 63) missing))
+          absurd (omega (arith, ltb-false (value 0 (afterBlanks bytes)) (2 ^ 64) missing))
       go false form missing = refl
 
 -- six bytes, of which four are blanks

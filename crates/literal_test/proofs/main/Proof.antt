@@ -4,10 +4,10 @@ use Rattle.literal_test.proofs.main.Statement.{statement}
 use Rattle.literal_test.proofs.main.Tie as tie
 
 abbrev Inv-loop : tie.InvT-loop
-Inv-loop keys₀ texts₀ pair₀ keys texts pair = (pair ≤ 361) × (keys ≤ pair) × (texts ≤ pair)
+Inv-loop keys₀ texts₀ pair₀ keys texts pair = (pair ≤ 441) × (keys ≤ pair) × (texts ≤ pair)
 
 abbrev μ-loop : tie.MeasureT-loop
-μ-loop keys₀ texts₀ pair₀ keys texts pair = 361 - pair
+μ-loop keys₀ texts₀ pair₀ keys texts pair = 441 - pair
 
 pub main-spec : {M : Type 1} → statement M
 main-spec =

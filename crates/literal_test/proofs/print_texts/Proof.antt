@@ -4,10 +4,10 @@ use Rattle.literal_test.proofs.print_texts.Statement.{statement}
 use Rattle.literal_test.proofs.print_texts.Tie as tie
 
 abbrev Inv-loop : tie.InvT-loop
-Inv-loop i₀ i = i ≤ 19
+Inv-loop i₀ i = i ≤ 21
 
 abbrev μ-loop : tie.MeasureT-loop
-μ-loop i₀ i = 19 - i
+μ-loop i₀ i = 21 - i
 
 pub print-texts-spec : {M : Type 1} → statement M
 print-texts-spec =

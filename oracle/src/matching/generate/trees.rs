@@ -4,7 +4,7 @@ use crate::generate::Random;
 use crate::sheets::Tree;
 
 const TEXTS: [&str; 4] = ["a", "b", "1", ""];
-const NUMBERS: [i64; 4] = [1, 2, -1, i64::MIN];
+const NUMBERS: [i128; 6] = [1, 2, -1, -(1 << 63), 1 << 63, (1 << 64) - 1];
 
 /// Names, underscores, literals, arrays, and objects with literal keys, all different.
 pub fn pattern(random: &mut Random, scope: &[(String, u32)], depth: usize) -> Tree {

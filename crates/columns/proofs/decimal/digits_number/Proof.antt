@@ -1,6 +1,6 @@
 use Prim.Native.Nat.{_-_}
 use lib.ListN.{length}
-use Rattle.columns.proofs.read.Reading.{Reading, reading-start, reading-low, reading-high, reading-past, reading-on, reading-large, reading-ends}
+use Rattle.columns.proofs.read.Reading.{Reading, reading-start, reading-low, reading-high, reading-past, reading-large, reading-on, reading-ends}
 use borrow.Author.Needs.{needs}
 use Rattle.columns.proofs.decimal.digits_number.Statement.{statement}
 use Rattle.columns.proofs.decimal.digits_number.Tie as tie
@@ -25,8 +25,10 @@ digits-number-spec =
     (λ c. search needs)
     (λ c. search needs)
     (λ c. search needs)
+    (λ c. search (reading-large, needs))
+    (λ c. search needs)
+    (λ c. search needs)
     (λ c. search needs)
     (λ c. search needs)
     (λ c. search (reading-on, needs))
-    (λ c. search (reading-large, needs))
     (λ c. search (reading-ends, needs)))
