@@ -102,12 +102,12 @@ enum teluddru_answer {
     TELUDDRU_MATCH = 0,
     TELUDDRU_NO_MATCH = 100,
     TELUDDRU_OVER_LIMIT = 1,
-    TELUDDRU_BREAKS_RULES = 2,
+    TELUDDRU_BREAKS_RULES = 2,              /* or a mark is above 31 */
     TELUDDRU_TOO_DEEP = 3,
     TELUDDRU_EQUAL_NAMES = 4,
     TELUDDRU_ROOT_OUTSIDE = 5,
     TELUDDRU_PLAN_TOO_LARGE = 6,            /* first count: entries needed */
-    TELUDDRU_LAYOUT_BROKEN = 7,             /* a mark above 31, or a number that isn't listed, too */
+    TELUDDRU_LAYOUT_BROKEN = 7,             /* a number that isn't listed, too */
     TELUDDRU_COLON_EQUALS_REQUIRES_BINDABLE_LEFT = 11, /* place: the left */
     TELUDDRU_ARRAY_SIZE_MISMATCH = 12,      /* the left array; both lengths */
     TELUDDRU_ARRAY_LENGTH_MISMATCH = 13,    /* the value array; expected, actual */
@@ -167,9 +167,10 @@ enum teluddru_reported {
  * The calls over tables. Each is lent the six tables (nodes of five words; children; numbers of two
  * words, 1 for below zero or 0, then the size, from -9223372036854775808 to 18446744073709551615, where
  * minus zero is none; names of two words, start and length in the text; the string bytes; the rule text)
- * and a byte of marks for each name: at most 128 are read, and a name past them has none. A call with a
- * mark above 31 among those read, or with an operation, scheduler or scoping that isn't listed above, is
- * refused with TELUDDRU_LAYOUT_BROKEN before all else.
+ * and a byte of marks for each name: at most 128 are read, and a name past them has none. A call with an
+ * operation, scheduler or scoping that isn't listed above is refused with TELUDDRU_LAYOUT_BROKEN before
+ * all else. Then come the table check's refusals: TELUDDRU_OVER_LIMIT, TELUDDRU_BREAKS_RULES, for a mark
+ * above 31 among those read too, TELUDDRU_TOO_DEEP, TELUDDRU_EQUAL_NAMES.
  *
  * The answer is four words, of which as many are written as there is space for; words past the fourth
  * stay as they were. Its first number is also the result, whether or not there is space for it.

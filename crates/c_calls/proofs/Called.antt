@@ -1,23 +1,29 @@
 -- What the calls come to, from what the calls below them say.
 use Prim.Native.Nat.{ℕ}
 use mathlib.Core.Path.{_≡_, refl, ap, sym, _∙_, subst}
-use mathlib.Core.Bool.{Bool, true, false, not, _&&_}
+use mathlib.Core.Bool.{Bool, true, false, false≢true}
 use mathlib.Core.List.{List}
 use lib.ListN.{length, replicate}
-use Rattle.base.specs.Refusal.{refusalLine, layoutBroken}
+use borrow.Author.Tests.{eq-eqb}
+use Rattle.base.specs.Refusal.{overLimit, breaksRules, layoutBroken, Tested, passed, refused, Line, line, testedLine}
 use Rattle.scope.specs.declared.Scope.{Scope}
 use Rattle.scope.specs.declared.ScopingMode.{ScopingMode}
-use Rattle.scope.specs.Scope.{known, marksOk}
+use Rattle.scope.specs.declared.ByteScope.{ByteScope}
+use Rattle.scope.specs.declared.Converted.{Converted}
+use Rattle.scope.specs.Scope.{known}
+use Rattle.scope.specs.Bytes.{marksOk, ofBytes, conversionOf, convertible, ConvertedFrom}
 use Rattle.table.specs.Tables.{Tables}
 use Rattle.table.specs.Decode.{expr}
-use Rattle.table.proofs.tests.Bools.{told-no, told-yes}
+use Rattle.table.specs.Rules.{withinLimits}
 use Rattle.planner.specs.declared.PlanAnswer.{PlanAnswer}
 use Rattle.planner.specs.Answer.{lineOf}
-use Rattle.planner.specs.Operations.{answered, written, Answered}
+use Rattle.planner.specs.Operations as Plan
+use Rattle.planner.specs.Operations.{Outcome, answered, written, Answered}
 use Rattle.planner.specs.Short.{ShortLine}
 use Rattle.run.specs.declared.RunAnswer.{RunAnswer}
 use Rattle.run.specs.Answer.{resultOf}
-use Rattle.run.specs.Operations.{runOutcome, runAnswer, planAfter, plannedName, valuesAfter, Ran}
+use Rattle.run.specs.Operations as Run
+use Rattle.run.specs.Operations.{RunOutcome, runOutcome, runAnswer, planAfter, plannedName, valuesAfter, Ran}
 use Rattle.report.specs.declared.ReportAnswer.{ReportAnswer}
 use Rattle.report.specs.Answer.{reportLine}
 use Rattle.report.specs.Report.{ReportedBy}
@@ -27,7 +33,7 @@ use Rattle.operation.specs.declared.row.Row.{Row}
 use Rattle.operation.specs.Numbers.{areListed, scopingOf, operationOf}
 use Rattle.operation.specs.Operation.{operationOutcome}
 use Rattle.operation.specs.Rows.{rowLine}
-use Rattle.c_calls.specs.Given.{scopeOf, patternNumbers, wellGiven}
+use Rattle.c_calls.specs.Given.{bytesOf, scopeOf, patternNumbers, testedFirst, givenFirst, GivenTold}
 use Rattle.c_calls.specs.Calls.{Told, planCall, PlanCalled, ranLine, runCall, namesSet, RunCalled, ReportCalled}
 use Rattle.c_calls.proofs.Shortness.{plan-short, run-short, report-short}
 
@@ -72,62 +78,110 @@ pub report-fits :
     → ShortLine (rowLine row)
 report-fits T s mode root {before = before} done is = subst ShortLine (sym (is ∙ done .answer)) (report-short T s root before)
 
--- the test of what is given, from the scope that is made of it
-module _ (marks : List ℕ) (o : OperationNumbers) {s : Scope} (scope : s ≡ scopeOf marks (o .scheduler)) {good : Bool} (told : good ≡ (marksOk s && areListed o)) where
-  not-given : not good ≡ true → wellGiven marks o ≡ false
-  not-given t = rw scope at (told-no told t)
+-- what comes before the operation
+no-refusal : (t : Tested) → line 0 0 0 0 ≡ testedLine t → t ≡ passed
+no-refusal passed e = refl
+no-refusal (refused r) e =
+    let zero : r .number ≡ 0 = sym (ap (λ (l : Line). l .number) e) in
+    absurd (false≢true (sym (r .refuses) ∙ eq-eqb (r .number) 0 zero))
 
-  is-given : not good ≡ false → wellGiven marks o ≡ true
-  is-given t = rw scope at (told-yes told t)
+some-refusal : (t : Tested) {n : ℕ} → line n 0 0 0 ≡ testedLine t → (n ≡ 0 → ⊥) → testedLine t ≡ line 0 0 0 0 → ⊥
+some-refusal t e some none = some (ap (λ (l : Line). l .number) (e ∙ none))
 
-  -- 7: zeros in the plan
+given-passed : (T : Tables) (b : ByteScope) (o : OperationNumbers) → testedFirst T (convertible b) o ≡ passed → marksOk b ≡ true
+unfolding testedFirst
+given-passed T b o e = go (areListed o) (withinLimits T) (marksOk b) refl refl refl
+  where
+    go : (l w m : Bool) → areListed o ≡ l → withinLimits T ≡ w → marksOk b ≡ m → marksOk b ≡ true
+    go true true true p q r = r
+    go true true false p q r = let h : refused breaksRules ≡ passed = rw (p, q, r) at e in cc
+    go true false m p q r = let h : refused overLimit ≡ passed = rw (p, q) at e in cc
+    go false w m p q r = let h : refused layoutBroken ≡ passed = rw p at e in cc
+
+module _ (T : Tables) (b : ByteScope) (o : OperationNumbers) {made : Converted} (from : ConvertedFrom b made) {before : ℕ} (told : GivenTold T (conversionOf (made .answer)) o before) where
+  first-told : line before 0 0 0 ≡ testedLine (testedFirst T (convertible b) o)
+  first-told = rw (from .answer) at (told .told)
+
+  module _ (none : before ≡ 0) where
+    first-passed : testedFirst T (convertible b) o ≡ passed
+    first-passed = no-refusal (testedFirst T (convertible b) o) (rw none at first-told)
+
+    made-scope : made .scope ≡ ofBytes b
+    made-scope = from .scope ∙ simp (given-passed T b o first-passed)
+
+-- a refusal of it: zeros in the plan, a run's list as it was, zeros in a report's list
+module _ (t : Tested) {n : ℕ} (e : line n 0 0 0 ≡ testedLine t) (some : n ≡ 0 → ⊥) where
+  plan-turned : (t′ : Tested) (o : Outcome) {buffer bufferExit words wordsExit : List ℕ} {r : ℕ} → t ≡ t′ → bufferExit ≡ replicate (length buffer) 0
+      → Told (line n 0 0 0) words wordsExit r → PlanCalled (Plan.tableFirst t′ o) buffer words bufferExit wordsExit r
+  unfolding answered written
+  plan-turned passed o is zeros done = absurd (some-refusal t e some (ap testedLine is))
+  plan-turned (refused a) o {words = words} {wordsExit = wordsExit} {r = r} is zeros done =
+      record { answer = subst (λ (l : Line). Told l words wordsExit r) (e ∙ ap testedLine is) done; plan = zeros }
+
+  run-turned : (t′ : Tested) (names : ℕ → Bool) (o : RunOutcome) {values buffer bufferExit words wordsExit : List ℕ} {r : ℕ} → t ≡ t′ → bufferExit ≡ replicate (length buffer) 0
+      → Told (line n 0 0 0) words wordsExit r → RunCalled names (Run.tableFirst t′ o) values buffer words values bufferExit wordsExit r
+  unfolding runAnswer planAfter valuesAfter
+  run-turned passed names o is zeros done = absurd (some-refusal t e some (ap testedLine is))
+  run-turned (refused a) names o {words = words} {wordsExit = wordsExit} {r = r} is zeros done =
+      record { answer = subst (λ (l : Line). Told l words wordsExit r) (e ∙ ap testedLine is) done; plan = zeros; list = refl }
+
+-- planning
+module _ (T : Tables) (marks : List ℕ) (o : OperationNumbers) {made : Converted} (from : ConvertedFrom (bytesOf marks (o .scheduler)) made) {before : ℕ}
+    (told : GivenTold T (conversionOf (made .answer)) o before) where
   pub plan-refused :
-      (T : Tables)
       {buffer bufferExit words wordsExit : List ℕ}
       {r : ℕ}
-      → not good ≡ true
+      → (before ≡ 0 → ⊥)
       → bufferExit ≡ replicate (length buffer) 0
-      → Told (refusalLine layoutBroken) words wordsExit r
+      → Told (line before 0 0 0) words wordsExit r
       → PlanCalled (planCall T marks o) buffer words bufferExit wordsExit r
-  unfolding answered written
-  plan-refused T t zeros done = rw (not-given t) (record { answer = done; plan = zeros })
+  plan-refused some zeros done =
+      plan-turned (givenFirst T marks o) (first-told T (bytesOf marks (o .scheduler)) o from told) some (givenFirst T marks o)
+      (operationOutcome T (scopeOf marks (o .scheduler)) (operationOf o)) refl zeros done
 
   pub plan-done :
-      (T : Tables)
       {buffer bufferExit words wordsExit : List ℕ}
       {operation : Operation}
       {answer : PlanAnswer}
       {row : Row}
       {r : ℕ}
-      → not good ≡ false
+      → before ≡ 0
       → operation ≡ operationOf o
-      → Answered (operationOutcome T s operation) buffer bufferExit answer
+      → Answered (operationOutcome T (made .scope) operation) buffer bufferExit answer
       → rowLine row ≡ lineOf answer
       → Told (rowLine row) words wordsExit r
       → PlanCalled (planCall T marks o) buffer words bufferExit wordsExit r
-  plan-done T t e was is done =
-      let planned = rw (scope, e) at was in
+  plan-done none e was is done =
+      let planned = rw (made-scope T (bytesOf marks (o .scheduler)) o from told none, e) at was in
       let said = rw (is ∙ planned .answer) at done in
-      rw (is-given t) (record { answer = said; plan = planned .buffer })
+      rw (first-passed T (bytesOf marks (o .scheduler)) o from told none) (record { answer = said; plan = planned .buffer })
 
-module _ (T : Tables) (marks : List ℕ) (scheduler scoping pattern : ℕ) {s : Scope} (scope : s ≡ scopeOf marks scheduler) {o : OperationNumbers} (asked : o ≡ patternNumbers scheduler scoping pattern) {good : Bool} (told : good ≡ (marksOk s && areListed o)) where
-  not-given-pattern : not good ≡ true → wellGiven marks (patternNumbers scheduler scoping pattern) ≡ false
-  not-given-pattern = not-given marks (patternNumbers scheduler scoping pattern) scope (rw asked at told)
+-- run and report
+module _ (T : Tables) (marks : List ℕ) (scheduler scoping pattern : ℕ) {o : OperationNumbers} (asked : o ≡ patternNumbers scheduler scoping pattern) {made : Converted}
+    (from : ConvertedFrom (bytesOf marks scheduler) made) {before : ℕ} (told : GivenTold T (conversionOf (made .answer)) o before) where
+  told-pattern : GivenTold T (conversionOf (made .answer)) (patternNumbers scheduler scoping pattern) before
+  told-pattern = rw asked at told
 
-  given-pattern : not good ≡ false → wellGiven marks (patternNumbers scheduler scoping pattern) ≡ true
-  given-pattern = is-given marks (patternNumbers scheduler scoping pattern) scope (rw asked at told)
+  pattern-first : line before 0 0 0 ≡ testedLine (givenFirst T marks (patternNumbers scheduler scoping pattern))
+  pattern-first = first-told T (bytesOf marks scheduler) (patternNumbers scheduler scoping pattern) from told-pattern
 
-  -- 7: zeros in the plan, the list as it was
+  pattern-passed : before ≡ 0 → givenFirst T marks (patternNumbers scheduler scoping pattern) ≡ passed
+  pattern-passed = first-passed T (bytesOf marks scheduler) (patternNumbers scheduler scoping pattern) from told-pattern
+
+  pattern-scope : before ≡ 0 → made .scope ≡ scopeOf marks scheduler
+  pattern-scope = made-scope T (bytesOf marks scheduler) (patternNumbers scheduler scoping pattern) from told-pattern
+
   pub run-refused :
       (value : ℕ)
       {values buffer bufferExit words wordsExit : List ℕ}
       {r : ℕ}
-      → not good ≡ true
+      → (before ≡ 0 → ⊥)
       → bufferExit ≡ replicate (length buffer) 0
-      → Told (refusalLine layoutBroken) words wordsExit r
+      → Told (line before 0 0 0) words wordsExit r
       → RunCalled (namesSet T marks scheduler scoping pattern) (runCall T marks scheduler scoping pattern value values) values buffer words values bufferExit wordsExit r
-  unfolding runAnswer planAfter valuesAfter
-  run-refused value t zeros done = rw (not-given-pattern t) (record { answer = done; plan = zeros; list = refl })
+  run-refused value {values = values} some zeros done =
+      run-turned (givenFirst T marks (patternNumbers scheduler scoping pattern)) pattern-first some (givenFirst T marks (patternNumbers scheduler scoping pattern))
+      (namesSet T marks scheduler scoping pattern) (runOutcome T (scopeOf marks scheduler) (scopingOf scoping) pattern value values) refl zeros done
 
   pub run-done :
       (value : ℕ)
@@ -136,40 +190,43 @@ module _ (T : Tables) (marks : List ℕ) (scheduler scoping pattern : ℕ) {s : 
       {answer : RunAnswer}
       {row : Row}
       {r : ℕ}
-      → not good ≡ false
+      → before ≡ 0
       → mode ≡ scopingOf scoping
-      → Ran (plannedName (known s mode) (expr T pattern)) (runOutcome T s mode pattern value values) values buffer valuesExit bufferExit answer
+      → Ran (plannedName (known (made .scope) mode) (expr T pattern)) (runOutcome T (made .scope) mode pattern value values) values buffer valuesExit bufferExit answer
       → rowLine row ≡ ranLine (resultOf answer)
       → Told (rowLine row) words wordsExit r
       → RunCalled (namesSet T marks scheduler scoping pattern) (runCall T marks scheduler scoping pattern value values) values buffer words valuesExit bufferExit wordsExit r
-  run-done value t m ran is done =
-      let was = rw (scope, m) at ran in
+  run-done value none m ran is done =
+      let was = rw (pattern-scope none, m) at ran in
       let said = rw (is ∙ ap ranLine (was .answer)) at done in
-      rw (given-pattern t) (record { answer = said; plan = was .plan; list = was .list })
+      rw (pattern-passed none) (record { answer = said; plan = was .plan; list = was .list })
 
-  -- 7: zeros in the list
   pub report-refused :
-      {before after words wordsExit : List ℕ}
+      {list after words wordsExit : List ℕ}
       {r : ℕ}
-      → not good ≡ true
-      → after ≡ replicate (length before) 0
-      → Told (refusalLine layoutBroken) words wordsExit r
-      → ReportCalled T marks scheduler scoping pattern before words after wordsExit r
-  report-refused t zeros done = let e = not-given-pattern t in record { answer = rw e done; list = rw e zeros }
+      → (before ≡ 0 → ⊥)
+      → after ≡ replicate (length list) 0
+      → Told (line before 0 0 0) words wordsExit r
+      → ReportCalled T marks scheduler scoping pattern list words after wordsExit r
+  report-refused {list} {after} {words} {wordsExit} {r} some zeros done = go (givenFirst T marks (patternNumbers scheduler scoping pattern)) refl
+    where
+      go : (t : Tested) → givenFirst T marks (patternNumbers scheduler scoping pattern) ≡ t → ReportCalled T marks scheduler scoping pattern list words after wordsExit r
+      go passed is = absurd (some-refusal (givenFirst T marks (patternNumbers scheduler scoping pattern)) pattern-first some (ap testedLine is))
+      go (refused a) is = record { answer = rw is (subst (λ (l : Line). Told l words wordsExit r) (pattern-first ∙ ap testedLine is) done); list = rw is zeros }
 
   pub report-done :
-      {before after words wordsExit : List ℕ}
+      {list after words wordsExit : List ℕ}
       {mode : ScopingMode}
       {answer : ReportAnswer}
       {row : Row}
       {r : ℕ}
-      → not good ≡ false
+      → before ≡ 0
       → mode ≡ scopingOf scoping
-      → ReportedBy T s mode pattern before after answer
+      → ReportedBy T (made .scope) mode pattern list after answer
       → rowLine row ≡ reportLine answer
       → Told (rowLine row) words wordsExit r
-      → ReportCalled T marks scheduler scoping pattern before words after wordsExit r
-  report-done t m was is done =
-      let e = given-pattern t in
-      let reported = rw (scope, m) at was in
+      → ReportCalled T marks scheduler scoping pattern list words after wordsExit r
+  report-done none m was is done =
+      let reported = rw (pattern-scope none, m) at was in
+      let e = pattern-passed none in
       record { answer = rw e (rw (is ∙ reported .answer) at done); list = rw e (reported .list) }

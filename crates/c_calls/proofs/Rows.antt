@@ -4,7 +4,7 @@ use mathlib.Core.List.{List, [], _∷_}
 use mathlib.Core.Path.{_≡_, refl, ap}
 use native.Mathlib.Omega.{arith}
 use lib.ListN.{length, set}
-use Rattle.base.specs.Refusal.{Line, line, refusalLine, layoutBroken}
+use Rattle.base.specs.Refusal.{Line, line}
 use Rattle.table.specs.declared.TableRefusal.{TableRefusal}
 use Rattle.table.specs.Check.{tableRefused}
 use Rattle.planner.specs.Short.{ShortLine}
@@ -56,9 +56,9 @@ module _ (row : Row) where
       → Told (rowLine row) before four (row .number)
   words-told {before} a b c d = record { result = refl; words = rw (d, c, b, a) (sets-told (rowLine row) before) }
 
--- 7, no place and no counts
-pub seven-short : {l : Line} → l ≡ line 7 0 0 0 → ShortLine l
-seven-short e = rw e (short (omega arith) (omega arith) (omega arith) (omega arith))
+-- a number, no place and no counts
+pub number-short : (n : ℕ) {l : Line} → n ≤ 7 → l ≡ line n 0 0 0 → ShortLine l
+number-short n small e = rw e (short (omega arith) (omega arith) (omega arith) (omega arith))
 
-pub seven-told : {l : Line} {before after : List ℕ} {r : ℕ} → l ≡ line 7 0 0 0 → Told l before after r → Told (refusalLine layoutBroken) before after r
-seven-told e done = rw e at done
+pub number-told : (n : ℕ) {l : Line} {before after : List ℕ} {r : ℕ} → l ≡ line n 0 0 0 → Told l before after r → Told (line n 0 0 0) before after r
+number-told n e done = rw e at done

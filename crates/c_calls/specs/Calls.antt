@@ -5,7 +5,7 @@ use mathlib.Core.Path.{_≡_}
 use mathlib.Core.List.{List, [], _∷_, _++_}
 use lib.ListN.{length, take, drop}
 use Rattle.base.specs.Lent.{Slices, old, new}
-use Rattle.base.specs.Refusal.{layoutBroken, Line, line, refusalLine}
+use Rattle.base.specs.Refusal.{Line, line, refusalLine, testedOr}
 use Rattle.scope.specs.Scope.{known}
 use Rattle.table.specs.Tables.{Tables}
 use Rattle.table.specs.Decode.{expr}
@@ -19,7 +19,7 @@ use Rattle.planner.specs.Operations.{Outcome, answered, written}
 use Rattle.operation.specs.declared.numbers.OperationNumbers.{OperationNumbers}
 use Rattle.operation.specs.Numbers.{scopingOf, operationOf}
 use Rattle.operation.specs.Operation.{operationOutcome}
-use Rattle.c_calls.specs.Given.{scopeOf, numbersOf, patternNumbers, wellGiven}
+use Rattle.c_calls.specs.Given.{scopeOf, numbersOf, patternNumbers, givenFirst}
 
 -- An answer's four numbers in the lent words: as many as there is space for; words past the fourth stay.
 unfoldable pub told : Line → List ℕ → List ℕ
@@ -30,9 +30,9 @@ pub record Told (l : Line) (before after : List ℕ) (r : ℕ) : Type 0 where
   pub result : r ≡ l .number
   pub words : after ≡ told l before
 
--- Planning: marks and numbers that are not listed are refused first, as on a sheet.
+-- Planning: what is given beside the tables is tested first (`givenFirst`).
 abbrev pub planCall : Tables → List ℕ → OperationNumbers → Outcome
-planCall T marks o = Plan.require (wellGiven marks o) layoutBroken (operationOutcome T (scopeOf marks (o .scheduler)) (operationOf o))
+planCall T marks o = Plan.tableFirst (givenFirst T marks o) (operationOutcome T (scopeOf marks (o .scheduler)) (operationOf o))
 
 pub record PlanCalled (o : Outcome) (buffer words bufferExit wordsExit : List ℕ) (r : ℕ) : Type 0 where
   pub answer : Told (answered o buffer) words wordsExit r
@@ -46,7 +46,7 @@ PlanCalledIn plan answer T marks operation scheduler scoping first second key r 
 -- Run: the same first.
 abbrev pub runCall : Tables → List ℕ → ℕ → ℕ → ℕ → ℕ → List ℕ → RunOutcome
 runCall T marks scheduler scoping pattern value values =
-    Run.require (wellGiven marks (patternNumbers scheduler scoping pattern)) layoutBroken (runOutcome T (scopeOf marks scheduler) (scopingOf scoping) pattern value values)
+    Run.tableFirst (givenFirst T marks (patternNumbers scheduler scoping pattern)) (runOutcome T (scopeOf marks scheduler) (scopingOf scoping) pattern value values)
 
 -- Document 01 has no number for no match.
 abbrev pub ranLine : RunResult → Line
@@ -71,7 +71,7 @@ RunCalledIn values plan answer T marks scheduler scoping pattern value r =
 -- The names report: the same first.
 abbrev pub reportCall : Tables → List ℕ → ℕ → ℕ → ℕ → List ℕ → ReportOutcome
 reportCall T marks scheduler scoping pattern list =
-    Report.require (wellGiven marks (patternNumbers scheduler scoping pattern)) layoutBroken (reportOutcome T (scopeOf marks scheduler) pattern list)
+    testedOr Report.refused (givenFirst T marks (patternNumbers scheduler scoping pattern)) (reportOutcome T (scopeOf marks scheduler) pattern list)
 
 -- the list afterwards
 abbrev pub listAfter : Tables → List ℕ → ℕ → ℕ → ℕ → List ℕ → List ℕ

@@ -1,8 +1,9 @@
 // An answer's four numbers, and how they are told to a C host.
 ghost use Rattle.base.specs.Lent.{old, new};
 ghost use mathlib.Core.Path.{_≡_};
+ghost use Prim.Native.Nat.{_≤_};
 ghost use lib.ListN.{set};
-ghost use Rattle.base.specs.Refusal.{refusalLine, layoutBroken};
+ghost use Rattle.base.specs.Refusal.{line};
 ghost use Rattle.planner.specs.Short.{ShortLine};
 ghost use Rattle.run.specs.Answer.{resultOf};
 ghost use Rattle.report.specs.Answer.{reportLine};
@@ -64,9 +65,10 @@ pub(crate) fn tell(answer: &mut [u32], row: Row) -> u32
     number
 }
 
-// The refusal of marks or numbers that document 01 does not list.
-pub(crate) fn refuse(answer: &mut [u32]) -> u32
-    ensures { λ r. ⌜ Told (refusalLine layoutBroken) (old answer) (new answer) r ⌝ }
+// A refusal without place and counts.
+pub(crate) fn refuse(answer: &mut [u32], number: u32) -> u32
+    requires { ⌜ number ≤ 7 ⌝ }
+    ensures { λ r. ⌜ Told (line number 0 0 0) (old answer) (new answer) r ⌝ }
 {
-    tell(answer, row_from(7, 0, 0, 0))
+    tell(answer, row_from(number as u64, 0, 0, 0))
 }

@@ -3,8 +3,8 @@ ghost use Rattle.table.specs.Lent.{lent};
 ghost use Rattle.c_calls.specs.Calls.{PlanCalledIn};
 use crate::answer::refuse;
 use crate::answer::tell;
+use crate::given::refused_first;
 use crate::given::scope_of;
-use crate::given::well_given;
 use operation::numbers::OperationNumbers;
 use operation::numbers::operation_of;
 use operation::row::row_of;
@@ -29,7 +29,7 @@ pub extern "C" fn teluddru_plan(
     plan: &mut [u32],
     answer: &mut [u32],
 ) -> u32
-    ensures { λ r. let T = lent nodes children numbers names strings text in ⌜ PlanCalledIn plan answer T marks operation scheduler scoping first second key r ⌝ }
+    ensures { λ r. ⌜ PlanCalledIn plan answer (lent nodes children numbers names strings text) marks operation scheduler scoping first second key r ⌝ }
 {
     let asked = OperationNumbers {
         number: operation,
@@ -39,10 +39,22 @@ pub extern "C" fn teluddru_plan(
         second,
         key,
     };
-    let scope = scope_of(marks, scheduler);
-    if !well_given(scope, asked) {
+    let made = scope_of(marks, scheduler);
+    let converted = made.answer;
+    let scope = made.scope;
+    let before = refused_first(
+        nodes,
+        children,
+        numbers,
+        names,
+        strings,
+        text,
+        converted,
+        asked,
+    );
+    if before != 0 {
         clear(plan);
-        return refuse(answer);
+        return refuse(answer, before);
     }
     let planned = operation::plan(
         nodes,

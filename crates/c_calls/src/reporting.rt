@@ -5,8 +5,8 @@ use crate::answer::refuse;
 use crate::answer::report_row;
 use crate::answer::tell;
 use crate::given::pattern_numbers;
+use crate::given::refused_first;
 use crate::given::scope_of;
-use crate::given::well_given;
 use operation::numbers::scoping_of;
 use planner::buffer::clear;
 use report::names_report;
@@ -29,10 +29,23 @@ pub extern "C" fn teluddru_names_report(
 ) -> u32
     ensures { λ r. let T = lent nodes children numbers names strings text in ⌜ ReportCalledIn list answer T marks scheduler scoping pattern r ⌝ }
 {
-    let scope = scope_of(marks, scheduler);
-    if !well_given(scope, pattern_numbers(scheduler, scoping, pattern)) {
+    let asked = pattern_numbers(scheduler, scoping, pattern);
+    let made = scope_of(marks, scheduler);
+    let converted = made.answer;
+    let scope = made.scope;
+    let before = refused_first(
+        nodes,
+        children,
+        numbers,
+        names,
+        strings,
+        text,
+        converted,
+        asked,
+    );
+    if before != 0 {
         clear(list);
-        return refuse(answer);
+        return refuse(answer, before);
     }
     let reported = names_report(
         nodes,

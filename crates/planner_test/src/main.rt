@@ -5,6 +5,7 @@ use planner::buffer::ENTRY_WORDS;
 use planner::destructuring::create_destructuring_plan;
 use planner::parameters::create_loop_index_binding_plan;
 use planner::parameters::create_parameter_binding_plan;
+use scope::ByteScope;
 use scope::Scope;
 use scope::ScopingMode;
 use table::TableRefusal;
@@ -140,11 +141,12 @@ fn scope() -> Scope {
     let mut marks = [0u8; 128];
     marks[2] = 1;
     marks[4] = 16;
-    Scope {
+    let made = Scope::from_bytes(ByteScope {
         marks,
         underscore: 4,
         scheduler: false,
-    }
+    });
+    made.scope
 }
 
 fn planned(operation: u32, scoping: ScopingMode, root: u32, plan: &mut [u32]) -> PlanAnswer {

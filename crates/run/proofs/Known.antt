@@ -7,7 +7,7 @@ use borrow.Author.Tests.{eqb-true, ne-eqb}
 use lib.Dec.{T as True, eqb, leb}
 use Rattle.scope.specs.declared.Scope.{Scope}
 use Rattle.scope.specs.declared.ScopingMode.{ScopingMode}
-use Rattle.scope.specs.Scope.{isUnderscore, isUnbound, known, marksOk}
+use Rattle.scope.specs.Scope.{isUnderscore, isUnbound, known}
 use Rattle.base.specs.Refusal.{passed}
 use Rattle.table.specs.Tables.{Tables, firstOf, nameCount}
 use Rattle.table.specs.Decode.{expr, isWildcard}
@@ -36,7 +36,7 @@ module _ (T : Tables) (s : Scope) (mode : ScopingMode) (sound : checked T s ≡ 
       go true p =
           let e = eqb-true x (s .underscore) p in
           let some : eqb (s .underscore) 0 ≡ false = ne-eqb (s .underscore) 0 (λ z. omega arith) in
-          let ok = and-true (marksOk s) _ (followed T s (passed-all T s sound .rules) .scope) .1 in
+          let ok = followed T s (passed-all T s sound .rules) .scope in
           let by = rw some at ok in
           let wild : isWildcard T (s .underscore) ≡ true = and-true (leb (s .underscore) (nameCount T)) (isWildcard T (s .underscore)) by .1 in
           absurd (false≢true (sym named ∙ (ap (isWildcard T) e ∙ wild)))

@@ -19,6 +19,7 @@ use report::ReportAnswer;
 use report::names_report;
 use run::RunAnswer;
 use run::run;
+use scope::ByteScope;
 use scope::Scope;
 use scope::ScopingMode;
 use table::TableRefusal;
@@ -75,7 +76,7 @@ fn numbers_of(list: &[u64], count: usize) -> &[u64] {
     list
 }
 
-// `.` none, `b` bound, `s` bound in this scope, `u` unbound, `l` local, `g` global, `!` above 31,
+// `.` none, `b` bound, `s` bound in this scope, `u` unbound, `l` local, `g` global,
 // `_` none, and the scope has its number for that of `_`.
 fn mark_of(byte: u8) -> u8 {
     match byte {
@@ -84,7 +85,6 @@ fn mark_of(byte: u8) -> u8 {
         b'u' => 4,
         b'l' => 8,
         b'g' => 16,
-        b'!' => 32,
         _ => 0,
     }
 }
@@ -102,11 +102,12 @@ fn scope_of(line: &[u8]) -> Scope {
     marks[1] = mark_of(byte_at(line, 9));
     marks[2] = mark_of(byte_at(line, 10));
     marks[3] = mark_of(byte_at(line, 11));
-    Scope {
+    let made = Scope::from_bytes(ByteScope {
         marks,
         underscore: underscore_of(byte_at(line, 11)),
         scheduler: false,
-    }
+    });
+    made.scope
 }
 
 fn scoping_of(line: &[u8]) -> ScopingMode {

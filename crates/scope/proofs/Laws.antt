@@ -1,9 +1,7 @@
 -- The promises of a scope's calls.
-use Prim.Native.Nat.{ℕ, _+_, _-_, _<_}
+use Prim.Native.Nat.{ℕ}
 use mathlib.Core.Path.{_≡_, refl, sym, ap, _∙_}
-use mathlib.Core.Bool.{Bool, true, false, cond, not, _&&_, _||_, and-true, and-false, or-true, and-eq-true-iff}
-use native.Mathlib.Omega.{arith}
-use lib.ListN.{length-set, length-map}
+use mathlib.Core.Bool.{Bool, true, false, cond, not, and-true, and-false, or-true, and-eq-true-iff}
 use Rattle.base.specs.Refusal.{nameOutside}
 use Rattle.scope.specs.declared.Scope.{Scope}
 use Rattle.scope.specs.declared.ScopingMode.{ScopingMode}
@@ -12,183 +10,143 @@ use Rattle.scope.specs.declared.ScopeAnswer.{ScopeAnswer}
 use Rattle.scope.specs.declared.ScopeAnswer.the-variants.{Done, NameOutside}
 use Rattle.scope.specs.declared.Binding.{Binding}
 use Rattle.scope.specs.declared.Binding.the-variants as Binding
-use Rattle.scope.specs.Scope.{isName, has, markOf, isUnderscore, byScoping, isUnbound, sameScope, bound, declaredUnbound, local, global, upperMarks, withLower, bindVariable, addUnboundVariable, withoutSame, childOf, newScope, smallMarks, marksOk, callOf, Question, told, turnedBack, asked, questionOf}
-use Rattle.scope.specs.Promises.{Sized, SameFrame, Kept, Alike, ChangedAt, BindPromise, AddPromise, ChildPromise, NewPromise, ScopePromise, AnswerLaws}
-use Rattle.scope.proofs.Marks.{lower-1, lower-2, lower-4, lower-8, lower-16, without-1, without-2, without-4, without-8, without-16, marks-at, marks-elsewhere, marks-child, getD-zeros, marks-bounded, small-set, small-without}
+use Rattle.scope.specs.Names.{isName, contains, noNames, countFrom, sizeOf}
+use Rattle.scope.specs.Says.{Says, nothing, bind, addUnbound, inChild, unboundUnder, boundHere, byScoping}
+use Rattle.scope.specs.Scope.{says, isUnderscore, isUnbound, sameScope, boundCount, changeable, boundAt, unboundAt, bindVariable, addUnboundVariable, childOf, newScope, callOf, Question, told, turnedBack, asked, questionOf}
+use Rattle.scope.specs.Promises.{SameFrame, ChangedAt, BindPromise, AddPromise, ChildPromise, NewPromise, ScopePromise, AnswerLaws}
+use Rattle.scope.proofs.Sets.{contains-none, with-it, with-others, without-it, without-others, count-same}
 
--- a name whose marks other than 2 are as before
-kept : {s t : Scope} → SameFrame s t → (x : ℕ) → has 1 (markOf t x) ≡ has 1 (markOf s x) → has 4 (markOf t x) ≡ has 4 (markOf s x)
-    → has 8 (markOf t x) ≡ has 8 (markOf s x) → has 16 (markOf t x) ≡ has 16 (markOf s x) → Kept s t x
-unfolding isUnderscore isUnbound bound declaredUnbound local global
-kept same x one four eight sixteen =
-    let u = same .underscore in
-    let h = same .scheduler in
-    record {
-      is-underscore = simp u;
-      is-unbound = λ mode. simp (u, h, one, four, eight, sixteen);
-      is-bound = one;
-      is-declared = four;
-      is-local = eight;
-      is-global = sixteen;
-    }
+-- a name that can be changed, and one that cannot
+module _ (s : Scope) (x : ℕ) where
+  pub changes : isName x ≡ true → isUnderscore s x ≡ false → changeable s x ≡ true
+  unfolding changeable
+  changes is other = simp (is, other)
 
--- a name whose marks are as before
-alike : {s t : Scope} → SameFrame s t → (x : ℕ) → markOf t x ≡ markOf s x → Alike s t x
-unfolding sameScope isUnderscore
-alike same x e = record { kept = kept same x (rw e) (rw e) (rw e) (rw e); same-scope = simp (same .underscore, e) }
+  pub no-name : isName x ≡ false → changeable s x ≡ false
+  unfolding changeable
+  no-name is = simp is
 
-same-frame : (s : Scope) → SameFrame s s
-same-frame s = record { underscore = refl; scheduler = refl; sized = λ h. h; marks-ok = λ h. h }
+  pub underscore-kept : isUnderscore s x ≡ true → changeable s x ≡ false
+  unfolding changeable
+  underscore-kept is = simp (is, and-false)
 
-module _ (lower : ℕ) (low : lower < 16) (s : Scope) (x : ℕ) where
-  lower-none : isName x ≡ false → withLower lower s x ≡ s
-  unfolding withLower
-  lower-none e = simp e
-
-  lower-underscore : isUnderscore s x ≡ true → withLower lower s x ≡ s
-  unfolding withLower
-  lower-underscore e = go (isName x) refl
-    where
-      go : (a : Bool) → isName x ≡ a → withLower lower s x ≡ s
-      go true f = simp (f, e)
-      go false f = lower-none f
-
-  lower-frame : SameFrame s (withLower lower s x)
-  unfolding withLower marksOk
-  lower-frame = go (isName x) (isUnderscore s x) refl refl
-    where
-      go : (a b : Bool) → isName x ≡ a → isUnderscore s x ≡ b → SameFrame s (withLower lower s x)
-      go false b e f = rw (lower-none e) (same-frame s)
-      go true true e f = rw (lower-underscore f) (same-frame s)
-      go true false e f = record {
-        underscore = simp (e, f);
-        scheduler = simp (e, f);
-        sized = λ h. simp (e, f, length-set) h;
-        marks-ok = λ h. let b = marks-bounded s h x in simp (e, f) (small-set (s .marks) (x - 1) (upperMarks (markOf s x) + lower) h (omega arith));
-      }
-
-  lower-changed : ChangedAt s (withLower lower s x) x
-  lower-changed = record {
-    frame = lower-frame;
-    others = λ y some other. alike lower-frame y (marks-elsewhere lower s x y some other);
-    outside = lower-none;
-    underscore = lower-underscore;
+-- A call that puts in place of s the scope t, where the name can be changed.
+module _ (change : Says → Says) (s t : Scope) (x : ℕ)
+    (under : t .underscore ≡ s .underscore)
+    (sched : t .scheduler ≡ s .scheduler)
+    (here : isName x ≡ true → says t x ≡ change (says s x))
+    (elsewhere : (y : ℕ) → (y ≡ x → ⊥) → says t y ≡ says s y) where
+  changed-at : ChangedAt change s (cond (changeable s x) t s) x
+  changed-at = record {
+    frame = frame (changeable s x);
+    at = λ is other. ap (λ r. says r x) (simp (changes s x is other)) ∙ here is;
+    others = λ y other. others (changeable s x) y other;
+    outside = λ is. simp (no-name s x is);
+    underscore = λ is. simp (underscore-kept s x is);
   }
+    where
+      frame : (b : Bool) → SameFrame s (cond b t s)
+      frame true = record { underscore = under; scheduler = sched }
+      frame false = record { underscore = refl; scheduler = refl }
 
-  -- what the scope then says of the name itself
-  module _ (sized : Sized s) (is : isName x ≡ true) (other : isUnderscore s x ≡ false) where
-    lower-mark : markOf (withLower lower s x) x ≡ upperMarks (markOf s x) + lower
-    lower-mark = marks-at lower s x sized is other
+      others : (b : Bool) (y : ℕ) → (y ≡ x → ⊥) → says (cond b t s) y ≡ says s y
+      others true y other = elsewhere y other
+      others false y other = refl
 
-    lower-other : isUnderscore (withLower lower s x) x ≡ false
-    unfolding isUnderscore
-    lower-other = simp (lower-frame .underscore) other
+-- what a scope with the same `_` and scheduler says
+module _ {s t : Scope} (same : SameFrame s t) where
+  unbound-from : (mode : ScopingMode) (x : ℕ) → isUnbound t mode x ≡ unboundUnder (isUnderscore s x) (s .scheduler) mode (says t x)
+  unfolding isUnbound isUnderscore
+  unbound-from mode x = simp (same .underscore, same .scheduler)
 
-    lower-bound : bound (withLower lower s x) x ≡ has 1 lower
-    unfolding bound
-    lower-bound = simp (lower-mark, lower-1 (markOf s x) lower low)
+  here-from : (x : ℕ) → sameScope t x ≡ boundHere (isUnderscore s x) (says t x)
+  unfolding sameScope isUnderscore
+  here-from x = simp (same .underscore)
 
-    lower-same : sameScope (withLower lower s x) x ≡ has 2 lower
-    unfolding sameScope
-    lower-same = simp (lower-other, lower-mark, lower-2 (markOf s x) lower low)
+bind-changed : (s : Scope) (x : ℕ) → ChangedAt bind s (bindVariable s x) x
+unfolding bindVariable says
+bind-changed s x = changed-at bind s (boundAt s x) x refl refl
+    (λ is. simp (with-it (s .bound) x is, with-it (s .here) x is, without-it (s .unbound) x is, without-it (s .local) x is))
+    (λ y other. simp (with-others (s .bound) x y other, with-others (s .here) x y other, without-others (s .unbound) x y other, without-others (s .local) x y other))
 
-    lower-declared : declaredUnbound (withLower lower s x) x ≡ has 4 lower
-    unfolding declaredUnbound
-    lower-declared = simp (lower-mark, lower-4 (markOf s x) lower low)
-
-    lower-local : local (withLower lower s x) x ≡ has 8 lower
-    unfolding local
-    lower-local = simp (lower-mark, lower-8 (markOf s x) lower low)
-
-    lower-global : global (withLower lower s x) x ≡ global s x
-    unfolding global
-    lower-global = simp (lower-mark, lower-16 (markOf s x) lower low)
-
-    lower-unbound : (mode : ScopingMode) → isUnbound (withLower lower s x) mode x
-        ≡ ((has 4 lower || (s .scheduler && has 8 lower)) || byScoping mode (has 1 lower || global s x))
-    unfolding isUnbound
-    lower-unbound mode = simp (lower-other, lower-declared, lower-local, lower-bound, lower-global, lower-frame .scheduler)
-
-pub bind-promise : (s : Scope) (x : ℕ) → Sized s → BindPromise s x
-unfolding bindVariable
-bind-promise s x sized =
-    let low : 3 < 16 = omega arith in
+pub bind-promise : (s : Scope) (x : ℕ) → BindPromise s x
+bind-promise s x =
+    let same = bind-changed s x in
     record {
-      changed = lower-changed 3 low s x;
-      binds = λ is other. record {
-        respects = lower-unbound 3 low s x sized is other RespectParent ∙ simp and-false;
-        shadows = lower-unbound 3 low s x sized is other AllowShadowing ∙ simp and-false;
-        same-scope = lower-same 3 low s x sized is other;
-        is-bound = lower-bound 3 low s x sized is other;
-        is-declared = lower-declared 3 low s x sized is other;
-        is-local = lower-local 3 low s x sized is other;
-        is-global = lower-global 3 low s x sized is other;
-      };
+      changed = same;
+      respects = λ is other. unbound-from (same .frame) RespectParent x ∙ simp (same .at is other, other, and-false);
+      shadows = λ is other. unbound-from (same .frame) AllowShadowing x ∙ simp (same .at is other, other, and-false);
+      same-scope = λ is other. here-from (same .frame) x ∙ simp (same .at is other, other);
     }
 
-pub add-promise : (s : Scope) (x : ℕ) → Sized s → AddPromise s x
-unfolding addUnboundVariable
-add-promise s x sized =
-    let low : 4 < 16 = omega arith in
+add-changed : (s : Scope) (x : ℕ) → ChangedAt addUnbound s (addUnboundVariable s x) x
+unfolding addUnboundVariable says
+add-changed s x = changed-at addUnbound s (unboundAt s x) x refl refl
+    (λ is. simp (without-it (s .bound) x is, without-it (s .here) x is, with-it (s .unbound) x is, without-it (s .local) x is))
+    (λ y other. simp (without-others (s .bound) x y other, without-others (s .here) x y other, with-others (s .unbound) x y other, without-others (s .local) x y other))
+
+pub add-promise : (s : Scope) (x : ℕ) → AddPromise s x
+add-promise s x =
+    let same = add-changed s x in
     record {
-      changed = lower-changed 4 low s x;
-      unbinds = λ is other. record {
-        is-unbound = lower-unbound 4 low s x sized is other;
-        same-scope = lower-same 4 low s x sized is other;
-        is-bound = lower-bound 4 low s x sized is other;
-        is-declared = lower-declared 4 low s x sized is other;
-        is-local = lower-local 4 low s x sized is other;
-        is-global = lower-global 4 low s x sized is other;
-      };
+      changed = same;
+      is-unbound = λ is other mode. unbound-from (same .frame) mode x ∙ simp (same .at is other, other);
+      same-scope = λ is other. here-from (same .frame) x ∙ simp (same .at is other, other);
     }
 
 child-frame : (s : Scope) → SameFrame s (childOf s)
-unfolding childOf marksOk
-child-frame s = record { underscore = refl; scheduler = refl; sized = λ h. length-map (s .marks) withoutSame ∙ h; marks-ok = small-without (s .marks) }
+unfolding childOf
+child-frame s = record { underscore = refl; scheduler = refl }
+
+child-says : (s : Scope) (x : ℕ) → says (childOf s) x ≡ inChild (says s x)
+unfolding childOf says
+child-says s x = simp (contains-none x)
+
+child-unbound : (s : Scope) (mode : ScopingMode) (x : ℕ) → isUnbound (childOf s) mode x ≡ isUnbound s mode x
+unfolding isUnbound
+child-unbound s mode x = unbound-from (child-frame s) mode x ∙ simp (child-says s x)
+
+child-count : (s : Scope) → boundCount (childOf s) ≡ boundCount s
+unfolding boundCount childOf
+child-count s = refl
 
 pub child-promise : (s : Scope) → ChildPromise s
-unfolding sameScope
 child-promise s = record {
   frame = child-frame s;
-  kept = λ x.
-      let m : ℕ = markOf s x in
-      let e = marks-child s x in
-      kept (child-frame s) x (simp (e, without-1 m)) (simp (e, without-4 m)) (simp (e, without-8 m)) (simp (e, without-16 m));
-  same-scope = λ x. simp (marks-child s x, without-2 (markOf s x), and-false);
+  all = child-says s;
+  is-unbound = child-unbound s;
+  same-scope = λ x. here-from (child-frame s) x ∙ simp (child-says s x, and-false);
+  count = child-count s;
 }
 
 -- a new scope has no mark
 module _ (u : ℕ) (h : Bool) where
-  new-mark : (x : ℕ) → markOf (newScope u h) x ≡ 0
-  unfolding newScope
-  new-mark x = getD-zeros 128 (x - 1)
+  new-says : (x : ℕ) → says (newScope u h) x ≡ nothing
+  unfolding newScope says
+  new-says x = simp (contains-none x)
 
   by-none : (mode : ScopingMode) → byScoping mode false ≡ true
   by-none AllowShadowing = refl
   by-none RespectParent = refl
 
   new-unbound : (mode : ScopingMode) (x : ℕ) → isUnbound (newScope u h) mode x ≡ not (isUnderscore (newScope u h) x)
-  unfolding isUnbound bound declaredUnbound local global
-  new-unbound mode x = simp (new-mark x, and-false, by-none mode, and-true)
+  unfolding isUnbound
+  new-unbound mode x = simp (new-says x, and-false, by-none mode, and-true)
 
   new-same : (x : ℕ) → sameScope (newScope u h) x ≡ false
   unfolding sameScope
-  new-same x = simp (new-mark x, and-false)
+  new-same x = simp (new-says x, and-false)
+
+  new-count : boundCount (newScope u h) ≡ 0
+  unfolding boundCount newScope sizeOf countFrom
+  new-count = count-same (contains noNames) (λ _. false) 1 1 128 (λ k lt. contains-none _) ∙ none
+    where
+      none : countFrom (λ _. false) 1 128 ≡ 0
+      none = refl
 
   pub new-promise : NewPromise u h
-  unfolding newScope marksOk smallMarks bound declaredUnbound local global
-  new-promise = record {
-    underscore = refl;
-    scheduler = refl;
-    sized = refl;
-    marks-ok = refl;
-    is-unbound = new-unbound;
-    same-scope = new-same;
-    is-bound = λ x. rw (new-mark x);
-    is-declared = λ x. rw (new-mark x);
-    is-local = λ x. rw (new-mark x);
-    is-global = λ x. rw (new-mark x);
-  }
+  unfolding newScope
+  new-promise = record { underscore = refl; scheduler = refl; all = new-says; is-unbound = new-unbound; same-scope = new-same; count = new-count }
 
 shadows : (s : Scope) (x : ℕ) → isUnbound s AllowShadowing x ≡ not (isUnderscore s x)
 unfolding isUnbound

@@ -1,4 +1,8 @@
+pub mod Bits
+pub mod Sets
+pub mod Words
+pub mod Small
 pub mod Marks
-pub mod Loops
 pub mod Cases
 pub mod Laws
+pub mod Agreeing

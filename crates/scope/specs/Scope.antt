@@ -1,57 +1,37 @@
--- What a scope says of a name, and what each call makes of a scope.
-use Prim.Native.Nat.{ℕ, _+_, _-_, _*_, _/_, _%_}
+-- A scope as bit words: what it says of a name, and what each call makes of it.
+use Prim.Native.Nat.{ℕ}
 use mathlib.Core.Path.{_≡_}
-use mathlib.Core.Bool.{Bool, true, false, cond, not, _&&_, _||_}
-use mathlib.Core.List.{List, [], _∷_, map}
-use lib.Dec.{eqb, leb}
-use lib.ListN.{getD, set, replicate}
+use mathlib.Core.Bool.{Bool, true, false, cond, not, _&&_}
+use lib.Dec.{eqb}
 use Rattle.base.specs.Refusal.{Refusal, nameOutside, Tested, passed, refused, require, requireOr}
 use Rattle.scope.specs.declared.Scope.{Scope}
 use Rattle.scope.specs.declared.ScopingMode.{ScopingMode}
-use Rattle.scope.specs.declared.ScopingMode.the-variants.{RespectParent, AllowShadowing}
 use Rattle.scope.specs.declared.Changed.{Changed}
 use Rattle.scope.specs.declared.ScopeAnswer.{ScopeAnswer}
 use Rattle.scope.specs.declared.ScopeAnswer.the-variants.{Done, NameOutside}
 use Rattle.scope.specs.declared.Binding.{Binding}
 use Rattle.scope.specs.declared.Binding.the-variants as Binding
+unfoldable pub use Rattle.scope.specs.Names.{isName}
+use Rattle.scope.specs.Names.{contains, withName, withoutName, noNames, sizeOf}
+use Rattle.scope.specs.Says.{Says, unboundUnder, boundHere}
 
--- a name's number is 1 to 128
-unfoldable pub isName : ℕ → Bool
-isName x = leb 1 x && leb x 128
-
--- Marks, summed: 1 bound, 2 bound in this scope, 4 unbound, 8 local, 16 global.
-abbrev pub has : ℕ → ℕ → Bool
-has k m = eqb (m / k % 2) 1
-
-abbrev pub markOf : Scope → ℕ → ℕ
-markOf s x = getD (s .marks) (x - 1) 0
-
-unfoldable pub bound : Scope → ℕ → Bool
-bound s x = has 1 (markOf s x)
-
-unfoldable pub declaredUnbound : Scope → ℕ → Bool
-declaredUnbound s x = has 4 (markOf s x)
-
-unfoldable pub local : Scope → ℕ → Bool
-local s x = has 8 (markOf s x)
-
-unfoldable pub global : Scope → ℕ → Bool
-global s x = has 16 (markOf s x)
+-- what it says of a name: nothing of any other number
+unfoldable pub says : Scope → ℕ → Says
+says s x =
+    record {
+      bound = contains (s .bound) x;
+      here = contains (s .here) x;
+      unbound = contains (s .unbound) x;
+      local = contains (s .local) x;
+      global = contains (s .global) x;
+    }
 
 -- the number of `_`, which may be 0 for none
 unfoldable pub isUnderscore : Scope → ℕ → Bool
 isUnderscore s x = eqb x (s .underscore)
 
--- what the scoping says of a name that is neither marked unbound nor local under a scheduler
-abbrev pub byScoping : ScopingMode → Bool → Bool
-byScoping AllowShadowing taken = true
-byScoping RespectParent taken = not taken
-
--- Is the name unbound under the scoping? `_` never is.
 unfoldable pub isUnbound : Scope → ScopingMode → ℕ → Bool
-isUnbound s mode x =
-    not (isUnderscore s x)
-    && ((declaredUnbound s x || (s .scheduler && local s x)) || byScoping mode (bound s x || global s x))
+isUnbound s mode x = unboundUnder (isUnderscore s x) (s .scheduler) mode (says s x)
 
 -- Document 01's "known": not unbound under the scoping at work; `_` is not counted.
 unfoldable pub known : Scope → ScopingMode → ℕ → Bool
@@ -59,47 +39,73 @@ known s mode x = not (isUnderscore s x) && not (isUnbound s mode x)
 
 -- Is the name bound in this very scope?
 unfoldable pub sameScope : Scope → ℕ → Bool
-sameScope s x = not (isUnderscore s x) && has 2 (markOf s x)
+sameScope s x = boundHere (isUnderscore s x) (says s x)
 
-abbrev pub withMarks : Scope → List ℕ → Scope
-withMarks s ms = record { marks = ms; underscore = s .underscore; scheduler = s .scheduler }
+-- how many of the names 1 to 128 are bound
+unfoldable pub boundCount : Scope → ℕ
+boundCount s = sizeOf (s .bound)
 
--- a mark's 1, 2, 4 and 8 taken out
-abbrev pub upperMarks : ℕ → ℕ
-upperMarks m = m / 16 * 16
-
-abbrev pub changeable : Scope → ℕ → Bool
+-- a name other than `_`
+unfoldable pub changeable : Scope → ℕ → Bool
 changeable s x = isName x && not (isUnderscore s x)
 
--- a name's 1, 2, 4 and 8 replaced
-unfoldable pub withLower : ℕ → Scope → ℕ → Scope
-withLower lower s x = cond (changeable s x) (withMarks s (set (s .marks) (x - 1) (upperMarks (markOf s x) + lower))) s
-
 -- sets 1 and 2, clears 4 and 8
-unfoldable pub bindVariable : Scope → ℕ → Scope
-bindVariable s x = withLower 3 s x
+abbrev pub boundAt : Scope → ℕ → Scope
+boundAt s x =
+    record {
+      bound = withName (s .bound) x;
+      here = withName (s .here) x;
+      unbound = withoutName (s .unbound) x;
+      local = withoutName (s .local) x;
+      global = s .global;
+      underscore = s .underscore;
+      scheduler = s .scheduler;
+    }
 
 -- sets 4, clears 1, 2 and 8
+abbrev pub unboundAt : Scope → ℕ → Scope
+unboundAt s x =
+    record {
+      bound = withoutName (s .bound) x;
+      here = withoutName (s .here) x;
+      unbound = withName (s .unbound) x;
+      local = withoutName (s .local) x;
+      global = s .global;
+      underscore = s .underscore;
+      scheduler = s .scheduler;
+    }
+
+-- neither call touches `_` or 16
+unfoldable pub bindVariable : Scope → ℕ → Scope
+bindVariable s x = cond (changeable s x) (boundAt s x) s
+
 unfoldable pub addUnboundVariable : Scope → ℕ → Scope
-addUnboundVariable s x = withLower 4 s x
+addUnboundVariable s x = cond (changeable s x) (unboundAt s x) s
 
--- a mark without 2
-abbrev pub withoutSame : ℕ → ℕ
-withoutSame m = m - m / 2 % 2 * 2
-
+-- clears 2
 unfoldable pub childOf : Scope → Scope
-childOf s = withMarks s (map withoutSame (s .marks))
+childOf s =
+    record {
+      bound = s .bound;
+      here = noNames;
+      unbound = s .unbound;
+      local = s .local;
+      global = s .global;
+      underscore = s .underscore;
+      scheduler = s .scheduler;
+    }
 
 unfoldable pub newScope : ℕ → Bool → Scope
-newScope underscore scheduler = record { marks = replicate 128 0; underscore = underscore; scheduler = scheduler }
-
--- Is every mark at most 31?
-unfoldable pub smallMarks : List ℕ → Bool
-smallMarks [] = true
-smallMarks (m ∷ ms) = leb m 31 && smallMarks ms
-
-unfoldable pub marksOk : Scope → Bool
-marksOk s = smallMarks (s .marks)
+newScope underscore scheduler =
+    record {
+      bound = noNames;
+      here = noNames;
+      unbound = noNames;
+      local = noNames;
+      global = noNames;
+      underscore = underscore;
+      scheduler = scheduler;
+    }
 
 -- A name outside 1 to 128 is turned back, and the scope returns as given.
 abbrev pub named : ℕ → Tested

@@ -1,12 +1,32 @@
 // Scopes (compiler/context.rs, and the impl of VariableBindingContext for ScopeContext in hoist.rs).
+use bytes::marked;
+use bytes::marks_ok;
+use bytes::weight;
+use name_set::NameSet;
+use name_set::is_name;
 ghost use mathlib.Core.Path.{_≡_};
-ghost use mathlib.Core.Bool.{true, _&&_, _||_};
-ghost use Prim.Native.Nat.{_<_};
-ghost use Rattle.scope.specs.Scope.{isName, has, markOf, newScope, childOf, withLower, bindVariable, addUnboundVariable, isUnbound, sameScope, marksOk, Called, asked, questionOf};
+ghost use Rattle.scope.specs.Says.{markedUnbound, taken};
+ghost use Rattle.scope.specs.Scope.{says, newScope, childOf, bindVariable, addUnboundVariable, changeable, isUnbound, sameScope, boundCount, named, callOf, Called, asked, questionOf};
+ghost use Rattle.scope.specs.Bytes.{sumOf, bytesOf, ConvertedFrom};
 
-// The marks of name x stand at marks[x - 1], summed: 1 bound, 2 bound in this scope, 4 unbound,
-// 8 local, 16 global. `underscore` is the number of the name `_`, or 0.
+mod bytes;
+pub mod name_set;
+
+// The names with each mark: bound, bound in this scope, unbound, local, global. `underscore` is
+// the number of the name `_`, or 0.
 pub struct Scope {
+    pub bound: NameSet,
+    pub here: NameSet,
+    pub unbound: NameSet,
+    pub local: NameSet,
+    pub global: NameSet,
+    pub underscore: u32,
+    pub scheduler: bool,
+}
+
+// The byte layout, for sheets: the marks of name x stand at marks[x - 1], summed: 1 bound, 2 bound
+// in this scope, 4 unbound, 8 local, 16 global.
+pub struct ByteScope {
     pub marks: [u8; 128],
     pub underscore: u32,
     pub scheduler: bool,
@@ -28,87 +48,98 @@ pub struct Changed {
     pub scope: Scope,
 }
 
+pub enum ConversionAnswer {
+    Done,
+    MarkOutside,
+}
+
+// A scope beside the answer of the conversion that made it.
+pub struct Converted {
+    pub answer: ConversionAnswer,
+    pub scope: Scope,
+}
+
 pub enum Binding {
     Yes,
     No,
     NameOutside,
 }
 
-fn is_name(name: u32) -> bool
-    ensures { λ r. ⌜ r ≡ isName name ⌝ }
+fn answer_of(name: u32) -> ScopeAnswer
+    ensures { λ r. ⌜ callOf r ≡ named name ⌝ }
 {
-    if name < 1 {
-        return false;
+    if is_name(name) {
+        return ScopeAnswer::Done;
     }
-    if 128 < name {
-        return false;
-    }
-    true
-}
-
-// unbound by mark 4, or by mark 8 under a scheduler
-fn marked_unbound(mark: u8, scheduler: bool) -> bool
-    ensures { λ r. ⌜ r ≡ has 4 mark || (scheduler && has 8 mark) ⌝ }
-{
-    let local = mark / 8 % 2 == 1;
-    if mark / 4 % 2 == 1 {
-        return true;
-    }
-    if scheduler {
-        return local;
-    }
-    false
-}
-
-// bound or global
-fn marked_taken(mark: u8) -> bool
-    ensures { λ r. ⌜ r ≡ has 1 mark || has 16 mark ⌝ }
-{
-    if mark % 2 == 1 {
-        return true;
-    }
-    mark / 16 % 2 == 1
+    ScopeAnswer::NameOutside
 }
 
 impl Scope {
     pub fn new(underscore: u32, scheduler: bool) -> Self
         ensures { λ r. ⌜ r ≡ newScope underscore scheduler ⌝ }
     {
+        let none = NameSet::empty();
         Self {
-            marks: [0u8; 128],
+            bound: none,
+            here: none,
+            unbound: none,
+            local: none,
+            global: none,
             underscore,
             scheduler,
         }
     }
 
     // The same scope with no name bound in it.
-    pub fn child(self) -> Self
+    pub fn child(mut self) -> Self
         ensures { λ r. ⌜ r ≡ childOf self ⌝ }
     {
-        let mut marks = self.marks;
-        let mut i: usize = 0;
-        while i < 128 {
-            let mark = marks[i];
-            marks[i] = mark - mark / 2 % 2 * 2;
-            i += 1;
-        }
-        Self {
-            marks,
-            underscore: self.underscore,
-            scheduler: self.scheduler,
-        }
+        self.here = NameSet::empty();
+        self
     }
 
     pub fn bind_variable(self, name: u32) -> Changed
         ensures { λ r. ⌜ Called name (bindVariable self name) r ⌝ }
     {
-        self.with_lower(name, 3)
+        let answer = answer_of(name);
+        if !self.changeable(name) {
+            return Changed {
+                answer,
+                scope: self,
+            };
+        }
+        let bound = self.bound;
+        let here = self.here;
+        let unbound = self.unbound;
+        let local = self.local;
+        let mut scope = self;
+        scope.bound = bound.with(name);
+        scope.here = here.with(name);
+        scope.unbound = unbound.without(name);
+        scope.local = local.without(name);
+        Changed { answer, scope }
     }
 
     pub fn add_unbound_variable(self, name: u32) -> Changed
         ensures { λ r. ⌜ Called name (addUnboundVariable self name) r ⌝ }
     {
-        self.with_lower(name, 4)
+        let answer = answer_of(name);
+        if !self.changeable(name) {
+            return Changed {
+                answer,
+                scope: self,
+            };
+        }
+        let bound = self.bound;
+        let here = self.here;
+        let unbound = self.unbound;
+        let local = self.local;
+        let mut scope = self;
+        scope.bound = bound.without(name);
+        scope.here = here.without(name);
+        scope.unbound = unbound.with(name);
+        scope.local = local.without(name);
+        Changed { answer, scope }
     }
 
     pub fn is_var_unbound(self, name: u32, scoping: ScopingMode) -> Binding
@@ -121,15 +152,13 @@ impl Scope {
         if name == underscore {
             return Binding::No; // under both scopings
         }
-        let scheduler = self.scheduler;
-        let mark = self.mark(name);
-        if marked_unbound(mark, scheduler) {
+        if self.marked_unbound(name) {
             return Binding::Yes;
         }
         match scoping {
             ScopingMode::AllowShadowing => Binding::Yes,
             ScopingMode::RespectParent => {
-                if marked_taken(mark) {
+                if self.taken(name) {
                     return Binding::No;
                 }
                 Binding::Yes
@@ -147,63 +176,113 @@ impl Scope {
         if name == underscore {
             return Binding::No;
         }
-        let mark = self.mark(name);
-        if mark / 2 % 2 == 1 {
+        let here = self.here;
+        if here.contains(name) {
             return Binding::Yes;
         }
         Binding::No
     }
 
-    // Is every mark at most 31? No way out of the loop: so it becomes vector code.
-    pub fn marks_ok(self) -> bool
-        ensures { λ r. ⌜ r ≡ marksOk self ⌝ }
+    // How many names are bound.
+    pub fn bound_count(self) -> u32
+        ensures { λ r. ⌜ r ≡ boundCount self ⌝ }
     {
-        let marks = self.marks;
-        let mut small = true;
-        let mut i: usize = 0;
-        while i < 128 {
-            small = small & (marks[i] <= 31);
-            i += 1;
-        }
-        small
+        let bound = self.bound;
+        bound.count()
     }
 
-    fn mark(self, name: u32) -> u8
-        requires { ⌜ isName name ≡ true ⌝ }
-        ensures { λ r. ⌜ r ≡ markOf self name ⌝ }
+    // Marks above 31 are refused, with an empty scope.
+    pub fn from_bytes(bytes: ByteScope) -> Converted
+        ensures { λ r. ⌜ ConvertedFrom bytes r ⌝ }
     {
-        let marks = self.marks;
-        marks[name as usize - 1]
-    }
-
-    // Marks 1, 2, 4 and 8 of a name are replaced by `lower`.
-    fn with_lower(self, name: u32, lower: u8) -> Changed
-        requires { ⌜ lower < 16 ⌝ }
-        ensures { λ r. ⌜ Called name (withLower lower self name) r ⌝ }
-    {
-        if !is_name(name) {
-            return Changed {
-                answer: ScopeAnswer::NameOutside,
-                scope: self,
+        if !marks_ok(bytes) {
+            return Converted {
+                answer: ConversionAnswer::MarkOutside,
+                scope: Self::new(0, false),
             };
         }
-        let underscore = self.underscore;
-        if name == underscore {
-            return Changed {
-                answer: ScopeAnswer::Done,
-                scope: self,
-            };
-        }
-        let mark = self.mark(name);
-        let mut marks = self.marks;
-        marks[name as usize - 1] = mark / 16 * 16 + lower;
-        Changed {
-            answer: ScopeAnswer::Done,
-            scope: Scope {
-                marks,
-                underscore,
-                scheduler: self.scheduler,
+        let marks = bytes.marks;
+        Converted {
+            answer: ConversionAnswer::Done,
+            scope: Self {
+                bound: marked(&marks, 0),
+                here: marked(&marks, 1),
+                unbound: marked(&marks, 2),
+                local: marked(&marks, 3),
+                global: marked(&marks, 4),
+                underscore: bytes.underscore,
+                scheduler: bytes.scheduler,
             },
         }
+    }
+
+    pub fn to_bytes(self) -> ByteScope
+        ensures { λ r. ⌜ r ≡ bytesOf self ⌝ }
+    {
+        let mut marks = [0u8; 128];
+        let mut i: usize = 0;
+        while i < 128 {
+            marks[i] = self.mark(i as u32 + 1);
+            i += 1;
+        }
+        ByteScope {
+            marks,
+            underscore: self.underscore,
+            scheduler: self.scheduler,
+        }
+    }
+
+    // Is it a name other than `_`?
+    fn changeable(self, name: u32) -> bool
+        ensures { λ r. ⌜ r ≡ changeable self name ⌝ }
+    {
+        if !is_name(name) {
+            return false;
+        }
+        let underscore = self.underscore;
+        name != underscore
+    }
+
+    // unbound by its mark, or local under a scheduler
+    fn marked_unbound(self, name: u32) -> bool
+        ensures { λ r. ⌜ r ≡ markedUnbound (self .scheduler) (says self name) ⌝ }
+    {
+        let unbound = self.unbound;
+        if unbound.contains(name) {
+            return true;
+        }
+        if self.scheduler {
+            let local = self.local;
+            return local.contains(name);
+        }
+        false
+    }
+
+    // bound or global
+    fn taken(self, name: u32) -> bool
+        ensures { λ r. ⌜ r ≡ taken (says self name) ⌝ }
+    {
+        let bound = self.bound;
+        if bound.contains(name) {
+            return true;
+        }
+        let global = self.global;
+        global.contains(name)
+    }
+
+    // The marks of a name, summed.
+    fn mark(self, name: u32) -> u8
+        ensures { λ r. ⌜ r ≡ sumOf self name ⌝ }
+    {
+        let bound = self.bound;
+        let here = self.here;
+        let unbound = self.unbound;
+        let local = self.local;
+        let global = self.global;
+        weight(bound, name, 1)
+            + weight(here, name, 2)
+            + weight(unbound, name, 4)
+            + weight(local, name, 8)
+            + weight(global, name, 16)
     }
 }

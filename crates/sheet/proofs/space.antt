@@ -1,2 +1,3 @@
 pub mod PlanListing
+pub mod Scopes
 pub mod SpaceTests

@@ -8,6 +8,8 @@ use Rattle.table.specs.Rules.{countsWithinLimits}
 use Rattle.base.specs.Refusal.{Refusal, overLimit, layoutBroken, requireOr}
 use Rattle.base.specs.Lists.{part, allFrom, tabulate}
 use Rattle.scope.specs.declared.Scope.{Scope}
+use Rattle.scope.specs.declared.ByteScope.{ByteScope}
+use Rattle.scope.specs.Bytes.{ofBytes}
 use Rattle.table.specs.Tables.{Tables, tables}
 use Rattle.sheet.specs.declared.header.Counts.{Counts}
 use Rattle.operation.specs.declared.numbers.OperationNumbers.{OperationNumbers}
@@ -141,5 +143,9 @@ unfoldable pub parse : List ℕ → Parsed
 parse sheet = require (isLine sheet line1 6) layoutBroken (parsedBy sheet (countsOf sheet))
 
 -- The scope. Planning tells `_` by its bytes, so the scope's number of `_` makes no difference, and is 0.
+abbrev pub bytesOf : OperationNumbers → List ℕ → ByteScope
+bytesOf o marks = record { marks = marks; underscore = 0; scheduler = eqb (o .scheduler) 1 }
+
+-- the marks of the names, and no mark of a name past them
 abbrev pub scopeOf : OperationNumbers → List ℕ → Scope
-scopeOf o marks = record { marks = marks ++ replicate (128 - length marks) 0; underscore = 0; scheduler = eqb (o .scheduler) 1 }
+scopeOf o marks = ofBytes (bytesOf o (marks ++ replicate (128 - length marks) 0))

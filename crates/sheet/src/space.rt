@@ -7,7 +7,7 @@ ghost use lib.ListN.{length};
 ghost use Rattle.base.specs.Lent.{old};
 ghost use Rattle.sheet.specs.Listing.{listingOf};
 ghost use Rattle.sheet.specs.code.Header.{Headed};
-ghost use Rattle.sheet.specs.code.Post.{planWords, smallWords, PrintedIn, TriedIn, SheetHeld};
+ghost use Rattle.sheet.specs.code.Post.{planWords, smallWords, scopeIn, PrintedIn, TriedIn, SheetHeld};
 use crate::header::Header;
 use crate::header::MOST_CHILDREN;
 use crate::header::MOST_NAMES;
@@ -16,10 +16,12 @@ use crate::header::MOST_NUMBERS;
 use crate::listing::refuse;
 use crate::listing::write_lines;
 use crate::tables::read_tables;
+use operation::numbers::OperationNumbers;
 use operation::numbers::operation_of;
 use operation::row::Row;
 use operation::row::row_of;
 use planner::buffer::ENTRY_WORDS;
+use scope::ByteScope;
 use scope::Scope;
 
 const PLAN_WORDS: usize = ENTRY_WORDS * 1536;
@@ -45,6 +47,18 @@ fn needs_more(first: Row, words: usize) -> bool
     false
 }
 
+// The scope of a sheet. A good layout has no mark above 31, so none is refused here.
+fn scope_of(marks: &[u8; 128], operation: OperationNumbers) -> Scope
+    ensures { λ r. ⌜ r ≡ scopeIn operation (old marks) ⌝ }
+{
+    let made = Scope::from_bytes(ByteScope {
+        marks: *marks,
+        underscore: 0,
+        scheduler: operation.scheduler == 1,
+    });
+    made.scope
+}
+
 // A sheet whose tables stand in arrays, perhaps longer than they are, planned and listed.
 fn plan_tables(
     sheet: &[u8],
@@ -53,11 +67,11 @@ fn plan_tables(
     children: &[u32],
     numbers: &[u64],
     names: &[u32],
-    marks: &[u8; 128],
+    scope: Scope,
     plan: &mut [u32],
     out: &mut [u8],
 ) -> Tried
-    requires { ⌜ SheetHeld (now sheet) header (now nodes) (now children) (now numbers) (now names) (now marks) × (length (now plan) ≤ planWords) ⌝ }
+    requires { ⌜ SheetHeld (now sheet) header (now nodes) (now children) (now numbers) (now names) scope × (length (now plan) ≤ planWords) ⌝ }
     ensures { λ r. ⌜ TriedIn out (listingOf (old sheet)) (length (old plan)) r ⌝ }
 {
     let counts = header.counts;
@@ -70,11 +84,6 @@ fn plan_tables(
     let strings = places.strings;
     let text = places.text;
     let end = places.end;
-    let scope = Scope {
-        marks: *marks,
-        underscore: 0,
-        scheduler: operation.scheduler == 1,
-    };
     let answer = operation::plan(
         &nodes[..node_words],
         &children[..child_words],
@@ -100,10 +109,10 @@ fn plan_small(
     children: &[u32],
     numbers: &[u64],
     names: &[u32],
-    marks: &[u8; 128],
+    scope: Scope,
     out: &mut [u8],
 ) -> Tried
-    requires { ⌜ SheetHeld (now sheet) header (now nodes) (now children) (now numbers) (now names) (now marks) ⌝ }
+    requires { ⌜ SheetHeld (now sheet) header (now nodes) (now children) (now numbers) (now names) scope ⌝ }
     ensures { λ r. ⌜ TriedIn out (listingOf (old sheet)) smallWords r ⌝ }
 {
     let mut plan = [0u32; SMALL_PLAN_WORDS];
@@ -114,7 +123,7 @@ fn plan_small(
         children,
         numbers,
         names,
-        marks,
+        scope,
         &mut plan,
         out,
     )
@@ -127,10 +136,10 @@ fn plan_full(
     children: &[u32],
     numbers: &[u64],
     names: &[u32],
-    marks: &[u8; 128],
+    scope: Scope,
     out: &mut [u8],
 ) -> usize
-    requires { ⌜ SheetHeld (now sheet) header (now nodes) (now children) (now numbers) (now names) (now marks) ⌝ }
+    requires { ⌜ SheetHeld (now sheet) header (now nodes) (now children) (now numbers) (now names) scope ⌝ }
     ensures { λ r. ⌜ PrintedIn out (listingOf (old sheet)) r ⌝ }
 {
     let mut plan = [0u32; PLAN_WORDS];
@@ -141,7 +150,7 @@ fn plan_full(
         children,
         numbers,
         names,
-        marks,
+        scope,
         &mut plan,
         out,
     ) {
@@ -159,18 +168,18 @@ fn plan_held(
     children: &[u32],
     numbers: &[u64],
     names: &[u32],
-    marks: &[u8; 128],
+    scope: Scope,
     out: &mut [u8],
 ) -> usize
-    requires { ⌜ SheetHeld (now sheet) header (now nodes) (now children) (now numbers) (now names) (now marks) ⌝ }
+    requires { ⌜ SheetHeld (now sheet) header (now nodes) (now children) (now numbers) (now names) scope ⌝ }
     ensures { λ r. ⌜ PrintedIn out (listingOf (old sheet)) r ⌝ }
 {
     if SMALL_NODES < header.counts.nodes {
-        return plan_full(sheet, header, nodes, children, numbers, names, marks, out);
+        return plan_full(sheet, header, nodes, children, numbers, names, scope, out);
     }
-    match plan_small(sheet, header, nodes, children, numbers, names, marks, out) {
+    match plan_small(sheet, header, nodes, children, numbers, names, scope, out) {
         Tried::Listed(bytes) => bytes,
-        Tried::TooLarge => plan_full(sheet, header, nodes, children, numbers, names, marks, out),
+        Tried::TooLarge => plan_full(sheet, header, nodes, children, numbers, names, scope, out),
     }
 }
 
@@ -194,6 +203,7 @@ fn plan_in(sheet: &[u8], header: Header, nodes: &mut [u32], out: &mut [u8]) -> u
     ) {
         return refuse(7, out);
     }
+    let scope = scope_of(&marks, header.operation);
     plan_held(
         sheet,
         header,
@@ -201,7 +211,7 @@ fn plan_in(sheet: &[u8], header: Header, nodes: &mut [u32], out: &mut [u8]) -> u
         &children,
         &numbers,
         &names,
-        &marks,
+        scope,
         out,
     )
 }

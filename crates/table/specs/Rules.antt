@@ -7,7 +7,6 @@ use lib.ListN.{length, getD}
 use Rattle.base.specs.Lists.{allFrom, noRepeat, part}
 use Rattle.literal.specs.Literal.{isNumber}
 use Rattle.scope.specs.declared.Scope.{Scope}
-use Rattle.scope.specs.Scope.{marksOk}
 use Rattle.table.specs.Tables.{Tables, kindOf, startOf, endOf, firstOf, countOf, nodeCount, numberCount, nameCount, isNode, width, childAt, nameStart, nameLength, nameBytes}
 use Rattle.table.specs.Names.{sameBytes, underscoreBytes}
 use Rattle.table.specs.Expr.{depth}
@@ -92,12 +91,11 @@ nameOk T x = leb 1 (nameLength (T .names) x) && (leb (nameLength (T .names) x) 2
 abbrev pub nameOkAt : Tables → ℕ → Bool
 nameOkAt T j = nameOk T (j + 1)
 
--- the scope's marks are at most 31, and its number of `_` is 0 or that of the name `_`
+-- The scope's number of `_` is 0 or that of the name `_`. Its marks can't be above 31: a conversion from bytes refuses those (`convertible` in scope/specs/Bytes).
 unfoldable pub scopeOk : Tables → Scope → Bool
 scopeOk T s =
-    marksOk s
-    && (eqb (s .underscore) 0
-    || (leb (s .underscore) (nameCount T) && sameBytes (nameBytes (T .names) (T .text) (s .underscore)) underscoreBytes))
+    eqb (s .underscore) 0
+    || (leb (s .underscore) (nameCount T) && sameBytes (nameBytes (T .names) (T .text) (s .underscore)) underscoreBytes)
 
 -- All rules of the table. Whichever is broken, the answer is 2.
 unfoldable pub followsRules : Tables → Scope → Bool

@@ -1,9 +1,9 @@
 // The node table of a rule: its check and its reading.
 use depth::depths_ok;
+use limits::within_limits;
 use literal::LiteralRef;
 use names::names_differ;
 use rules::follows_rules;
-use rules::within_limits;
 use scope::Scope;
 ghost use Rattle.table.specs.Lent.{lent};
 ghost use mathlib.Core.Path.{_≡_};
@@ -11,6 +11,7 @@ ghost use Rattle.table.specs.Check.{TableAnswered, tableRefused};
 
 mod depth;
 mod distinct;
+pub mod limits;
 mod names;
 pub mod node_kind;
 mod nodes;

@@ -1,4 +1,4 @@
-// The limits, and the table rules that speak of the lists and the scope.
+// The table rules that speak of the lists and the scope.
 use crate::nodes::in_range;
 use crate::nodes::nodes_ok;
 use crate::reading::is_node;
@@ -19,34 +19,6 @@ ghost use Rattle.table.specs.Tables.{tables};
 ghost use Rattle.base.specs.Lists.{allFrom};
 ghost use Rattle.table.specs.Rules.{withinLimits, wholeRecords, nameOk, nameOkAt, numberOk, entryOk, scopeOk, followsRules};
 ghost use Rattle.table.specs.code.Passes.{listsOk};
-
-pub(crate) fn within_limits(
-    nodes: &[u32],
-    children: &[u32],
-    numbers: &[u64],
-    names: &[u32],
-    strings: &[u8],
-    text: &[u8],
-) -> bool
-    ensures { λ r. ⌜ r ≡ withinLimits (lent nodes children numbers names strings text) ⌝ }
-{
-    if 512 < nodes.len() / 5 {
-        return false;
-    }
-    if 512 < children.len() {
-        return false;
-    }
-    if 256 < numbers.len() / 2 {
-        return false;
-    }
-    if 128 < names.len() / 2 {
-        return false;
-    }
-    if 8192 < strings.len() {
-        return false;
-    }
-    text.len() <= 16384
-}
 
 fn whole_records(nodes: &[u32], numbers: &[u64], names: &[u32]) -> bool
     ensures { λ r. ⌜ r ≡ wholeRecords (tables (old nodes) [] (old numbers) (old names) [] []) ⌝ }
@@ -136,9 +108,6 @@ fn lists_ok(nodes: &[u32], children: &[u32], numbers: &[u64], names: &[u32], tex
 fn scope_ok(names: &[u32], text: &[u8], scope: Scope) -> bool
     ensures { λ r. ⌜ r ≡ scopeOk (tables [] [] [] (old names) [] (old text)) scope ⌝ }
 {
-    if !scope.marks_ok() {
-        return false;
-    }
     let underscore = scope.underscore;
     if underscore == 0 {
         return true;

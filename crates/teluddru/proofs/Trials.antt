@@ -5,7 +5,10 @@ use Rattle.literal.specs.Literal.{isNumber}
 use Rattle.literal.specs.Reading.{literalOf}
 use Rattle.literal.specs.Order.{bytesOrder, keyOrder}
 use Rattle.literal.specs.Text.{keyText, digits}
-use Rattle.scope.specs.Scope.{isUnderscore, declaredUnbound, local, bound, global, isUnbound, known, isName, sameScope, smallMarks, marksOk}
+use Rattle.scope.specs.Names.{isName, contains}
+use Rattle.scope.specs.Scope.{says, isUnderscore, isUnbound, known, sameScope}
+use Rattle.scope.specs.Bytes.{wordFrom, ofBytes}
+use Rattle.scope.specs.Bytes as Bytes
 use Rattle.table.specs.Tables.{recordWord, widthOf, nameBytes}
 use Rattle.table.specs.Names.{sameBytes}
 use Rattle.table.specs.Expr.{depth, count}
@@ -37,5 +40,5 @@ abbrev expectedIn : Trial → Shown
 expectedIn t = t .expected
 
 pub trials-hold : map shownIn trials ≡ map expectedIn trials
-unfolding isNumber literalOf bytesOrder keyOrder keyText digits isUnderscore declaredUnbound local bound global isUnbound known isName sameScope smallMarks marksOk recordWord widthOf nameBytes sameBytes depth count refOf literalNode items fields headed exprAt expr allFrom elem noRepeat withinLimits wholeRecords spanOk nameTextOk wordsOk childrenBelow nodeOk placesFrom usedPlaces nameOk scopeOk followsRules shallow namesDiffer checked plan insert concat entries words bindsAny answered written valueOrder keyTexts insertText sortTexts sameTexts heldUnder structure pairsEntries flatten firstSameScope readEntries oneByteEach positive operationOutcome admitted hasKey differing keysOf occurrences namesOf valueOf same within keysᵛ under run planKeys sameLength insertWritten asWritten itemsRead fieldsRead plansRead valuesListed knownListed runAnswer valuesAfter tabulate
+unfolding isNumber literalOf bytesOrder keyOrder keyText digits isName contains says isUnderscore isUnbound known sameScope wordFrom Bytes.marked ofBytes recordWord widthOf nameBytes sameBytes depth count refOf literalNode items fields headed exprAt expr allFrom elem noRepeat withinLimits wholeRecords spanOk nameTextOk wordsOk childrenBelow nodeOk placesFrom usedPlaces nameOk scopeOk followsRules shallow namesDiffer checked plan insert concat entries words bindsAny answered written valueOrder keyTexts insertText sortTexts sameTexts heldUnder structure pairsEntries flatten firstSameScope readEntries oneByteEach positive operationOutcome admitted hasKey differing keysOf occurrences namesOf valueOf same within keysᵛ under run planKeys sameLength insertWritten asWritten itemsRead fieldsRead plansRead valuesListed knownListed runAnswer valuesAfter tabulate
 trials-hold = refl

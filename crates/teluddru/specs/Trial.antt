@@ -7,6 +7,7 @@ use lib.ListN.{length, replicate}
 use Rattle.scope.specs.declared.Scope.{Scope}
 use Rattle.scope.specs.declared.ScopingMode.the-variants.{RespectParent}
 use Rattle.scope.specs.Scope.{known}
+use Rattle.scope.specs.Bytes.{ofBytes}
 use Rattle.table.specs.Tables.{Tables, tables, nameCount}
 use Rattle.table.specs.Decode.{expr}
 use Rattle.base.specs.Refusal.{Line, line}
@@ -45,7 +46,7 @@ listing o = planned (answered o blank) (readEntries (written o blank) 0 (entries
 
 -- Marks of the names 1, 2 and so on; the others have none.
 abbrev pub marked : List ℕ → Scope
-marked marks = record { marks = marks ++ replicate (128 - length marks) 0; underscore = 0; scheduler = false }
+marked marks = ofBytes (record { marks = marks ++ replicate (128 - length marks) 0; underscore = 0; scheduler = false })
 
 -- five words of a node
 abbrev pub node : ℕ → ℕ → ℕ → ℕ → ℕ → List ℕ → List ℕ

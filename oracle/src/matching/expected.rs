@@ -40,8 +40,7 @@ pub fn expected(case: &Case) -> Expected {
 /// turns back".
 fn run(case: &Case) -> Result<Ran, [u32; 4]> {
     let refuse = |refused: bool, number: u32| if refused { Err(alone(number)) } else { Ok(()) };
-    refuse(!is_listed(case), 7)?;
-    let plan = checked_plan(case).map_err(alone)?;
+    let plan = plan_first(case)?;
     refuse(!is_node(case, case.pattern()) || !is_node(case, case.value()), 5)?;
     refuse(case.values.len() < case.draft.names.len(), 20)?;
     let pattern = expr(case, case.pattern());
@@ -64,14 +63,27 @@ fn run(case: &Case) -> Result<Ran, [u32; 4]> {
 }
 
 /// A refusal that has no place and no counts.
-fn alone(number: u32) -> [u32; 4] {
+pub(crate) fn alone(number: u32) -> [u32; 4] {
     [number, 0, 0, 0]
 }
 
-/// The table check, and the words of the Rust's plan of the pattern; none if its root is outside.
+/// What comes before a run's or a report's own refusals, and the words of the Rust's plan of the pattern.
+pub(crate) fn plan_first(case: &Case) -> Result<Vec<u32>, [u32; 4]> {
+    if !is_listed(case) {
+        return Err(alone(7));
+    }
+    let plan = checked_plan(case);
+    if plan != Err(1) && !has_small_marks(case) {
+        return Err(alone(2));
+    }
+    plan.map_err(alone)
+}
+
+/// The table check but for marks above 31, which a sheet doesn't have, and the words of the Rust's plan of
+/// the pattern; none if its root is outside.
 fn checked_plan(case: &Case) -> Result<Vec<u32>, u32> {
     let pattern = Some(case.pattern()).filter(|&root| is_node(case, root));
-    let marks = case.marks.iter().copied().chain(std::iter::repeat(0));
+    let marks = case.marks.iter().map(|&marks| marks.min(31)).chain(std::iter::repeat(0));
     let names = case.draft.names.iter().zip(marks);
     let draft = Draft {
         operation: 1,
@@ -88,11 +100,14 @@ fn checked_plan(case: &Case) -> Result<Vec<u32>, u32> {
     }
 }
 
-/// No marks above 31, and a scheduler and a scoping that document 01 lists.
+/// A scheduler and a scoping that document 01 lists.
 fn is_listed(case: &Case) -> bool {
+    case.scheduler <= 1 && (1..=2).contains(&case.scoping)
+}
+
+/// No marks above 31 among those that count.
+fn has_small_marks(case: &Case) -> bool {
     case.marks.iter().take(MARKS).all(|&marks| marks <= 31)
-        && case.scheduler <= 1
-        && (1..=2).contains(&case.scoping)
 }
 
 /// No set, other expression, computed or repeated key.
@@ -144,6 +159,14 @@ mod tests {
         case.scoping = 3;
         assert_eq!(number(&case), 7);
         case.scoping = 1;
+        case.marks.resize(MARKS, 0);
+        case.marks[MARKS - 1] = 32;
+        assert_eq!(number(&case), 2);
+        let nodes = case.draft.nodes.clone();
+        case.draft.nodes.resize(513, nodes[0]);
+        assert_eq!(number(&case), 1);
+        case.draft.nodes = nodes;
+        case.marks[MARKS - 1] = 31;
         let value = std::mem::replace(&mut case.draft.roots[1], 99);
         assert_eq!(number(&case), 5);
         case.draft.roots[1] = value;

@@ -4,7 +4,7 @@ use Rattle.scope_test.proofs.all_right.Statement.{statement}
 use Rattle.scope_test.proofs.all_right.Tie as tie
 
 abbrev Inv-loop : tie.InvT-loop
-Inv-loop total₀ mark₀ total mark = (mark ≤ 32) × (total ≤ 48 * mark)
+Inv-loop total₀ mark₀ total mark = (mark ≤ 32) × (total ≤ 136 * mark)
 
 abbrev μ-loop : tie.MeasureT-loop
 μ-loop total₀ mark₀ total mark = 32 - mark

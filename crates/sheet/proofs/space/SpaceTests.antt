@@ -8,6 +8,7 @@ use borrow.Author.Tests.{ltb-true, ltb-false, not-false}
 use lib.Dec.{ltb}
 use lib.ListN.{length, getD, take, drop, replicate, length-append, length-replicate, getD-replicate, List·getD-append}
 use lib.Seq.{ext-getD, length-take-le, getD-append-add}
+use Rattle.scope.specs.declared.Scope.{Scope}
 use Rattle.table.specs.Tables.{tables}
 use Rattle.table.proofs.tests.Bools.{told-no, told-yes}
 use Rattle.base.specs.Lists.{tabulate}
@@ -15,11 +16,12 @@ use Rattle.planner.proofs.buffer.Filling.{length-tabulate, getD-tabulate}
 use Rattle.sheet.specs.declared.header.Counts.{Counts}
 use Rattle.sheet.specs.declared.header.Header.{Header}
 use Rattle.sheet.specs.declared.space.Tried.{Tried}
-use Rattle.sheet.specs.Sheet.{markWord, namesPlace, stringsPlace, textPlace, endPlace, marksOf}
+use Rattle.sheet.specs.Sheet.{markWord, namesPlace, stringsPlace, textPlace, endPlace, marksOf, operationNumbers, scopeOf}
 use Rattle.sheet.specs.Listing.{listingOf, Printed}
 use Rattle.sheet.specs.code.Header.{Limited, Headed}
-use Rattle.sheet.specs.code.Post.{Overlaid, refusalBytes, plannedBytes, TriedBy, Roomy, TablesAsks, TablesRead, SheetHeld}
+use Rattle.sheet.specs.code.Post.{Overlaid, refusalBytes, scopeIn, plannedBytes, TriedBy, Roomy, TablesAsks, TablesRead, SheetHeld}
 use Rattle.sheet.proofs.lines.LineTests.{filled-first}
+use Rattle.sheet.proofs.space.Scopes.{scope-is}
 
 -- space for the tables
 pub most-nodes : (c : Counts) (nodes : List ℕ) → Limited c → length nodes ≡ 512 * 5 → c .nodes * 5 ≤ length nodes
@@ -46,8 +48,11 @@ module _ {sheet : List ℕ} {h : Header} (headed : Headed sheet h) {nodes childr
   unfolding listingOf
   tables-refused t p = rw (headed .parses, told-no (read .ok) t) p
 
-  pub sheet-held : not r ≡ false → h .counts .nodes * 5 ≤ length nodes → length children ≡ 512 → length numbers ≡ 256 * 2 → length names ≡ 128 * 3 → SheetHeld sheet h nodes children numbers names marks
-  sheet-held t a b d e = record {
+  pub sheet-held : not r ≡ false → h .counts .nodes * 5 ≤ length nodes → length children ≡ 512 → length numbers ≡ 256 * 2 → length names ≡ 128 * 3
+      → {s : Scope} → s ≡ scopeIn (h .operation) marks → SheetHeld sheet h nodes children numbers names s
+  sheet-held t a b d e made = record {
+    marks = marks;
+    scope-made = made;
     headed = headed;
     good = told-yes (read .ok) t;
     roomy = roomy (headed .limited) nodes children numbers names a b d e;
@@ -87,7 +92,7 @@ marks-all f count few {marks} m = ext-getD 0 marks (first ++ rest) long each
     each k lt = at-k k (omega (arith, m .long, length-replicate {A = ℕ} 128 0)) (ltb k count) refl
 
 -- the tables, the strings, the text and the scope
-module _ {sheet : List ℕ} {h : Header} {nodes children numbers names marks : List ℕ} (t : SheetHeld sheet h nodes children numbers names marks) where
+module _ {sheet : List ℕ} {h : Header} {nodes children numbers names : List ℕ} {s : Scope} (t : SheetHeld sheet h nodes children numbers names s) where
   pub nodes-inside : h .counts .nodes * 5 ≤ length nodes
   nodes-inside = t .roomy .nodes-room
 
@@ -114,7 +119,7 @@ module _ {sheet : List ℕ} {h : Header} {nodes children numbers names marks : L
 
   pub sheet-bytes : plannedBytes (h .operation)
       (tables (take (h .counts .nodes * 5) nodes) (take (h .counts .children) children) (take (h .counts .numbers * 2) numbers) (take (h .counts .names * 2) names)
-      (take (h .places .text - h .places .strings) (drop (h .places .strings) sheet)) (take (h .places .end - h .places .text) (drop (h .places .text) sheet))) marks
+      (take (h .places .text - h .places .strings) (drop (h .places .strings) sheet)) (take (h .places .end - h .places .text) (drop (h .places .text) sheet))) s
       ≡ listingOf sheet
   unfolding listingOf
   sheet-bytes =
@@ -122,9 +127,10 @@ module _ {sheet : List ℕ} {h : Header} {nodes children numbers names marks : L
       let strings : textPlace c - stringsPlace c ≡ c .strings = omega arith in
       let text : endPlace c - textPlace c ≡ c .text = omega arith in
       let held = t .held in
-      let all : marks ≡ marksOf sheet c ++ replicate (128 - c .names) 0 = marks-all (markWord sheet (namesPlace c)) (c .names) (t .headed .limited .names-few) (held .names-held .marked) in
-      let scope-marks : marks ≡ marksOf sheet c ++ replicate (128 - length (marksOf sheet c)) 0 = rw (length-tabulate (markWord sheet (namesPlace c)) 0 (c .names)) all in
-      rw (t .headed .parses, t .good, t .headed .places-are, t .headed .operation-is, strings, text, scope-marks, filled-first (held .nodes-filled) nodes-inside, filled-first (held .children-filled) children-inside, filled-first (held .numbers-filled) numbers-inside, filled-first (held .names-held .words) names-inside)
+      let all : t .marks ≡ marksOf sheet c ++ replicate (128 - c .names) 0 = marks-all (markWord sheet (namesPlace c)) (c .names) (t .headed .limited .names-few) (held .names-held .marked) in
+      let scope-marks : t .marks ≡ marksOf sheet c ++ replicate (128 - length (marksOf sheet c)) 0 = rw (length-tabulate (markWord sheet (namesPlace c)) 0 (c .names)) all in
+      let scope : s ≡ scopeOf (operationNumbers sheet) (marksOf sheet c) = t .scope-made ∙ scope-is sheet c (t .good) (t .headed .operation-is) scope-marks in
+      rw (t .headed .parses, t .good, t .headed .places-are, scope, t .headed .operation-is, strings, text, filled-first (held .nodes-filled) nodes-inside, filled-first (held .children-filled) children-inside, filled-first (held .numbers-filled) numbers-inside, filled-first (held .names-held .words) names-inside)
 
 pub tried-as : {listing other : List ℕ} → listing ≡ other → {space : ℕ} {before after : List ℕ} {r : Tried} → TriedBy listing space before after r → TriedBy other space before after r
 tried-as e t = rw e at t

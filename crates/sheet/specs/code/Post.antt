@@ -6,6 +6,7 @@ use mathlib.Core.Path.{_≡_}
 use lib.Dec.{eqb, leb}
 use lib.ListN.{length, getD, set, replicate}
 use Rattle.scope.specs.declared.Scope.{Scope}
+use Rattle.scope.specs.Bytes.{converted}
 use Rattle.table.specs.Tables.{Tables}
 use Rattle.base.specs.Lists.{allFrom}
 use Rattle.columns.specs.Columns.{columnAt, writeColumn}
@@ -21,7 +22,7 @@ use Rattle.sheet.specs.declared.space.Tried.{Tried}
 use Rattle.sheet.specs.declared.space.Tried.the-variants as Tried
 use Rattle.base.specs.Lent.{Slices}
 use Rattle.sheet.specs.Lines.{isReadable, numberAt, lineLength, numberLineLength, linesOk, wordAt, numberWord}
-use Rattle.sheet.specs.Sheet.{nodesPlace, markWord, childrenPlace, numbersPlace, namesPlace, marksOk}
+use Rattle.sheet.specs.Sheet.{bytesOf, nodesPlace, markWord, childrenPlace, numbersPlace, namesPlace, marksOk}
 use Rattle.sheet.specs.Listing.{Listing, followed, alone, linesOf, linesBytes, Printed}
 use Rattle.sheet.specs.code.Header.{placesOf, Limited, tablesOk, Headed}
 
@@ -125,9 +126,9 @@ pub record EntriesAsks (out plan : List ℕ) (count : ℕ) : Type 0 where
   pub space : lineLength 4 + count * entryLength ≤ length out
   pub held : count * entryWords ≤ length plan
 
--- the scope of a sheet, by its marks
+-- the scope of a sheet, by its marks: empty where they are refused, which a good layout rules out
 abbrev pub scopeIn : OperationNumbers → List ℕ → Scope
-scopeIn o marks = record { marks = marks; underscore = 0; scheduler = eqb (o .scheduler) 1 }
+scopeIn o marks = converted (bytesOf o marks)
 
 -- the words of a plan in the full space and in the small one
 abbrev pub planWords : ℕ
@@ -142,9 +143,9 @@ pub record TriedBy (listing : List ℕ) (space : ℕ) (before after : List ℕ) 
   pub more : r ≡ Tried.TooLarge → space < planWords
   pub kept : r ≡ Tried.TooLarge → after ≡ before
 
--- the listing of a sheet, by its tables and marks
-abbrev pub plannedBytes : OperationNumbers → Tables → List ℕ → List ℕ
-plannedBytes o T marks = linesBytes (linesOf (operationOutcome T (scopeIn o marks) (operationOf o)))
+-- the listing of a sheet, by its tables and its scope
+abbrev pub plannedBytes : OperationNumbers → Tables → Scope → List ℕ
+plannedBytes o T s = linesBytes (linesOf (operationOutcome T s (operationOf o)))
 
 -- in an output that is lent
 abbrev pub PrintedIn : Slices → List ℕ → ℕ → Type 0
@@ -180,8 +181,10 @@ pub record TablesRead (sheet : List ℕ) (c : Counts) (nodes children numbers na
   pub ok : r ≡ tablesOk sheet c
   pub held : r ≡ true → TablesHeld sheet c nodes children numbers names before marks
 
--- a sheet of good layout, whose tables are in arrays
-pub record SheetHeld (sheet : List ℕ) (h : Header) (nodes children numbers names marks : List ℕ) : Type 0 where
+-- a sheet of good layout, whose tables are in arrays, and the scope of its marks
+pub record SheetHeld (sheet : List ℕ) (h : Header) (nodes children numbers names : List ℕ) (s : Scope) : Type 0 where
+  pub marks : List ℕ
+  pub scope-made : s ≡ scopeIn (h .operation) marks
   pub headed : Headed sheet h
   pub good : tablesOk sheet (h .counts) ≡ true
   pub roomy : Roomy (h .counts) nodes children numbers names

@@ -9,7 +9,6 @@ use lib.Dec.{eqb, leb, ltb}
 use lib.ListN.{length}
 use Rattle.base.specs.Lists.{part, allFrom}
 use Rattle.scope.specs.declared.Scope.{Scope}
-use Rattle.scope.specs.Scope.{marksOk}
 use Rattle.table.specs.Tables.{Tables, tables, kindOf, startOf, endOf, firstOf, countOf, nodeCount, nameCount, width, isNode, childAt, nameStart, nameLength, nameBytes}
 use Rattle.table.specs.Names.{sameBytes, underscoreBytes}
 use Rattle.table.specs.Rules.{withinLimits, wholeRecords, spanOk, nameTextOk, wordsOk, belowAt, childrenBelow, nameOk, scopeOk, newNameAt, namesDiffer}
@@ -232,25 +231,20 @@ words-none T n k a₁ a₂ a₃ a₄ a₅ a₆ a₇ a₈ a₉ a₁₀ = rw (← 
 ))
 
 -- the scope
-module _ (T : Tables) (s : Scope) {m : Bool} (is : m ≡ marksOk s) where
-  pub scope-marked : not m ≡ true → false ≡ scopeOk T s
+module _ (T : Tables) (s : Scope) where
+  pub scope-none : s .underscore ≡ 0 → true ≡ scopeOk T s
   unfolding scopeOk
-  scope-marked t = simp (told-no is t)
+  scope-none z = simp z
 
-  module _ (t : not m ≡ false) where
-    pub scope-none : s .underscore ≡ 0 → true ≡ scopeOk T s
+  module _ (some : s .underscore ≡ 0 → ⊥) where
+    pub scope-high : nameCount T < s .underscore → false ≡ scopeOk T s
     unfolding scopeOk
-    scope-none z = simp (told-yes is t, z)
+    scope-high h = simp (ne-eqb (s .underscore) 0 some, lt-leb (s .underscore) (nameCount T) h)
 
-    module _ (some : s .underscore ≡ 0 → ⊥) where
-      pub scope-high : nameCount T < s .underscore → false ≡ scopeOk T s
-      unfolding scopeOk
-      scope-high h = simp (told-yes is t, ne-eqb (s .underscore) 0 some, lt-leb (s .underscore) (nameCount T) h)
-
-      pub scope-name : {r : Bool} {bytes : List ℕ} → s .underscore ≤ nameCount T → bytes ≡ nameBytes (T .names) (T .text) (s .underscore)
-          → r ≡ sameBytes bytes underscoreBytes → r ≡ scopeOk T s
-      unfolding scopeOk
-      scope-name h b e = rw (told-yes is t, ne-eqb (s .underscore) 0 some, le-leb (s .underscore) (nameCount T) h, ← b) e
+    pub scope-name : {r : Bool} {bytes : List ℕ} → s .underscore ≤ nameCount T → bytes ≡ nameBytes (T .names) (T .text) (s .underscore)
+        → r ≡ sameBytes bytes underscoreBytes → r ≡ scopeOk T s
+    unfolding scopeOk
+    scope-name h b e = rw (ne-eqb (s .underscore) 0 some, le-leb (s .underscore) (nameCount T) h, ← b) e
 
 pub names-fail : (T : Tables) {i : ℕ} {r : Bool} → Scan (newNameAt T) 0 (nameCount T) i → i < nameCount T → r ≡ newNameAt T i → not r ≡ true → false ≡ namesDiffer T
 unfolding namesDiffer

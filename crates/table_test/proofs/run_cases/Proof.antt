@@ -4,10 +4,10 @@ use Rattle.table_test.proofs.run_cases.Statement.{statement}
 use Rattle.table_test.proofs.run_cases.Tie as tie
 
 abbrev Inv-loop : tie.InvT-loop
-Inv-loop agree₀ i₀ agree i = (i ≤ 63) × (agree ≤ i)
+Inv-loop agree₀ i₀ agree i = (i ≤ 60) × (agree ≤ i)
 
 abbrev μ-loop : tie.MeasureT-loop
-μ-loop agree₀ i₀ agree i = 63 - i
+μ-loop agree₀ i₀ agree i = 60 - i
 
 pub run-cases-spec : {M : Type 1} → statement M
 run-cases-spec =

@@ -1,6 +1,6 @@
 use Prim.Native.Nat.{_-_}
 use lib.ListN.{getD}
-use Rattle.planner.proofs.buffer.Filling.{Filling, filling-start, filling-on}
+use Rattle.base.proofs.Filling.{Filling, filling-start, filling-on}
 use Rattle.c_calls.proofs.Scopes.{marks-end}
 use borrow.Author.Needs.{needs}
 use Rattle.c_calls.proofs.given.marks_of.Statement.{statement}

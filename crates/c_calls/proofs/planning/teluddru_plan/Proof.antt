@@ -7,7 +7,7 @@ use Rattle.c_calls.proofs.planning.teluddru_plan.Lts as lts
 use Rattle.c_calls.proofs.answer.refuse.Reads as refuse-reads
 use Rattle.c_calls.proofs.answer.tell.Reads as tell-reads
 use Rattle.c_calls.proofs.given.scope_of.Reads as scope-of-reads
-use Rattle.c_calls.proofs.given.well_given.Reads as well-given-reads
+use Rattle.c_calls.proofs.given.refused_first.Reads as refused-first-reads
 use Rattle.operation.proofs.numbers.operation_of.Reads as operation-of-reads
 use Rattle.operation.proofs.plan.Reads as plan-reads
 use Rattle.operation.proofs.row.row_of.Reads as row-of-reads
@@ -16,8 +16,8 @@ use Rattle.planner.proofs.buffer.clear.Reads as clear-reads
 scope-of-requires : tie.Need-scope-of-requires
 scope-of-requires c κs = search needs
 
-well-given-requires : tie.Need-well-given-requires
-well-given-requires c κs = search needs
+refused-first-requires : tie.Need-refused-first-requires
+refused-first-requires c κs = search needs
 
 clear-requires : tie.Need-clear-requires
 clear-requires c κs = search needs
@@ -60,7 +60,7 @@ teluddru-plan-spec =
     tie.close
     (tie.spec
     scope-of-requires
-    well-given-requires
+    refused-first-requires
     clear-requires
     refuse-requires
     same-length

@@ -9,7 +9,7 @@ use Rattle.c_calls.proofs.answer.run_row.Reads as run-row-reads
 use Rattle.c_calls.proofs.answer.tell.Reads as tell-reads
 use Rattle.c_calls.proofs.given.pattern_numbers.Reads as pattern-numbers-reads
 use Rattle.c_calls.proofs.given.scope_of.Reads as scope-of-reads
-use Rattle.c_calls.proofs.given.well_given.Reads as well-given-reads
+use Rattle.c_calls.proofs.given.refused_first.Reads as refused-first-reads
 use Rattle.operation.proofs.numbers.scoping_of.Reads as scoping-of-reads
 use Rattle.planner.proofs.buffer.clear.Reads as clear-reads
 use Rattle.run.proofs.run.Reads as run-reads
@@ -20,8 +20,8 @@ scope-of-requires c κs = search needs
 pattern-numbers-requires : tie.Need-pattern-numbers-requires
 pattern-numbers-requires c κs = search needs
 
-well-given-requires : tie.Need-well-given-requires
-well-given-requires c κs = search needs
+refused-first-requires : tie.Need-refused-first-requires
+refused-first-requires c κs = search needs
 
 clear-requires : tie.Need-clear-requires
 clear-requires c κs = search needs
@@ -66,9 +66,9 @@ pub teluddru-run-spec : {M : Type 1} → statement M
 teluddru-run-spec =
     tie.close
     (tie.spec
-    scope-of-requires
     pattern-numbers-requires
-    well-given-requires
+    scope-of-requires
+    refused-first-requires
     clear-requires
     refuse-requires
     same-length

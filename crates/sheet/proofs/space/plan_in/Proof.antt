@@ -15,13 +15,14 @@ plan-in-spec =
     (λ c. search needs)
     (λ c. search needs)
     (λ c. search (tables-refused, needs))
+    (λ c κs. search needs)
     (λ c. search needs)
     (λ c. search needs)
     (λ c. search needs)
     (λ c κs.
-    let read = c .before .before .before .before .before .before .before .before .before .before .before .before in
+    let read = c .before .before .before .before .before .before .before .before .before .before .before .before .before in
     let headed = read .before .before .before .before .before .before .before .before .before .pre .0 in
-    sheet-held headed (read .read-tables .ensures) (search needs) (search needs) (search needs) (search needs) (search needs))
+    sheet-held headed (read .read-tables .ensures) (search needs) (search needs) (search needs) (search needs) (search needs) (search needs))
     (λ c. search needs)
     (λ c. search needs)
     (λ c. search needs))

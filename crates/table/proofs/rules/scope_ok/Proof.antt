@@ -1,4 +1,4 @@
-use Rattle.table.proofs.tests.Clauses.{scope-marked, scope-none, scope-high, scope-name}
+use Rattle.table.proofs.tests.Clauses.{scope-none, scope-high, scope-name}
 use borrow.Author.Needs.{needs}
 use Rattle.table.proofs.rules.scope_ok.Statement.{statement}
 use Rattle.table.proofs.rules.scope_ok.Tie as tie
@@ -7,8 +7,6 @@ pub scope-ok-spec : {M : Type 1} → statement M
 scope-ok-spec =
     tie.close
     (tie.spec
-    (λ c κs. search needs)
-    (λ c. search (scope-marked, needs))
     (λ c. search (scope-none, needs))
     (λ c. search needs)
     (λ c. search (scope-high, needs))
