@@ -50,7 +50,7 @@ static void print_node(uint32_t node) {
 }
 
 static int plan_rule(void) {
-    uint32_t told = teluddru_plan(TABLES, TELUDDRU_PATTERN, TELUDDRU_NO_SCHEDULER, TELUDDRU_RESPECT_PARENT, RULE, 0, 0, LENT(plan), LENT(answer));
+    uint32_t told = teluddru_plan(TABLES, TELUDDRU_PATTERN, TELUDDRU_NO_SCHEDULER, TELUDDRU_RESPECT_PARENT, RULE, 0, 0, TELUDDRU_REGO_V1, LENT(plan), LENT(answer));
     if (told != TELUDDRU_PLANNED) {
         printf("refused: %u\n", (unsigned)told);
         return 1;
@@ -70,7 +70,7 @@ static int plan_rule(void) {
 
 /* With the two panels as its right side, the rule is an `=`; the left side binds. */
 static int plan_equals(void) {
-    uint32_t told = teluddru_plan(TABLES, TELUDDRU_EQUALS, TELUDDRU_NO_SCHEDULER, TELUDDRU_RESPECT_PARENT, RULE, DIFFERENT, 0, LENT(plan), LENT(answer));
+    uint32_t told = teluddru_plan(TABLES, TELUDDRU_EQUALS, TELUDDRU_NO_SCHEDULER, TELUDDRU_RESPECT_PARENT, RULE, DIFFERENT, 0, TELUDDRU_REGO_V0, LENT(plan), LENT(answer));
     print_node(RULE);
     printf(" = ");
     print_node(DIFFERENT);
@@ -100,7 +100,7 @@ static int run_rule(uint32_t value) {
 
 /* A number that isn't listed is refused, and the plan is zeros. */
 static int ask_unlisted(void) {
-    uint32_t told = teluddru_plan(TABLES, TELUDDRU_PARAMETER + 1, TELUDDRU_NO_SCHEDULER, TELUDDRU_RESPECT_PARENT, RULE, 0, 0, LENT(plan), LENT(answer));
+    uint32_t told = teluddru_plan(TABLES, TELUDDRU_PARAMETER + 1, TELUDDRU_NO_SCHEDULER, TELUDDRU_RESPECT_PARENT, RULE, 0, 0, TELUDDRU_REGO_V0, LENT(plan), LENT(answer));
     printf("operation 7: refused with %u\n", (unsigned)told);
     return told != TELUDDRU_LAYOUT_BROKEN || answer[0] != told || plan[0] != 0;
 }

@@ -102,7 +102,7 @@ static void *call_sheet(void *unused) {
 static void *call_plan(void *unused) {
     volatile uint8_t local = 0;
     call_place = (uintptr_t)&local;
-    teluddru_plan(TABLES, operation[0], operation[1], operation[2], operation[3], operation[4], operation[5],
+    teluddru_plan(TABLES, operation[0], operation[1], operation[2], operation[3], operation[4], operation[5], TELUDDRU_REGO_V1,
                   plan, LENGTH(plan), answer, LENGTH(answer));
     return unused;
 }

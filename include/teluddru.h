@@ -72,6 +72,12 @@ enum teluddru_scoping {
     TELUDDRU_ALLOW_SHADOWING = 2
 };
 
+/* The version of Rego that a rule is written for: v1 reserves `input` and `data`. Any number but 1 counts as 0. */
+enum teluddru_rego {
+    TELUDDRU_REGO_V0 = 0,
+    TELUDDRU_REGO_V1 = 1
+};
+
 /* Marks of a name, summed. */
 enum teluddru_mark {
     TELUDDRU_MARK_BOUND = 1,
@@ -119,7 +125,8 @@ enum teluddru_answer {
     TELUDDRU_LIST_TOO_SHORT = 20,           /* the list is shorter than the names */
     TELUDDRU_PATTERN_NOT_SIMPLE = 21,       /* it has a set, another expression, a computed or a repeated key */
     TELUDDRU_NOT_A_VALUE = 22,              /* the value, or a listed node */
-    TELUDDRU_NAME_WITHOUT_VALUE = 23        /* a known name of the pattern */
+    TELUDDRU_NAME_WITHOUT_VALUE = 23,       /* a known name of the pattern */
+    TELUDDRU_RESERVED_NAME = 31             /* the name; planning for TELUDDRU_REGO_V1 alone */
 };
 
 /* The form of a plan, its answer's second number: of an assignment, or of some-in with a key; else 0. */
@@ -178,9 +185,10 @@ enum teluddru_reported {
 
 /*
  * Plans an operation. Roots: first (left, pattern or value pattern), second (right or collection),
- * key (some-in's, 0 for none); those that the operation doesn't use are ignored. The plan's entries,
- * then zeros, are written to the plan; if the call is refused, zeros. A pattern's, a loop index's or a
- * parameter's plan has at most 512 entries.
+ * key (some-in's, 0 for none); those that the operation doesn't use are ignored. The version is one of
+ * enum teluddru_rego: for v1 a pattern that would plan `input` or `data` is refused; run, names report
+ * and sheets are v0. The plan's entries, then zeros, are written to the plan; if the call is refused,
+ * zeros. A pattern's, a loop index's or a parameter's plan has at most 512 entries.
  */
 uint32_t teluddru_plan(const uint32_t *nodes, size_t nodes_length,
                        const uint32_t *children, size_t children_length,
@@ -190,7 +198,7 @@ uint32_t teluddru_plan(const uint32_t *nodes, size_t nodes_length,
                        const uint8_t *text, size_t text_length,
                        const uint8_t *marks, size_t marks_length,
                        uint32_t operation, uint32_t scheduler, uint32_t scoping,
-                       uint32_t first, uint32_t second, uint32_t key,
+                       uint32_t first, uint32_t second, uint32_t key, uint32_t version,
                        uint32_t *plan, size_t plan_length,
                        uint32_t *answer, size_t answer_length);
 

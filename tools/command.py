@@ -1,4 +1,4 @@
-"""The command plan_rule: options, plansheet's run, exit status."""
+"""The command plan_rule: options, the planner's run, exit status."""
 
 import argparse
 import os
@@ -14,6 +14,7 @@ from refusals import refusal_in_words
 from rule_text import Operation, Rule, read_rule
 from sheet import ALLOW_SHADOWING, RESPECT_PARENT, Scope, Sheet, sheet_of
 from source import marked, shown
+from tables import listing_for
 from tokens import COMMENT, RuleTextError
 from words import plan_in_words
 
@@ -28,7 +29,10 @@ OPERATIONS = {
 }
 SCOPINGS = {"respect": RESPECT_PARENT, "shadow": ALLOW_SHADOWING}
 MARKS = {"bound": 1, "bound_here": 3, "unbound": 4, "local": 8, "global": 16}
-BUILT = Path(__file__).resolve().parent.parent / "target" / "bin" / "plansheet"
+VERSIONS = {"v0": 0, "v1": 1}
+TARGET = Path(__file__).resolve().parent.parent / "target"
+BUILT = TARGET / "bin" / "plansheet"
+BUILT_LIBRARY = TARGET / "tools" / "libteluddru.so"
 SECONDS = 60
 
 DESCRIPTION = """\
@@ -92,9 +96,9 @@ def said(arguments: list[str]) -> int:
         if options.operation is None:
             complain(hint_of(sheet))
         if options.sheet:
-            sys.stdout.buffer.write(sheet.to_bytes())
+            sys.stdout.buffer.write(sheet_bytes(sheet, options))
             return PLANNED
-        status, words = answer(sheet, Path(options.plansheet))
+        status, words = answer(sheet, options)
     except RuleTextError as error:
         complain(f"bad rule text: {error}\n{marked(text, error.start, error.end)}")
         return NO_ANSWER
@@ -128,6 +132,12 @@ def argument_parser() -> argparse.ArgumentParser:
     )
     add_scope_options(parser)
     parser.add_argument(
+        "--rego",
+        choices=VERSIONS,
+        default="v0",
+        help="the Rego that the rule is written for (v0); v1 reserves input and data",
+    )
+    parser.add_argument(
         "--sheet", action="store_true", help="print the sheet; plansheet is not needed"
     )
     parser.add_argument(
@@ -135,6 +145,12 @@ def argument_parser() -> argparse.ArgumentParser:
         metavar="PATH",
         default=os.environ.get("PLANSHEET") or BUILT,
         help="the planner (the variable PLANSHEET, or target/bin/plansheet)",
+    )
+    parser.add_argument(
+        "--library",
+        metavar="PATH",
+        default=os.environ.get("TELUDDRU_SHARED") or BUILT_LIBRARY,
+        help="that of v1 (the variable TELUDDRU_SHARED, or target/tools/libteluddru.so)",
     )
     return parser
 
@@ -215,15 +231,36 @@ def option_text(option: str) -> str:
     return "--" + option.replace("_", "-")
 
 
-def answer(sheet: Sheet, plansheet: Path) -> tuple[int, str]:
-    """Exit status and words of plansheet's answer."""
+def sheet_bytes(sheet: Sheet, options: argparse.Namespace) -> bytes:
+    if VERSIONS[options.rego] != 0:
+        raise NoAnswer("a sheet is always planned as v0: --sheet goes without --rego v1")
+    return sheet.to_bytes()
+
+
+def answer(sheet: Sheet, options: argparse.Namespace) -> tuple[int, str]:
+    """Exit status and words of the planner's answer."""
+    planner = Path(options.plansheet if options.rego == "v0" else options.library)
+    planned_by = listing_of if options.rego == "v0" else library_listing
     try:
-        found = read_listing(listing_of(sheet, plansheet), len(sheet.nodes))
+        found = read_listing(planned_by(sheet, planner), len(sheet.nodes))
         if isinstance(found, Refusal):
             return REFUSED, refusal_in_words(sheet, found)
         return PLANNED, plan_in_words(sheet, found)
     except ListingError as error:
-        raise NoAnswer(f"the listing of {plansheet} can't be read: {error}") from None
+        raise NoAnswer(f"the listing of {planner} can't be read: {error}") from None
+
+
+def library_listing(sheet: Sheet, library: Path) -> bytes:
+    """Rego v1: sheets say no version, so the library's own call is made."""
+    if not library.exists():
+        raise NoAnswer(
+            f"there is no {library}: build it with tools/build_library, or name another with"
+            " --library or the variable TELUDDRU_SHARED (only --rego v1 needs it)"
+        )
+    try:
+        return listing_for(sheet, VERSIONS["v1"], library)
+    except (OSError, AttributeError) as error:
+        raise NoAnswer(f"{library} can't be called: {error}") from None
 
 
 def listing_of(sheet: Sheet, plansheet: Path) -> bytes:

@@ -92,6 +92,11 @@ MEANINGS = {
         " two arrays, or two objects with literal keys",
         "{side}",
     ),
+    31: Meaning(
+        "reserved name",
+        "Rego v1 reserves `input` and `data`, which no rule may give a value",
+        "the name",
+    ),
 }
 
 

@@ -17,8 +17,10 @@ UNITTEST = """\
 import os, unittest
 class Stub(unittest.TestCase):
     def test(self):
-        self.assertEqual(os.path.basename(os.environ.get("PLANSHEET", "")), {planner!r})
+        for name in ("PLANSHEET", "TELUDDRU_SHARED"):
+            self.assertEqual(os.path.basename(os.environ.get(name, "")), {planners!r}.get(name, ""))
 """
+PLANNERS = {"PLANSHEET": "plansheet", "TELUDDRU_SHARED": "libteluddru.so"}
 
 
 class Gate(unittest.TestCase):
@@ -32,8 +34,9 @@ class Gate(unittest.TestCase):
         self.write("crates.txt", "c:\n")
         self.write("crates/c/src/lib.rt", "")
         self.write("gate/mistakes.py", "print('mistakes read')")
-        self.write("gate/test_gate.py", UNITTEST.format(planner=""))
-        self.write("tools/test_tools.py", UNITTEST.format(planner="plansheet"))
+        self.write("gate/test_gate.py", UNITTEST.format(planners={}))
+        self.write("tools/test_tools.py", UNITTEST.format(planners=PLANNERS))
+        self.command("tools/build_library", "echo library built")
         self.command("examples/run", "echo example run")
         self.command("examples/stack", 'echo "stack measured with $TELUDDRU_LIBRARY"')
         self.command("oracle/compare", 'echo "compared $1 with $PLAN_SHEET_LIBRARY"')
@@ -56,7 +59,7 @@ class Gate(unittest.TestCase):
     def gate(self):
         """The exit status and the lines of output."""
         path = f"{self.outside / 'bin'}:/usr/bin:/bin"
-        names = {name: value for name, value in os.environ.items() if name not in ("PLANSHEET", "REGORUS_SOURCE")}
+        names = {name: value for name, value in os.environ.items() if name not in (*PLANNERS, "REGORUS_SOURCE")}
         run = subprocess.run(
             [self.root / "test"], env=names | {"PATH": path}, stdout=subprocess.PIPE, stderr=subprocess.DEVNULL
         )
@@ -66,7 +69,7 @@ class Gate(unittest.TestCase):
         self.sources()
         status, lines = self.gate()
         self.assertEqual((status, lines[-1]), (0, "3 passed, 0 failed"))
-        for line in ("proving", "mistakes read", "example run", MEASURED, COMPARED):
+        for line in ("proving", "mistakes read", "library built", "example run", MEASURED, COMPARED):
             self.assertIn(line, lines)
         self.assertFalse([line for line in lines if line.startswith(("failed", "not run"))])
 
@@ -80,8 +83,9 @@ class Gate(unittest.TestCase):
         self.sources()
         parts = {
             "gate/mistakes.py": "raise SystemExit(1)",
-            "gate/test_gate.py": UNITTEST.format(planner="another"),
-            "tools/test_tools.py": UNITTEST.format(planner="another"),
+            "gate/test_gate.py": UNITTEST.format(planners=PLANNERS),
+            "tools/build_library": "#!/bin/sh\nexit 1\n",
+            "tools/test_tools.py": UNITTEST.format(planners={}),
             "examples/run": "#!/bin/sh\nexit 3\n",
             "examples/stack": "#!/bin/sh\nexit 1\n",
             "oracle/compare": "#!/bin/sh\nexit 1\n",

@@ -1,4 +1,4 @@
-"""Runs the command; what needs a planner is skipped where none is built and PLANSHEET names none."""
+"""Runs the command; what needs a planner is skipped where none is built or named by a variable."""
 
 import io
 import os
@@ -9,18 +9,23 @@ from pathlib import Path
 from typing import BinaryIO
 from unittest import mock
 
-from command import BUILT, main
+from command import BUILT, BUILT_LIBRARY, main
 from tests.test_sheet import EXAMPLE
 
 COMMAND = Path(__file__).parent.parent / "plan_rule"
 PLANSHEET = Path(os.environ.get("PLANSHEET") or BUILT)
 SKIPPED = not os.environ.get("PLANSHEET") and not BUILT.exists()
 NO_PLANNER = f"there is no {PLANSHEET} (`rt check plansheet` builds it)"
+LIBRARY = Path(os.environ.get("TELUDDRU_SHARED") or BUILT_LIBRARY)
+NO_LIBRARY = f"there is no {LIBRARY} (tools/build_library builds it)"
+LIBRARY_SKIPPED = not os.environ.get("TELUDDRU_SHARED") and not BUILT_LIBRARY.exists()
 
 
 def setUpModule() -> None:
     if SKIPPED:
         print(f"\n{NO_PLANNER}: the tests with the planner are skipped", file=sys.stderr)
+    if LIBRARY_SKIPPED:
+        print(f"\n{NO_LIBRARY}: the tests of Rego v1 are skipped", file=sys.stderr)
 
 
 def stream(content: bytes = b"") -> io.TextIOWrapper:
@@ -79,6 +84,16 @@ class WithoutPlanner(unittest.TestCase):
         status, _, error = run("--plansheet", "/nowhere/plansheet", "x")
         self.assertEqual(status, 2)
         self.assertIn("rt check plansheet", error)
+
+    def test_rego_v1(self) -> None:
+        status, _, error = run("--rego", "v1", "--library", "/nowhere/libteluddru.so", "x")
+        self.assertEqual(status, 2)
+        self.assertIn("tools/build_library", error)
+        status, _, error = run("--rego", "v1", "--library", "/bin/cat", "x")
+        self.assertEqual((status, error[:26]), (2, "/bin/cat can't be called: "))
+        self.assertEqual(run("--sheet", "--rego", "v1", "x")[0], 2)
+        self.assertEqual(run("--sheet", "--rego", "v0", "x")[0], 0)
+        self.assertEqual(run("--rego", "v2", "x")[0], 2)
 
     def test_planner_without_an_answer(self) -> None:
         status, _, error = run("--plansheet", "/bin/cat", "x")
@@ -178,6 +193,45 @@ class WithPlanner(unittest.TestCase):
                 status, lines = self.plan(text)
                 self.assertEqual((status, lines[0][:11]), (1, "refused, 18"))
                 self.assertEqual(lines[2].lstrip(" ^"), side)
+
+
+@unittest.skipIf(LIBRARY_SKIPPED, NO_LIBRARY)
+class RegoV1(unittest.TestCase):
+    def plan(self, *arguments: str) -> tuple[int | str | None, list[str]]:
+        status, words, error = run("--rego", "v1", "--library", str(LIBRARY), *arguments)
+        self.assertEqual(error, "")
+        return status, words.splitlines()
+
+    def test_reserved_names(self) -> None:
+        carets = {
+            "input := 1": "^^^^^ the name",
+            "[x, {\"a\": data}] = [1, 2]": "          ^^^^ the name",
+            "_ = input": "    ^^^^^ the name",
+            "input = data": "^^^^^ the name",
+            "some input, data in xs": "     ^^^^^ the name",
+            "some _, data in xs": "        ^^^^ the name",
+            "{\"a\": input, \"a\": x}": "      ^^^^^ the name",
+        }
+        for text, caret in carets.items():
+            with self.subTest(text=text):
+                status, lines = self.plan(text)
+                self.assertEqual((status, lines[0][:26]), (1, "refused, 31 reserved name:"))
+                self.assertEqual(lines[2], "    " + caret)
+        for operation in ("index", "parameter"):
+            self.assertEqual(self.plan("input", "--as", operation)[0], 1)
+
+    def test_planned_as_by_v0(self) -> None:
+        lines = self.plan("[w, w] = [18, 16]")[1]
+        self.assertEqual(lines[4:], ["     2    bind w", "     5    compare w"])
+        for text in ("{input}", "{input: x}", "f(input)", "x := input", "some x in input"):
+            self.assertEqual(self.plan(text)[0], 0)
+        self.assertEqual(self.plan("input = 1", "--bound", "input")[0], 0)
+        self.assertEqual(self.plan("--", "-3 = x")[0], 0)
+
+    def test_refusals_of_v0(self) -> None:
+        status, lines = self.plan("x := 1", "--bound-here", "x")
+        self.assertEqual((status, lines[0][:34]), (1, "refused, 17 VariableAlreadyDefined"))
+        self.assertEqual(self.plan("[" * 33 + "]" * 33)[1][0][:10], "refused, 3")
 
 
 if __name__ == "__main__":

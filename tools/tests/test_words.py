@@ -116,7 +116,7 @@ class Plans(unittest.TestCase):
 
 class Refusals(unittest.TestCase):
     def test_every_number_has_words(self) -> None:
-        self.assertEqual(set(MEANINGS), {*range(1, 8), *range(11, 19)})
+        self.assertEqual(set(MEANINGS), {*range(1, 8), *range(11, 19), 31})
 
     def test_place_and_counts(self) -> None:
         self.assertEqual(

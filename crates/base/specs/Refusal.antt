@@ -81,6 +81,10 @@ notAValue = refusal 22 refl 0 0 0
 abbrev pub nameWithoutValue : Refusal
 nameWithoutValue = refusal 23 refl 0 0 0
 
+-- planning for Rego v1
+abbrev pub reservedName : ℕ → Refusal
+reservedName name = refusal 31 refl name 0 0
+
 -- An answer's four numbers: 0, form, side, entries; or a refusal's number, place, two counts.
 pub record Line : Type 0 where
   pub number : ℕ

@@ -31,7 +31,7 @@ use Rattle.operation.specs.declared.Operation.{Operation}
 use Rattle.operation.specs.declared.numbers.OperationNumbers.{OperationNumbers}
 use Rattle.operation.specs.declared.row.Row.{Row}
 use Rattle.operation.specs.Numbers.{areListed, scopingOf, operationOf}
-use Rattle.operation.specs.Operation.{operationOutcome}
+use Rattle.operation.specs.Version.{versionOutcome}
 use Rattle.operation.specs.Rows.{rowLine}
 use Rattle.c_calls.specs.Given.{bytesOf, scopeOf, patternNumbers, testedFirst, givenFirst, GivenTold}
 use Rattle.c_calls.specs.Calls.{Told, planCall, PlanCalled, ranLine, runCall, namesSet, RunCalled, ReportCalled}
@@ -41,14 +41,15 @@ use Rattle.c_calls.proofs.Shortness.{plan-short, run-short, report-shor
 pub plan-fits :
     (T : Tables)
     (s : Scope)
+    (version : ℕ)
     (operation : Operation)
     {before after : List ℕ}
     {answer : PlanAnswer}
     {row : Row}
-    → Answered (operationOutcome T s operation) before after answer
+    → Answered (versionOutcome T s version operation) before after answer
     → rowLine row ≡ lineOf answer
     → ShortLine (rowLine row)
-plan-fits T s operation {before = before} done is = subst ShortLine (sym (is ∙ done .answer)) (plan-short T s operation before)
+plan-fits T s version operation {before = before} done is = subst ShortLine (sym (is ∙ done .answer)) (plan-short T s version operation before)
 
 pub run-fits :
     (T : Tables)
@@ -129,17 +130,19 @@ module _ (t : Tested) {n : ℕ} (e : line n 0 0 0 ≡ testedLine t) (some : n �
 module _ (T : Tables) (marks : List ℕ) (o : OperationNumbers) {made : Converted} (from : ConvertedFrom (bytesOf marks (o .scheduler)) made) {before : ℕ}
     (told : GivenTold T (conversionOf (made .answer)) o before) where
   pub plan-refused :
+      (version : ℕ)
       {buffer bufferExit words wordsExit : List ℕ}
       {r : ℕ}
       → (before ≡ 0 → ⊥)
       → bufferExit ≡ replicate (length buffer) 0
       → Told (line before 0 0 0) words wordsExit r
-      → PlanCalled (planCall T marks o) buffer words bufferExit wordsExit r
-  plan-refused some zeros done =
+      → PlanCalled (planCall T marks o version) buffer words bufferExit wordsExit r
+  plan-refused version some zeros done =
       plan-turned (givenFirst T marks o) (first-told T (bytesOf marks (o .scheduler)) o from told) some (givenFirst T marks o)
-      (operationOutcome T (scopeOf marks (o .scheduler)) (operationOf o)) refl zeros done
+      (versionOutcome T (scopeOf marks (o .scheduler)) version (operationOf o)) refl zeros done
 
   pub plan-done :
+      (version : ℕ)
       {buffer bufferExit words wordsExit : List ℕ}
       {operation : Operation}
       {answer : PlanAnswer}
@@ -147,11 +150,11 @@ module _ (T : Tables) (marks : List ℕ) (o : OperationNumbers) {made : Converte
       {r : ℕ}
       → before ≡ 0
       → operation ≡ operationOf o
-      → Answered (operationOutcome T (made .scope) operation) buffer bufferExit answer
+      → Answered (versionOutcome T (made .scope) version operation) buffer bufferExit answer
       → rowLine row ≡ lineOf answer
       → Told (rowLine row) words wordsExit r
-      → PlanCalled (planCall T marks o) buffer words bufferExit wordsExit r
-  plan-done none e was is done =
+      → PlanCalled (planCall T marks o version) buffer words bufferExit wordsExit r
+  plan-done version none e was is done =
       let planned = rw (made-scope T (bytesOf marks (o .scheduler)) o from told none, e) at was in
       let said = rw (is ∙ planned .answer) at done in
       rw (first-passed T (bytesOf marks (o .scheduler)) o from told none) (record { answer = said; plan = planned .buffer })

@@ -23,8 +23,8 @@ use Rattle.planner.specs.Short.{ShortLine, ShortRefusal, ShortOutcome}
 use Rattle.planner.specs.Simple.{simple}
 use Rattle.planner.proofs.laws.ShortOutcomes.{short, refusal-short, planned-short, checked-short, root-small, entries-few}
 use Rattle.operation.specs.declared.Operation.{Operation}
-use Rattle.operation.specs.Operation.{operationOutcome}
-use Rattle.operation.proofs.ShortOperation.{operation-short}
+use Rattle.operation.specs.Version.{versionOutcome}
+use Rattle.operation.proofs.ShortOperation.{version-short}
 use Rattle.value.specs.Value.{isValue}
 use Rattle.matching.specs.Matching as Matching
 use Rattle.run.specs.Answer.{turnedBack}
@@ -63,8 +63,8 @@ outcome-short (planned form side es) buffer p = go (fits es buffer)
     go true = p .0
     go false = short (omega arith) (omega arith) (p .0 .four) (omega arith)
 
-pub plan-short : (T : Tables) (s : Scope) (operation : Operation) (buffer : List ℕ) → ShortLine (answered (operationOutcome T s operation) buffer)
-plan-short T s operation buffer = outcome-short (operationOutcome T s operation) buffer (operation-short T s operation)
+pub plan-short : (T : Tables) (s : Scope) (version : ℕ) (operation : Operation) (buffer : List ℕ) → ShortLine (answered (versionOutcome T s version operation) buffer)
+plan-short T s version operation buffer = outcome-short (versionOutcome T s version operation) buffer (version-short T s version operation)
 
 -- a run
 abbrev ShortRun : RunOutcome → Type 0

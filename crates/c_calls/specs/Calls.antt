@@ -18,7 +18,7 @@ use Rattle.planner.specs.Operations as Plan
 use Rattle.planner.specs.Operations.{Outcome, answered, written}
 use Rattle.operation.specs.declared.numbers.OperationNumbers.{OperationNumbers}
 use Rattle.operation.specs.Numbers.{scopingOf, operationOf}
-use Rattle.operation.specs.Operation.{operationOutcome}
+use Rattle.operation.specs.Version.{versionOutcome}
 use Rattle.c_calls.specs.Given.{scopeOf, numbersOf, patternNumbers, givenFirst}
 
 -- An answer's four numbers in the lent words: as many as there is space for; words past the fourth stay.
@@ -31,17 +31,17 @@ pub record Told (l : Line) (before after : List ℕ) (r : ℕ) : Type 0 where
   pub words : after ≡ told l before
 
 -- Planning: what is given beside the tables is tested first (`givenFirst`).
-abbrev pub planCall : Tables → List ℕ → OperationNumbers → Outcome
-planCall T marks o = Plan.tableFirst (givenFirst T marks o) (operationOutcome T (scopeOf marks (o .scheduler)) (operationOf o))
+abbrev pub planCall : Tables → List ℕ → OperationNumbers → ℕ → Outcome
+planCall T marks o version = Plan.tableFirst (givenFirst T marks o) (versionOutcome T (scopeOf marks (o .scheduler)) version (operationOf o))
 
 pub record PlanCalled (o : Outcome) (buffer words bufferExit wordsExit : List ℕ) (r : ℕ) : Type 0 where
   pub answer : Told (answered o buffer) words wordsExit r
   pub plan : bufferExit ≡ written o buffer
 
 -- the same of what is lent, at entry and at exit
-abbrev pub PlanCalledIn : Slices → Slices → Tables → Slices → ℕ → ℕ → ℕ → ℕ → ℕ → ℕ → ℕ → Type 0
-PlanCalledIn plan answer T marks operation scheduler scoping first second key r =
-    PlanCalled (planCall T (old marks) (numbersOf operation scheduler scoping first second key)) (old plan) (old answer) (new plan) (new answer) r
+abbrev pub PlanCalledIn : Slices → Slices → Tables → Slices → ℕ → ℕ → ℕ → ℕ → ℕ → ℕ → ℕ → ℕ → Type 0
+PlanCalledIn plan answer T marks operation scheduler scoping first second key version r =
+    PlanCalled (planCall T (old marks) (numbersOf operation scheduler scoping first second key) version) (old plan) (old answer) (new plan) (new answer) r
 
 -- Run: the same first.
 abbrev pub runCall : Tables → List ℕ → ℕ → ℕ → ℕ → ℕ → List ℕ → RunOutcome

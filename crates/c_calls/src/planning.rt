@@ -10,7 +10,7 @@ use operation::numbers::operation_of;
 use operation::row::row_of;
 use planner::buffer::clear;
 
-// Plans the operation into the buffer. Roots that it doesn't use are ignored.
+// Plans the operation into the buffer, for a version of Rego: any but 1 is version 0. Roots that it doesn't use are ignored.
 #[no_mangle]
 pub extern "C" fn teluddru_plan(
     nodes: &[u32],
@@ -26,10 +26,11 @@ pub extern "C" fn teluddru_plan(
     first: u32,
     second: u32,
     key: u32,
+    version: u32,
     plan: &mut [u32],
     answer: &mut [u32],
 ) -> u32
-    ensures { λ r. ⌜ PlanCalledIn plan answer (lent nodes children numbers names strings text) marks operation scheduler scoping first second key r ⌝ }
+    ensures { λ r. ⌜ PlanCalledIn plan answer (lent nodes children numbers names strings text) marks operation scheduler scoping first second key version r ⌝ }
 {
     let asked = OperationNumbers {
         number: operation,
@@ -65,6 +66,7 @@ pub extern "C" fn teluddru_plan(
         text,
         scope,
         operation_of(asked),
+        version,
         plan,
     );
     tell(answer, row_of(planned))

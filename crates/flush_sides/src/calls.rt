@@ -16,6 +16,7 @@ pub(crate) fn plan(
     text: &[u8],
     scope: Scope,
     operation: Operation,
+    version: u32,
     plan: &mut [u32],
 ) -> PlanAnswer {
     let names = [name];
@@ -28,6 +29,7 @@ pub(crate) fn plan(
         text,
         scope,
         operation,
+        version,
         plan,
     )
 }

@@ -3,6 +3,7 @@ mod calls;
 
 use libc::STDOUT_FILENO;
 use operation::Operation;
+use operation::REGO_V0;
 use planner::PlanAnswer;
 use planner::buffer::ENTRY_WORDS;
 use report::ReportAnswer;
@@ -83,6 +84,7 @@ fn plan_rule(plan: &mut [u32]) -> PlanAnswer {
             scoping: ScopingMode::RespectParent,
             root: PATTERN,
         },
+        REGO_V0,
         plan,
     )
 }

@@ -1,4 +1,7 @@
 pub mod Cases
 pub mod NumberTests
+pub mod OperationParts
+pub mod ReservedNames
 pub mod ShortOperation
 pub mod RowLaws
+pub mod Versions

@@ -1,3 +1,5 @@
 pub mod Operation
 pub mod Numbers
 pub mod Rows
+pub mod Version
+pub mod code

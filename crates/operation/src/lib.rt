@@ -1,19 +1,29 @@
 // The planning call over the six operations.
 pub mod numbers;
+mod patterns;
 pub mod row;
+mod version;
 
 ghost use Rattle.table.specs.Lent.{lent};
 ghost use Rattle.planner.specs.Operations.{AnsweredIn};
 ghost use Rattle.operation.specs.Operation.{operationOutcome};
+ghost use Rattle.operation.specs.Version.{versionOutcome};
+use crate::version::refusing_name;
 use assignment::AssignOp;
 use assignment::assignment::create_assignment_binding_plan;
 use planner::PlanAnswer;
+use planner::buffer::clear;
 use planner::destructuring::create_destructuring_plan;
 use planner::parameters::create_loop_index_binding_plan;
 use planner::parameters::create_parameter_binding_plan;
 use scope::Scope;
 use scope::ScopingMode;
 use some_in::create_some_in_binding_plan;
+
+// Versions of Rego; any number but 1 counts as 0.
+pub const REGO_V0: u32 = 0;
+
+pub const REGO_V1: u32 = 1;
 
 // What to plan, with its roots; a some-in key of 0 says that there is none.
 pub enum Operation {
@@ -43,8 +53,8 @@ pub enum Operation {
     },
 }
 
-// Plans the operation into the buffer.
-pub fn plan(
+// Version 0.
+fn plan_v0(
     nodes: &[u32],
     children: &[u32],
     numbers: &[u64],
@@ -137,4 +147,47 @@ pub fn plan(
             plan,
         ),
     }
+}
+
+// Plans the operation into the buffer, for a version of Rego: any but 1 is version 0.
+pub fn plan(
+    nodes: &[u32],
+    children: &[u32],
+    numbers: &[u64],
+    names: &[u32],
+    strings: &[u8],
+    text: &[u8],
+    scope: Scope,
+    operation: Operation,
+    version: u32,
+    plan: &mut [u32],
+) -> PlanAnswer
+    ensures { λ r. ⌜ AnsweredIn plan (versionOutcome (lent nodes children numbers names strings text) scope version operation) r ⌝ }
+{
+    let name = refusing_name(
+        nodes,
+        children,
+        numbers,
+        names,
+        strings,
+        text,
+        scope,
+        operation,
+        version,
+    );
+    if name != 0 {
+        clear(plan);
+        return PlanAnswer::ReservedName { name };
+    }
+    plan_v0(
+        nodes,
+        children,
+        numbers,
+        names,
+        strings,
+        text,
+        scope,
+        operation,
+        plan,
+    )
 }

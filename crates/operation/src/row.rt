@@ -56,5 +56,6 @@ pub fn row_of(answer: PlanAnswer) -> Row
         PlanAnswer::ObjectKeyNotFound { key } => row_from(16, key as u64, 0, 0),
         PlanAnswer::VariableAlreadyDefined { name } => row_from(17, name as u64, 0, 0),
         PlanAnswer::IncompatibleDestructuringPatterns { side } => row_from(18, side as u64, 0, 0),
+        PlanAnswer::ReservedName { name } => row_from(31, name as u64, 0, 0),
     }
 }

@@ -1,7 +1,7 @@
 -- What a planning operation answers, as document 01's four numbers.
 use Rattle.planner.specs.declared.PlanAnswer.{PlanAnswer}
-use Rattle.planner.specs.declared.PlanAnswer.the-variants.{Planned, TableRefused, RootOutside, PlanTooLarge, ColonEqualsRequiresBindableLeft, ArraySizeMismatch, ArrayLengthMismatch, ObjectLiteralKeysMismatch, ObjectFieldCountMismatch, ObjectKeyNotFound, VariableAlreadyDefined, IncompatibleDestructuringPatterns}
-use Rattle.base.specs.Refusal.{Line, line, refusalLine, rootOutside, planTooLarge, colonEqualsRequiresBindableLeft, arraySizeMismatch, arrayLengthMismatch, objectLiteralKeysMismatch, objectFieldCountMismatch, objectKeyNotFound, variableAlreadyDefined, incompatibleDestructuringPatterns}
+use Rattle.planner.specs.declared.PlanAnswer.the-variants.{Planned, TableRefused, RootOutside, PlanTooLarge, ColonEqualsRequiresBindableLeft, ArraySizeMismatch, ArrayLengthMismatch, ObjectLiteralKeysMismatch, ObjectFieldCountMismatch, ObjectKeyNotFound, VariableAlreadyDefined, IncompatibleDestructuringPatterns, ReservedName}
+use Rattle.base.specs.Refusal.{Line, line, refusalLine, rootOutside, planTooLarge, colonEqualsRequiresBindableLeft, arraySizeMismatch, arrayLengthMismatch, objectLiteralKeysMismatch, objectFieldCountMismatch, objectKeyNotFound, variableAlreadyDefined, incompatibleDestructuringPatterns, reservedName}
 use Rattle.table.specs.Check.{tableRefused}
 
 abbrev pub lineOf : PlanAnswer → Line
@@ -17,3 +17,4 @@ lineOf (ObjectFieldCountMismatch left keys fields) = refusalLine (objectFieldCou
 lineOf (ObjectKeyNotFound key) = refusalLine (objectKeyNotFound key)
 lineOf (VariableAlreadyDefined name) = refusalLine (variableAlreadyDefined name)
 lineOf (IncompatibleDestructuringPatterns side) = refusalLine (incompatibleDestructuringPatterns side)
+lineOf (ReservedName name) = refusalLine (reservedName name)

@@ -51,4 +51,7 @@ pub enum PlanAnswer {
     IncompatibleDestructuringPatterns {
         side: u32,
     },
+    ReservedName {
+        name: u32,
+    },
 }

@@ -16,6 +16,7 @@ use crate::header::MOST_NUMBERS;
 use crate::listing::refuse;
 use crate::listing::write_lines;
 use crate::tables::read_tables;
+use operation::REGO_V0;
 use operation::numbers::OperationNumbers;
 use operation::numbers::operation_of;
 use operation::row::Row;
@@ -93,6 +94,7 @@ fn plan_tables(
         &sheet[text..end],
         scope,
         operation_of(operation),
+        REGO_V0,
         plan,
     );
     let first = row_of(answer);

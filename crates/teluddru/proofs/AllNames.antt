@@ -1,8 +1,9 @@
 -- What each call answers over the names that are copied, it answers over all.
 use Prim.Native.Nat.{ℕ, _/_, _<_}
-use mathlib.Core.Path.{_≡_, sym, _∙_, ap, subst}
-use mathlib.Core.Bool.{Bool}
+use mathlib.Core.Path.{_≡_, refl, sym, _∙_, ap, subst}
+use mathlib.Core.Bool.{Bool, true, false}
 use mathlib.Core.List.{List}
+use lib.Dec.{eqb}
 use lib.ListN.{length}
 use Rattle.scope.specs.declared.Scope.{Scope}
 use Rattle.scope.specs.declared.ScopingMode.{ScopingMode}
@@ -22,22 +23,20 @@ use Rattle.run.specs.declared.RunAnswer.{RunAnswer}
 use Rattle.run.specs.Operations.{RunOutcome, refused, runOutcome, plannedName, Ran, valuesAfter}
 use Rattle.teluddru.specs.declared.Name.{Name}
 use Rattle.operation.specs.declared.Operation.{Operation}
-use Rattle.operation.specs.declared.Operation.the-variants.{Pattern, ColonEquals, Equals, SomeIn, Index, Parameter}
 use Rattle.teluddru.specs.declared.records.NameWords.{NameWords}
 use Rattle.teluddru.specs.Records.{nameWords}
 use Rattle.teluddru.specs.code.Copying.{held, Copied}
-use Rattle.operation.specs.Operation.{operationOutcome}
+use Rattle.operation.specs.Version.{versionOutcome}
+use Rattle.operation.proofs.Versions.{table-refused}
 use Rattle.teluddru.proofs.Limits.{over-limit, as-all}
 
 -- ---- over the limit of names each call is refused
-plan-refused : (T : Tables) (s : Scope) (operation : Operation) → checked T s ≡ Refusal.refused overLimit → operationOutcome T s operation ≡ Plan.refused overLimit
-unfolding operationOutcome
-plan-refused T s (Pattern scoping root) e = simp e
-plan-refused T s (ColonEquals left right) e = simp e
-plan-refused T s (Equals left right) e = simp e
-plan-refused T s (SomeIn value collection key) e = simp e
-plan-refused T s (Index root) e = simp e
-plan-refused T s (Parameter scoping root) e = simp e
+plan-refused : (T : Tables) (s : Scope) (version : ℕ) (operation : Operation) → checked T s ≡ Refusal.refused overLimit → versionOutcome T s version operation ≡ Plan.refused overLimit
+plan-refused T s version operation e = go (eqb version 1) refl
+  where
+    go : (v : Bool) → eqb version 1 ≡ v → versionOutcome T s version operation ≡ Plan.refused overLimit
+    go true v = simp (v, e)
+    go false v = simp v (table-refused T s operation e)
 
 run-refused : (T : Tables) (s : Scope) (mode : ScopingMode) (pattern value : ℕ) (values : List ℕ) → checked T s ≡ Refusal.refused overLimit → runOutcome T s mode pattern value values ≡ refused overLimit
 run-refused T s mode pattern value values e = simp e
@@ -56,11 +55,11 @@ module _ (over : List ℕ → Tables) (counts : (names : List ℕ) → nameCount
   too-many : (names : List ℕ) → 128 < length names / 2 → checked (over names) s ≡ Refusal.refused overLimit
   too-many names l = over-limit (over names) s (subst (λ (k : ℕ). 128 < k) (sym (counts names)) l)
 
-  pub plan-all : (operation : Operation) (ns : List Name) (names : NameWords) → Copied ns names → {before later : List ℕ} {r : PlanAnswer}
-      → Answered (operationOutcome (over (held names)) s operation) before later r → Answered (operationOutcome (over (nameWords ns)) s operation) before later r
-  plan-all operation ns names copied {before} {later} {r} =
-      as-all (λ ws. Answered (operationOutcome (over ws) s operation) before later r)
-      (λ ws ws′ l l′. subst (λ (o : Outcome). Answered o before later r) (plan-refused (over ws) s operation (too-many ws l) ∙ sym (plan-refused (over ws′) s operation (too-many ws′ l′))))
+  pub plan-all : (version : ℕ) (operation : Operation) (ns : List Name) (names : NameWords) → Copied ns names → {before later : List ℕ} {r : PlanAnswer}
+      → Answered (versionOutcome (over (held names)) s version operation) before later r → Answered (versionOutcome (over (nameWords ns)) s version operation) before later r
+  plan-all version operation ns names copied {before} {later} {r} =
+      as-all (λ ws. Answered (versionOutcome (over ws) s version operation) before later r)
+      (λ ws ws′ l l′. subst (λ (o : Outcome). Answered o before later r) (plan-refused (over ws) s version operation (too-many ws l) ∙ sym (plan-refused (over ws′) s version operation (too-many ws′ l′))))
       ns names copied
 
   module _ (mode : ScopingMode) (pattern : ℕ) where

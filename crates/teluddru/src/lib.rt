@@ -18,7 +18,7 @@ ghost use Rattle.planner.specs.Operations.{AnsweredIn};
 ghost use Rattle.report.specs.Report.{ReportedIn};
 ghost use Rattle.run.specs.Operations.{RanIn};
 ghost use Rattle.teluddru.specs.Records.{lentRecords};
-ghost use Rattle.operation.specs.Operation.{operationOutcome};
+ghost use Rattle.operation.specs.Version.{versionOutcome};
 
 // A range of the rule text.
 pub struct Name {
@@ -26,7 +26,7 @@ pub struct Name {
     pub length: u32,
 }
 
-// The planning call.
+// The planning call, for a version of Rego: any but 1 is version 0.
 pub fn plan(
     nodes: &[u32],
     children: &[u32],
@@ -36,9 +36,10 @@ pub fn plan(
     text: &[u8],
     scope: Scope,
     operation: Operation,
+    version: u32,
     plan: &mut [u32],
 ) -> PlanAnswer
-    ensures { λ r. ⌜ AnsweredIn plan (operationOutcome (lentRecords nodes children numbers names strings text) scope operation) r ⌝ }
+    ensures { λ r. ⌜ AnsweredIn plan (versionOutcome (lentRecords nodes children numbers names strings text) scope version operation) r ⌝ }
 {
     plan_words(
         nodes,
@@ -49,6 +50,7 @@ pub fn plan(
         text,
         scope,
         operation,
+        version,
         plan,
     )
 }

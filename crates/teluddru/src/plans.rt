@@ -6,7 +6,7 @@ use scope::Scope;
 ghost use Prim.Native.Nat.{_≤_};
 ghost use Rattle.planner.specs.Operations.{AnsweredIn};
 ghost use Rattle.teluddru.specs.code.Copying.{lentWords};
-ghost use Rattle.operation.specs.Operation.{operationOutcome};
+ghost use Rattle.operation.specs.Version.{versionOutcome};
 
 pub(crate) fn plan_words(
     nodes: &[u32],
@@ -17,10 +17,11 @@ pub(crate) fn plan_words(
     text: &[u8],
     scope: Scope,
     operation: Operation,
+    version: u32,
     plan: &mut [u32],
 ) -> PlanAnswer
     requires { ⌜ names .count ≤ 129 ⌝ }
-    ensures { λ r. ⌜ AnsweredIn plan (operationOutcome (lentWords nodes children numbers names strings text) scope operation) r ⌝ }
+    ensures { λ r. ⌜ AnsweredIn plan (versionOutcome (lentWords nodes children numbers names strings text) scope version operation) r ⌝ }
 {
     let all = &names.words[..];
     let end = names.count * 2;
@@ -33,6 +34,7 @@ pub(crate) fn plan_words(
         text,
         scope,
         operation,
+        version,
         plan,
     )
 }

@@ -1,58 +1,17 @@
-use Rattle.operation.specs.Operation.{operationOutcome}
-use Rattle.operation.proofs.Cases.{by-case}
+use Rattle.operation.proofs.Versions.{plan-reserved, plan-unreserved}
 use borrow.Author.Needs.{needs}
 use Rattle.operation.proofs.plan.Statement.{statement}
 use Rattle.operation.proofs.plan.Tie as tie
 
 returns : tie.Need-returns
-unfolding operationOutcome
-returns c = search (by-case, needs)
-
-returns-2 : tie.Need-returns-2
-unfolding operationOutcome
-returns-2 c = search (by-case, needs)
-
-returns-3 : tie.Need-returns-3
-unfolding operationOutcome
-returns-3 c = search (by-case, needs)
-
-returns-4 : tie.Need-returns-4
-unfolding operationOutcome
-returns-4 c = search (by-case, needs)
-
-returns-5 : tie.Need-returns-5
-unfolding operationOutcome
-returns-5 c = search (by-case, needs)
-
-returns-6 : tie.Need-returns-6
-unfolding operationOutcome
-returns-6 c = search (by-case, needs)
+returns c = search (plan-reserved, needs)
 
 pub plan-spec : {M : Type 1} → statement M
-plan-spec =
-    tie.close
-    (tie.spec
-    (λ c. search needs)
+plan-spec = tie.close (tie.spec
     (λ c κs. search needs)
-    (λ c. search needs)
-    (λ c κs. search needs)
-    (λ c. search needs)
-    (λ c κs. search needs)
-    (λ c. search needs)
-    (λ c κs. search needs)
-    (λ c. search needs)
-    (λ c κs. search needs)
-    (λ c. search needs)
     (λ c κs. search needs)
     (λ c. search needs)
     returns
+    (λ c κs. search needs)
     (λ c. search needs)
-    returns-2
-    (λ c. search needs)
-    returns-3
-    (λ c. search needs)
-    returns-4
-    (λ c. search needs)
-    returns-5
-    (λ c. search needs)
-    returns-6)
+    (λ c. search (plan-unreserved, needs)))

@@ -6,7 +6,7 @@ use mathlib.Core.List.{List}
 use lib.Dec.{eqb}
 use Rattle.table.specs.declared.TableRefusal.the-variants.{OverLimit, BreaksRules, TooDeep, EqualNames}
 use Rattle.planner.specs.declared.PlanAnswer.{PlanAnswer}
-use Rattle.planner.specs.declared.PlanAnswer.the-variants.{Planned, TableRefused, RootOutside, PlanTooLarge, ColonEqualsRequiresBindableLeft, ArraySizeMismatch, ArrayLengthMismatch, ObjectLiteralKeysMismatch, ObjectFieldCountMismatch, ObjectKeyNotFound, VariableAlreadyDefined, IncompatibleDestructuringPatterns}
+use Rattle.planner.specs.declared.PlanAnswer.the-variants.{Planned, TableRefused, RootOutside, PlanTooLarge, ColonEqualsRequiresBindableLeft, ArraySizeMismatch, ArrayLengthMismatch, ObjectLiteralKeysMismatch, ObjectFieldCountMismatch, ObjectKeyNotFound, VariableAlreadyDefined, IncompatibleDestructuringPatterns, ReservedName}
 use Rattle.base.specs.Refusal.{Line}
 use Rattle.planner.specs.Answer.{lineOf}
 use Rattle.planner.specs.Operations.{Outcome, answered, Answered}
@@ -28,7 +28,8 @@ answerOf l =
     (cond (eqb (l .number) 15) (ObjectFieldCountMismatch (l .second) (l .third) (l .fourth))
     (cond (eqb (l .number) 16) (ObjectKeyNotFound (l .second))
     (cond (eqb (l .number) 17) (VariableAlreadyDefined (l .second))
-    (IncompatibleDestructuringPatterns (l .second)))))))))))))))
+    (cond (eqb (l .number) 18) (IncompatibleDestructuringPatterns (l .second))
+    (ReservedName (l .second))))))))))))))))
 
 back : (r : PlanAnswer) → answerOf (lineOf r) ≡ r
 back (Planned form side entries) = refl
@@ -46,6 +47,7 @@ back (ObjectFieldCountMismatch left keys fields) = refl
 back (ObjectKeyNotFound key) = refl
 back (VariableAlreadyDefined name) = refl
 back (IncompatibleDestructuringPatterns side) = refl
+back (ReservedName name) = refl
 
 pub settled : (r q : PlanAnswer) → lineOf r ≡ lineOf q → r ≡ q
 settled r q e = sym (back r) ∙ (ap answerOf e ∙ back q)

@@ -30,7 +30,7 @@ pub short : {a b c d : ℕ} → a < 1000000 → b < 1000000 → c < 1000000 → 
 short a b c d = record { one = a; two = b; three = c; four = d }
 
 -- a number and a node
-pub refusal-short : {number node : ℕ} → number ≤ 23 → node ≤ 512 → Short number node 0 0
+pub refusal-short : {number node : ℕ} → number ≤ 31 → node ≤ 512 → Short number node 0 0
 refusal-short a b = short (omega arith) (omega arith) (omega arith) (omega arith)
 
 pub planned-short : (form side : ℕ) (es : List Entry) → form ≤ 6 → side ≤ 3 → length es ≤ 262656 → Every ShortEntry es → ShortOutcome (planned form side es)

@@ -136,6 +136,15 @@ cast-row-from-18 c = search needs
 row-from-requires-12 : tie.Need-row-from-requires-12
 row-from-requires-12 c κs = search needs
 
+enum-known-answer-12 : tie.Need-enum-known-answer-12
+enum-known-answer-12 c = search needs
+
+cast-row-from-19 : tie.Need-cast-row-from-19
+cast-row-from-19 c = search needs
+
+row-from-requires-13 : tie.Need-row-from-requires-13
+row-from-requires-13 c κs = search needs
+
 returns : tie.Need-returns
 returns c = search (row-is, needs)
 
@@ -171,6 +180,9 @@ returns-11 c = search (row-is, needs)
 
 returns-12 : tie.Need-returns-12
 returns-12 c = search (row-is, needs)
+
+returns-13 : tie.Need-returns-13
+returns-13 c = search (row-is, needs)
 
 pub row-of-spec : {M : Type 1} → statement M
 row-of-spec =
@@ -219,6 +231,9 @@ row-of-spec =
     enum-known-answer-11
     cast-row-from-18
     row-from-requires-12
+    enum-known-answer-12
+    cast-row-from-19
+    row-from-requires-13
     returns
     returns-2
     returns-3
@@ -230,4 +245,5 @@ row-of-spec =
     returns-9
     returns-10
     returns-11
-    returns-12)
+    returns-12
+    returns-13)
