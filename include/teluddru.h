@@ -167,7 +167,7 @@ enum teluddru_entry {
 enum teluddru_reported {
     TELUDDRU_NAME_NOT_MET = 0,
     TELUDDRU_NAME_BOUND = 1, /* in the plan */
-    TELUDDRU_NAME_MET = 2    /* through arrays and object values, but not bound there */
+    TELUDDRU_NAME_MET = 2    /* through arrays and object values, or a computed key there; not bound */
 };
 
 /*

@@ -4,6 +4,7 @@ pub mod answer;
 pub mod comparison;
 pub mod generate;
 pub mod matching;
+pub mod reporting;
 pub mod selection;
 pub mod sheets;
 pub mod subject;

@@ -1,3 +1,4 @@
 pub mod Answers
+pub mod KeyNames
 pub mod Meeting
 pub mod Reporting

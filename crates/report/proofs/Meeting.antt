@@ -33,7 +33,7 @@ use Rattle.value.proofs.Keys.{or-left, or-right, or-elim, is-true, true-is}
 use Rattle.matching.proofs.Fits.{silent}
 use Rattle.report.specs.Report.{namesMet}
 use Rattle.planner.proofs.buffer.Filling.{length-tabulate, getD-tabulate}
-use Rattle.report.specs.code.Post.{metWords, metMark}
+use Rattle.report.specs.code.Post.{nameWords, metWords, metMark}
 
 abbrev namesMetAll : Exprs → List ℕ
 namesMetAll es = namesOf (occurrencesAll false false es)
@@ -159,19 +159,22 @@ met-by T root {s} {binders = binders} {met = met} g is p of =
         sym (after-met (isUnbound s AllowShadowing) x (expr T root) [] ∙ (ap (λ (b : Bool). (elem x (namesMet (expr T root)) && b) || false) free ∙ plain (elem x (namesMet (expr T root))))) ∙ pattern-tracked (g .table) (g .node) p x v
 
 -- the word of a name
-pub met-at : (e : Expr) {met : List ℕ} → met ≡ metWords e → (x : ℕ) → NameNumber x → elem x (namesMet e) ≡ not (eqb (getD met (x - 1) 0) 0)
-unfolding metWords
-met-at e {met} is x v =
+pub word-at : (xs : List ℕ) {met : List ℕ} → met ≡ nameWords xs → (x : ℕ) → NameNumber x → elem x xs ≡ not (eqb (getD met (x - 1) 0) 0)
+word-at xs {met} is x v =
     let low = v .low in
     let high = v .high in
     let z : 0 + (x - 1) + 1 ≡ x = omega arith in
     sym (ap (λ (l : List ℕ). not (eqb (getD l (x - 1) 0) 0)) is
-    ∙ (ap (λ (n : ℕ). not (eqb n 0)) (getD-tabulate (λ i. cond (elem (i + 1) (namesMet e)) 2 0) 0 128 (x - 1) (omega arith))
-    ∙ (ap (λ (y : ℕ). not (eqb (cond (elem y (namesMet e)) 2 0) 0)) z ∙ told (elem x (namesMet e)))))
+    ∙ (ap (λ (n : ℕ). not (eqb n 0)) (getD-tabulate (λ i. cond (elem (i + 1) xs) 2 0) 0 128 (x - 1) (omega arith))
+    ∙ (ap (λ (y : ℕ). not (eqb (cond (elem y xs) 2 0) 0)) z ∙ told (elem x xs))))
   where
     told : (b : Bool) → not (eqb (cond b 2 0) 0) ≡ b
     told true = refl
     told false = refl
+
+pub met-at : (e : Expr) {met : List ℕ} → met ≡ metWords e → (x : ℕ) → NameNumber x → elem x (namesMet e) ≡ not (eqb (getD met (x - 1) 0) 0)
+unfolding metWords
+met-at e is x v = word-at (namesMet e) is x v
 
 -- a name that is met stands in the pattern
 module _ (x : ℕ) where

@@ -36,9 +36,10 @@ use Rattle.matching.proofs.EntryLists.{AllE, all-append, all-at, AllOrder, all-
 use Rattle.report.specs.declared.ReportAnswer.{ReportAnswer}
 use Rattle.report.specs.declared.ReportAnswer.the-variants.{Reported, TableRefused, RootOutside, ListTooShort}
 use Rattle.report.specs.Answer.{reportLine}
-use Rattle.report.specs.Report.{namesMet, reported, ReportOutcome, refused, filled, require, reportOutcome, reportAnswer, reportList, ReportedBy}
-use Rattle.report.specs.code.Post.{metWords, metMark, EntryBound, markedBy, BoundAsks, BoundMarked, ReportAsks, PlannedMarked, ReportMarked}
-use Rattle.report.proofs.Meeting.{met-at, met-mentioned, mentioned-named}
+use Rattle.report.specs.Report.{namesReported, reported, ReportOutcome, refused, filled, require, reportOutcome, reportAnswer, reportList, ReportedBy}
+use Rattle.report.specs.code.Post.{reportWords, metMark, EntryBound, markedBy, BoundAsks, BoundMarked, ReportAsks, PlannedMarked, ReportMarked}
+use Rattle.report.proofs.KeyNames.{reported-mentioned}
+use Rattle.report.proofs.Meeting.{word-at, mentioned-named}
 
 -- the mark of a name that is met
 module _ (met : List ℕ) (i : ℕ) where
@@ -217,18 +218,19 @@ module _ (T : Tables) (s : Scope) (mode : ScopingMode) (pattern : ℕ) {list : L
         let q = wrote-read (p .wrote) (omega (arith, length-replicate {A = ℕ} patternWords 0)) in
         record { long = m .long; each = λ k. m .each k ∙ ap (λ (l : List Entry). cond (elem (k + 1) (boundNames (firstOf (T .nodes)) l)) 1 (getD list k 0)) q }
 
--- met, then bound
-module _ (T : Tables) (s : Scope) (mode : ScopingMode) (pattern : ℕ) {before : List ℕ} (a : ReportAsks T pattern before) {met : List ℕ} (by : met ≡ metWords (expr T pattern)) where
+-- met or a computed key, then bound
+module _ (T : Tables) (s : Scope) (mode : ScopingMode) (pattern : ℕ) {before : List ℕ} (a : ReportAsks T pattern before) {met : List ℕ} (by : met ≡ reportWords (expr T pattern)) where
   module _ {mid : List ℕ} (is : mid ≡ tabulate (metMark met) 0 (length before)) where
     mid-long : length mid ≡ length before
     mid-long = ap length is ∙ length-tabulate (metMark met) 0 (length before)
 
-    met-is : (k : ℕ) → metMark met k ≡ cond (elem (k + 1) (namesMet (expr T pattern))) 2 0
+    met-is : (k : ℕ) → metMark met k ≡ cond (elem (k + 1) (namesReported (expr T pattern))) 2 0
+    unfolding reportWords
     met-is k = go (ltb k 128) refl
       where
-        none-met : (c : Bool) → elem (k + 1) (namesMet (expr T pattern)) ≡ c → 128 ≤ k → _≡_ {A = ℕ} 0 (cond c 2 0)
+        none-met : (c : Bool) → elem (k + 1) (namesReported (expr T pattern)) ≡ c → 128 ≤ k → _≡_ {A = ℕ} 0 (cond c 2 0)
         none-met true e le =
-            let v = mentioned-named T (a .good .table) pattern (a .good .node) (k + 1) (met-mentioned (k + 1) (expr T pattern) e) in
+            let v = mentioned-named T (a .good .table) pattern (a .good .node) (k + 1) (reported-mentioned (k + 1) (expr T pattern) e) in
             let h = v .high in
             let few = a .good .table .limits .names in
             absurd (omega arith)
@@ -238,13 +240,13 @@ module _ (T : Tables) (s : Scope) (mode : ScopingMode) (pattern : ℕ) {before :
         pick true = refl
         pick false = refl
 
-        go : (b : Bool) → ltb k 128 ≡ b → _≡_ {A = ℕ} (cond b (cond (eqb (getD met k 0) 0) 0 2) 0) (cond (elem (k + 1) (namesMet (expr T pattern))) 2 0)
+        go : (b : Bool) → ltb k 128 ≡ b → _≡_ {A = ℕ} (cond b (cond (eqb (getD met k 0) 0) 0 2) 0) (cond (elem (k + 1) (namesReported (expr T pattern))) 2 0)
         go true e =
             let lt = ltb-true k 128 e in
             let q : k + 1 - 1 ≡ k = omega arith in
-            let m : elem (k + 1) (namesMet (expr T pattern)) ≡ not (eqb (getD met k 0) 0) = rw q at (met-at (expr T pattern) by (k + 1) (record { low = omega arith; high = omega arith })) in
+            let m : elem (k + 1) (namesReported (expr T pattern)) ≡ not (eqb (getD met k 0) 0) = rw q at (word-at (namesReported (expr T pattern)) by (k + 1) (record { low = omega arith; high = omega arith })) in
             pick (eqb (getD met k 0) 0) ∙ sym (ap (λ (c : Bool). cond c 2 0) m)
-        go false e = none-met (elem (k + 1) (namesMet (expr T pattern))) refl (ltb-false k 128 e)
+        go false e = none-met (elem (k + 1) (namesReported (expr T pattern))) refl (ltb-false k 128 e)
 
     pub report-marked : {after : List ℕ} → PlannedMarked T s mode pattern mid after → ReportMarked T s mode pattern before after
     report-marked {after} m = record {
@@ -255,7 +257,7 @@ module _ (T : Tables) (s : Scope) (mode : ScopingMode) (pattern : ℕ) {before :
           let f = mid-long in
           let inside : k < length before = omega arith in
           let z : 0 + k ≡ k = omega arith in
-          let here : getD mid k 0 ≡ cond (elem (k + 1) (namesMet (expr T pattern))) 2 0 = ap (λ (l : List ℕ). getD l k 0) is ∙ (getD-tabulate (metMark met) 0 (length before) k inside ∙ (ap (metMark met) z ∙ met-is k)) in
+          let here : getD mid k 0 ≡ cond (elem (k + 1) (namesReported (expr T pattern))) 2 0 = ap (λ (l : List ℕ). getD l k 0) is ∙ (getD-tabulate (metMark met) 0 (length before) k inside ∙ (ap (metMark met) z ∙ met-is k)) in
           m .each k
           ∙ (ap (λ (v : ℕ). cond (elem (k + 1) (boundNames (firstOf (T .nodes)) (entries (planOf T s mode pattern) top))) 1 v) here
           ∙ sym (getD-tabulate (λ i. reported T s mode pattern (i + 1)) 0 (length before) k inside ∙ ap (λ (j : ℕ). reported T s mode pattern (j + 1)) z)));

@@ -1,3 +1,4 @@
 pub mod Answer
+pub mod ComputedKeys
 pub mod Report
 pub mod code

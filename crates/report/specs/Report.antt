@@ -1,8 +1,8 @@
--- The names report of a pattern: for each name 1 bound in the plan, 2 met through arrays and object values but not bound there, else 0.
+-- The names report of a pattern: for each name 1 bound in the plan; 2 not bound there but met through arrays and object values, or a computed key there; else 0.
 use Prim.Native.Nat.{ℕ, _+_}
 use mathlib.Core.Path.{_≡_}
 use mathlib.Core.Bool.{Bool, cond, false}
-use mathlib.Core.List.{List, _∷_, []}
+use mathlib.Core.List.{List, _∷_, [], _++_}
 use lib.Dec.{leb}
 use lib.ListN.{length, replicate}
 use Rattle.scope.specs.declared.Scope.{Scope}
@@ -20,16 +20,21 @@ use Rattle.planner.specs.Names.{namesIn}
 use Rattle.planner.specs.Operations.{planOf}
 use Rattle.report.specs.declared.ReportAnswer.{ReportAnswer}
 use Rattle.report.specs.Answer.{reportLine}
+use Rattle.report.specs.ComputedKeys.{namesAsKeys}
 
 -- the names met through arrays and object values
 abbrev pub namesMet : Expr → List ℕ
 namesMet e = namesIn false false e
 
+-- those, and the names that stand as computed keys there
+abbrev pub namesReported : Expr → List ℕ
+namesReported e = namesMet e ++ namesAsKeys e
+
 abbrev pub reportedBy : List ℕ → List ℕ → ℕ → ℕ
-reportedBy bound met x = cond (elem x bound) 1 (cond (elem x met) 2 0)
+reportedBy bound there x = cond (elem x bound) 1 (cond (elem x there) 2 0)
 
 abbrev pub reported : Tables → Scope → ScopingMode → ℕ → ℕ → ℕ
-reported T s mode root x = reportedBy (boundNames (firstOf (T .nodes)) (entries (planOf T s mode root) top)) (namesMet (expr T root)) x
+reported T s mode root x = reportedBy (boundNames (firstOf (T .nodes)) (entries (planOf T s mode root) top)) (namesReported (expr T root)) x
 
 -- What a report comes to: a refusal, or the list filled in.
 pub data ReportOutcome : Type 0 where

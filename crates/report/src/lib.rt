@@ -5,7 +5,7 @@ ghost use mathlib.Core.Path.{_≡_};
 ghost use Rattle.report.specs.Report.{ReportedIn};
 ghost use Rattle.report.specs.code.Post.{EntryBound, markedBy, BoundAsks, BoundMarked, ReportAsks, PlannedMarked, ReportMarked};
 use inner::mark_met;
-use inner::names_met;
+use keys::names_reported;
 use planner::buffer::ENTRY_WORDS;
 use planner::buffer::PATTERN_WORDS;
 use planner::buffer::clear;
@@ -20,6 +20,7 @@ use table::reading::first_of;
 use table::reading::is_node;
 
 pub mod inner;
+mod keys;
 
 pub enum ReportAnswer {
     Reported,
@@ -105,7 +106,7 @@ fn report_names(
     requires { ⌜ ReportAsks (given nodes children numbers names strings text) pattern (now list) ⌝ }
     ensures { λ _. ⌜ ReportMarked (lent nodes children numbers names strings text) scope scoping pattern (old list) (new list) ⌝ }
 {
-    let met = names_met(nodes, children, numbers, names, strings, text, pattern);
+    let met = names_reported(nodes, children, numbers, names, strings, text, pattern);
     mark_met(&met, list);
     mark_planned(
         nodes,
@@ -121,7 +122,7 @@ fn report_names(
     );
 }
 
-// For each name 1 bound in the pattern's plan, 2 met but not bound there, else 0.
+// For each name 1 bound in the pattern's plan, 2 met or a computed key but not bound there, else 0.
 pub fn names_report(
     nodes: &[u32],
     children: &[u32],

@@ -1,9 +1,11 @@
 //! match [--exhaustive] [--seed SEED] [N]: holds the run of crate c_calls against a matcher that
-//! tries all fillings, on N generated cases (100,000) or on all small ones, and prints a tally.
+//! tries all fillings, on N generated cases (100,000) or on all small ones, and prints a tally; and
+//! the names report against a second reading, on N generated patterns.
 
 use oracle::matching::comparison::Comparison;
 use oracle::matching::entry::LINKED;
 use oracle::matching::{exhaustive, generate};
+use oracle::reporting;
 use std::process::ExitCode;
 use std::time::Instant;
 
@@ -31,7 +33,7 @@ fn main() -> ExitCode {
         eprintln!("usage: match [--exhaustive] [--seed SEED] [N]");
         return ExitCode::from(2);
     };
-    let Some(subject) = LINKED else {
+    let (Some(subject), Some(reporter)) = (LINKED, reporting::entry::LINKED) else {
         eprintln!("match: no library is linked (see README.md)");
         return ExitCode::from(2);
     };
@@ -43,10 +45,22 @@ fn main() -> ExitCode {
         let cases = (0..options.count).map(|number| generate::case(options.seed, number));
         cases.for_each(|case| comparison.case(case));
     }
-    report(&comparison, start.elapsed().as_secs())
+    let mut reports = reporting::comparison::Comparison::new(reporter);
+    (0..options.count).for_each(|number| reports.case(&reporting::case(options.seed, number)));
+    let agree = report(&comparison, start.elapsed().as_secs()) & report_names(&reports);
+    ExitCode::from(u8::from(!agree))
 }
 
-fn report(comparison: &Comparison, seconds: u64) -> ExitCode {
+fn report_names(reports: &reporting::comparison::Comparison) -> bool {
+    reports.differences.iter().for_each(|difference| println!("{difference}"));
+    let agreeing = reports.cases - reports.differing;
+    print!("{} names reports compared, {agreeing} agree, ", reports.cases);
+    print!("{} differ ({} bound, ", reports.differing, reports.bound);
+    println!("{} met or keys, {} refusals)", reports.met, reports.refusals);
+    reports.differing == 0
+}
+
+fn report(comparison: &Comparison, seconds: u64) -> bool {
     print!("{}", comparison.tally);
     comparison.differences.iter().for_each(|difference| println!("{difference}"));
     let agreeing = comparison.cases - comparison.differing;
@@ -54,5 +68,5 @@ fn report(comparison: &Comparison, seconds: u64) -> ExitCode {
         "{} runs compared, {agreeing} agree, {} differ ({seconds} s)",
         comparison.cases, comparison.differing
     );
-    ExitCode::from(u8::from(comparison.differing > 0))
+    comparison.differing == 0
 }

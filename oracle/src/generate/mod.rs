@@ -39,6 +39,17 @@ pub fn sheet(seed: u64, case: u64) -> Vec<u8> {
     }
 }
 
+/// The tables of a case, at times with a fault.
+pub fn draft(seed: u64, case: u64) -> Draft {
+    let random = &mut Random::of_case(seed, case);
+    let mut draft = planned(random);
+    if random.chance(10) {
+        let faults = [damage::break_tables, damage::repeat_name, damage::move_root];
+        random.pick(&faults)(random, &mut draft);
+    }
+    draft
+}
+
 /// A sound draft with a fault, sometimes with a second one.
 fn damaged(random: &mut Random, fault: impl Fn(&mut Random, &mut Draft)) -> Vec<u8> {
     let mut draft = if random.chance(10) { edges::deep(random) } else { planned(random) };

@@ -9,8 +9,8 @@ use super::value::equal;
 use std::fmt;
 
 /// Words past the list, the plan buffer and the answer, which are not the subject's.
-const GUARD: usize = 4;
-const UNWRITTEN: u32 = 0xa5a5_a5a5;
+pub(crate) const GUARD: usize = 4;
+pub(crate) const UNWRITTEN: u32 = 0xa5a5_a5a5;
 /// Differences beyond these are counted alone.
 const KEPT: usize = 20;
 
@@ -74,7 +74,7 @@ fn actual(subject: Run, case: &Case) -> Outcome {
     Outcome { number, values, plan, answer }
 }
 
-fn with_guard(words: &[u32]) -> Vec<u32> {
+pub(crate) fn with_guard(words: &[u32]) -> Vec<u32> {
     [words, &[UNWRITTEN; GUARD]].concat()
 }
 

@@ -8,9 +8,28 @@ pub type Run = fn(&Case, &mut [u32], &mut [u32], &mut [u32]) -> u32;
 pub const MATCH: u32 = 0;
 pub const NO_MATCH: u32 = 100;
 
+/// The words of the tables that a draft holds in another form.
+pub struct Words {
+    pub nodes: Vec<u32>,
+    pub numbers: Vec<u64>,
+    pub names: Vec<u32>,
+}
+
+impl Words {
+    pub fn of(case: &Case) -> Self {
+        let sign_and_size = |&number: &i128| [u64::from(number < 0), number.unsigned_abs() as u64];
+        let start_and_length = |&[start, length, _]: &[u32; 3]| [start, length];
+        Self {
+            nodes: case.draft.nodes.concat(),
+            numbers: case.draft.numbers.iter().flat_map(sign_and_size).collect(),
+            names: case.draft.names.iter().flat_map(start_and_length).collect(),
+        }
+    }
+}
+
 #[cfg(run_linked)]
 mod linked {
-    use super::Case;
+    use super::{Case, Words};
 
     #[rustfmt::skip]
     extern "C" {
@@ -32,11 +51,7 @@ mod linked {
     #[rustfmt::skip]
     pub fn call(case: &Case, values: &mut [u32], plan: &mut [u32], answer: &mut [u32]) -> u32 {
         let draft = &case.draft;
-        let sign_and_size = |&number: &i128| [u64::from(number < 0), number.unsigned_abs() as u64];
-        let start_and_length = |&[start, length, _]: &[u32; 3]| [start, length];
-        let nodes = draft.nodes.concat();
-        let numbers: Vec<u64> = draft.numbers.iter().flat_map(sign_and_size).collect();
-        let names: Vec<u32> = draft.names.iter().flat_map(start_and_length).collect();
+        let Words { nodes, numbers, names } = Words::of(case);
         // SAFETY: all ranges are lent for the call, list, plan and answer alone to be written.
         unsafe {
             teluddru_run(

@@ -9,6 +9,6 @@ pub mod exhaustive;
 pub mod expected;
 mod filling;
 pub mod generate;
-mod reading;
+pub(crate) mod reading;
 pub mod tally;
 mod value;

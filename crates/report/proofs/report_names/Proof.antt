@@ -4,12 +4,12 @@ use Rattle.report.proofs.report_names.Statement.{statement}
 use Rattle.report.proofs.report_names.Tie as tie
 use Rattle.report.proofs.report_names.Reads as reads
 use Rattle.report.proofs.report_names.Lts as lts
-use Rattle.report.proofs.inner.names_met.Reads as names-met-reads
+use Rattle.report.proofs.keys.names_reported.Reads as names-reported-reads
 use Rattle.report.proofs.inner.mark_met.Reads as mark-met-reads
 use Rattle.report.proofs.mark_planned.Reads as mark-planned-reads
 
-names-met-requires : tie.Need-names-met-requires
-names-met-requires c κs = search needs
+names-reported-requires : tie.Need-names-reported-requires
+names-reported-requires c κs = search needs
 
 mark-met-requires : tie.Need-mark-met-requires
 mark-met-requires c κs = search needs
@@ -26,4 +26,4 @@ returns c = search (report-marked, needs)
 pub report-names-spec : {M : Type 1} → statement M
 report-names-spec =
     tie.close
-    (tie.spec names-met-requires mark-met-requires mark-planned-requires same-length returns)
+    (tie.spec names-reported-requires mark-met-requires mark-planned-requires same-length returns)
