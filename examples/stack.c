@@ -17,6 +17,7 @@ enum { STACK_BYTES = 1 << 20, PAINT = 0xa5, COLUMN = 6, LINE_1 = 0, LINE_2 = 37 
 static uint8_t sheet[TELUDDRU_SHEET_BYTES + 1];
 static size_t sheet_length;
 static uint8_t listing[TELUDDRU_LISTING_BYTES];
+static uint8_t pages[TELUDDRU_PAGES_BYTES];
 static uintptr_t call_place;
 
 /* A sheet's tables; a name's marks stand in its line. */
@@ -99,6 +100,13 @@ static void *call_sheet(void *unused) {
     return unused;
 }
 
+static void *call_pages(void *unused) {
+    volatile uint8_t local = 0;
+    call_place = (uintptr_t)&local;
+    teluddru_pages(sheet, sheet_length, pages, sizeof pages, answer, LENGTH(answer));
+    return unused;
+}
+
 static void *call_plan(void *unused) {
     volatile uint8_t local = 0;
     call_place = (uintptr_t)&local;
@@ -126,7 +134,7 @@ static void *call_report(void *unused) {
 static const struct {
     const char *name;
     void *(*call)(void *);
-} calls[] = {{"plan_sheet", call_sheet}, {"plan", call_plan}, {"run", call_run}, {"names_report", call_report}};
+} calls[] = {{"plan_sheet", call_sheet}, {"pages", call_pages}, {"plan", call_plan}, {"run", call_run}, {"names_report", call_report}};
 
 /* The bytes of a painted stack that a call changed, counted from the call down. */
 static size_t stack_taken(uint8_t *stack, void *(*call)(void *)) {

@@ -1,6 +1,7 @@
 /*
  * Teluddru: plans how the patterns of joinery rules take values apart. Three calls over tables that the
- * host lends (planning, Run, the names report), and one over a sheet's text.
+ * host lends (planning, Run, the names report), and two over a sheet's text (its listing, its pages for
+ * print).
  *
  * What a call assumes. Of the words and bytes that it is lent: nothing. Whatever they are, a call
  * returns; what breaks a rule is refused. It reads and writes only the ranges that it is given, and
@@ -24,10 +25,19 @@ extern "C" {
 /* CHANGELOG.md says what a version changed. */
 #define TELUDDRU_VERSION "0.1.0"
 
-/* Sizes that always suffice: no well-formed sheet is longer than the first, no listing longer than the second (a line of 25 bytes and 1,536 entries of 31). */
+/*
+ * Sizes that always suffice: no well-formed sheet is longer than the first, no listing longer than the second
+ * (a line of 25 bytes and 1,536 entries of 31), no plan of a sheet has more pages than the third holds (26).
+ */
 #define TELUDDRU_SHEET_BYTES 51914
 #define TELUDDRU_LISTING_BYTES 47641
+#define TELUDDRU_PAGES_BYTES 113880
 #define TELUDDRU_PLAN_ENTRIES 1536
+
+/* A page: lines, characters of a line, and bytes (each line ends in LF). */
+#define TELUDDRU_PAGE_LINES 60
+#define TELUDDRU_PAGE_WIDTH 72
+#define TELUDDRU_PAGE_BYTES 4380
 
 /*
  * What a call needs at most of its thread's stack: measured on the worst sheets that were found (examples/stack),
@@ -105,6 +115,7 @@ enum teluddru_node {
 enum teluddru_answer {
     TELUDDRU_PLANNED = 0,                   /* then form, side, entries */
     TELUDDRU_REPORTED = 0,
+    TELUDDRU_PAGES = 0,                     /* then the number of pages, which may be 0 */
     TELUDDRU_MATCH = 0,
     TELUDDRU_NO_MATCH = 100,
     TELUDDRU_OVER_LIMIT = 1,
@@ -126,6 +137,7 @@ enum teluddru_answer {
     TELUDDRU_PATTERN_NOT_SIMPLE = 21,       /* it has a set, another expression, a computed or a repeated key */
     TELUDDRU_NOT_A_VALUE = 22,              /* the value, or a listed node */
     TELUDDRU_NAME_WITHOUT_VALUE = 23,       /* a known name of the pattern */
+    TELUDDRU_PAGE_BUFFER_TOO_SHORT = 30,    /* the pages don't fit; after all other refusals */
     TELUDDRU_RESERVED_NAME = 31             /* the name; planning for TELUDDRU_REGO_V1 alone */
 };
 
@@ -241,6 +253,18 @@ uint32_t teluddru_names_report(const uint32_t *nodes, size_t nodes_length,
  * with a refusal.
  */
 size_t plan_sheet(const uint8_t *sheet, size_t sheet_length, uint8_t *output, size_t output_length);
+
+/*
+ * Plans a sheet and lays its entries out on pages of TELUDDRU_PAGE_LINES lines: the entry's number from 1 in
+ * 6 columns, to the right; its kind in 10 (bind, ignore, expression, literal, array, object, pair), the source
+ * text of its node in 40 (of a pair its value side), that of its key node in 16, to the left. A longer text
+ * ends in `~`, and a byte outside 32 to 126 is `?`. The last page is filled with blank lines; the buffer past
+ * the pages is 0. Answers TELUDDRU_PAGES with the number of pages (0 for a plan without entries), or a refusal
+ * with its place and counts; a refusal leaves the buffer as it was. The result and the answer's words are as
+ * those of the calls over tables, so 0 is no refusal and nothing else.
+ */
+uint32_t teluddru_pages(const uint8_t *sheet, size_t sheet_length, uint8_t *pages, size_t pages_length,
+                        uint32_t *answer, size_t answer_length);
 
 #ifdef __cplusplus
 }

@@ -81,6 +81,10 @@ notAValue = refusal 22 refl 0 0 0
 abbrev pub nameWithoutValue : Refusal
 nameWithoutValue = refusal 23 refl 0 0 0
 
+-- pages
+abbrev pub pageBufferTooShort : Refusal
+pageBufferTooShort = refusal 30 refl 0 0 0
+
 -- planning for Rego v1
 abbrev pub reservedName : ℕ → Refusal
 reservedName name = refusal 31 refl name 0 0

@@ -32,9 +32,9 @@ use Rattle.operation.specs.declared.numbers.OperationNumbers.{OperationNumbers}
 use Rattle.operation.specs.declared.row.Row.{Row}
 use Rattle.operation.specs.Numbers.{areListed, scopingOf, operationOf}
 use Rattle.operation.specs.Version.{versionOutcome}
-use Rattle.operation.specs.Rows.{rowLine}
+use Rattle.operation.specs.Rows.{rowLine, Told}
 use Rattle.c_calls.specs.Given.{bytesOf, scopeOf, patternNumbers, testedFirst, givenFirst, GivenTold}
-use Rattle.c_calls.specs.Calls.{Told, planCall, PlanCalled, ranLine, runCall, namesSet, RunCalled, ReportCalled}
+use Rattle.c_calls.specs.Calls.{planCall, PlanCalled, ranLine, runCall, namesSet, RunCalled, ReportCalled}
 use Rattle.c_calls.proofs.Shortness.{plan-short, run-short, report-short}
 
 -- what is told fits in the words

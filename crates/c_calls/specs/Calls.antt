@@ -2,8 +2,7 @@
 use Prim.Native.Nat.{ℕ}
 use mathlib.Core.Bool.{Bool}
 use mathlib.Core.Path.{_≡_}
-use mathlib.Core.List.{List, [], _∷_, _++_}
-use lib.ListN.{length, take, drop}
+use mathlib.Core.List.{List}
 use Rattle.base.specs.Lent.{Slices, old, new}
 use Rattle.base.specs.Refusal.{Line, line, refusalLine, testedOr}
 use Rattle.scope.specs.Scope.{known}
@@ -19,16 +18,8 @@ use Rattle.planner.specs.Operations.{Outcome, answered, written}
 use Rattle.operation.specs.declared.numbers.OperationNumbers.{OperationNumbers}
 use Rattle.operation.specs.Numbers.{scopingOf, operationOf}
 use Rattle.operation.specs.Version.{versionOutcome}
+use Rattle.operation.specs.Rows.{Told}
 use Rattle.c_calls.specs.Given.{scopeOf, numbersOf, patternNumbers, givenFirst}
-
--- An answer's four numbers in the lent words: as many as there is space for; words past the fourth stay.
-unfoldable pub told : Line → List ℕ → List ℕ
-told l words = take (length words) (l .number ∷ (l .second ∷ (l .third ∷ (l .fourth ∷ [])))) ++ drop 4 words
-
--- the words at entry and at exit; the result is the first number
-pub record Told (l : Line) (before after : List ℕ) (r : ℕ) : Type 0 where
-  pub result : r ≡ l .number
-  pub words : after ≡ told l before
 
 -- Planning: what is given beside the tables is tested first (`givenFirst`).
 abbrev pub planCall : Tables → List ℕ → OperationNumbers → ℕ → Outcome

@@ -1,14 +1,13 @@
-// An answer's four numbers, and how they are told to a C host.
+// An answer's four numbers.
 ghost use Rattle.base.specs.Lent.{old, new};
 ghost use mathlib.Core.Path.{_≡_};
 ghost use Prim.Native.Nat.{_≤_};
-ghost use lib.ListN.{set};
 ghost use Rattle.base.specs.Refusal.{line};
-ghost use Rattle.planner.specs.Short.{ShortLine};
 ghost use Rattle.run.specs.Answer.{resultOf};
 ghost use Rattle.report.specs.Answer.{reportLine};
-ghost use Rattle.c_calls.specs.Calls.{ranLine, Told};
-ghost use Rattle.operation.specs.Rows.{rowLine};
+ghost use Rattle.c_calls.specs.Calls.{ranLine};
+ghost use Rattle.operation.specs.Rows.{rowLine, Told};
+use operation::inner::tell;
 use operation::row::Row;
 use operation::row::row_from;
 use report::ReportAnswer;
@@ -40,29 +39,6 @@ pub(crate) fn report_row(answer: ReportAnswer) -> Row
         ReportAnswer::RootOutside => row_from(5, 0, 0, 0),
         ReportAnswer::ListTooShort => row_from(20, 0, 0, 0),
     }
-}
-
-// A word, if there is a place for it.
-fn put_word(words: &mut [u32], i: usize, word: u32)
-    ensures { λ _. ⌜ new words ≡ set (old words) i word ⌝ }
-{
-    if words.len() <= i {
-        return;
-    }
-    words[i] = word;
-}
-
-// Puts the numbers into the lent words and returns the first.
-pub(crate) fn tell(answer: &mut [u32], row: Row) -> u32
-    requires { ⌜ ShortLine (rowLine row) ⌝ }
-    ensures { λ r. ⌜ Told (rowLine row) (old answer) (new answer) r ⌝ }
-{
-    let number = row.number as u32;
-    put_word(answer, 0, number);
-    put_word(answer, 1, row.second as u32);
-    put_word(answer, 2, row.third as u32);
-    put_word(answer, 3, row.fourth as u32);
-    number
 }
 
 // A refusal without place and counts.

@@ -2,9 +2,9 @@
 ghost use Rattle.table.specs.Lent.{lent};
 ghost use Rattle.c_calls.specs.Calls.{PlanCalledIn};
 use crate::answer::refuse;
-use crate::answer::tell;
 use crate::given::refused_first;
 use crate::given::scope_of;
+use operation::inner::tell;
 use operation::numbers::OperationNumbers;
 use operation::numbers::operation_of;
 use operation::row::row_of;

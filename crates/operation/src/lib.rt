@@ -1,4 +1,5 @@
 // The planning call over the six operations.
+pub mod inner;
 pub mod numbers;
 mod patterns;
 pub mod row;

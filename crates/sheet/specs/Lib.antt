@@ -1,5 +1,7 @@
 pub mod Lines
 pub mod Sheet
+pub mod Outcome
+pub mod Source
 pub mod Listing
 pub mod Trial
 pub mod Render

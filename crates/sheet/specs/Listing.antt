@@ -1,4 +1,4 @@
--- What a sheet's operation comes to, and its listing.
+-- The listing of a sheet's outcome.
 use Prim.Native.Nat.{ℕ, _-_}
 use mathlib.Core.Bool.{cond}
 use mathlib.Core.List.{List, [], _∷_, _++_}
@@ -9,12 +9,8 @@ use Rattle.columns.specs.Columns.{writeColumn}
 use Rattle.base.specs.Refusal.{planTooLarge, Line, line, refusalLine}
 use Rattle.planner.specs.Layout.{Entry}
 use Rattle.planner.specs.Operations.{Outcome, refused, planned}
-use Rattle.operation.specs.Operation.{operationOutcome}
-use Rattle.operation.specs.Numbers.{operationOf}
-use Rattle.sheet.specs.Sheet.{Sheet, Parsed, unparsed, parsed, parse, scopeOf}
-
-abbrev pub outcomeOf : Sheet → Outcome
-outcomeOf S = operationOutcome (S .held) (scopeOf (S .operation) (S .marks)) (operationOf (S .operation))
+use Rattle.sheet.specs.Sheet.{Parsed, parse}
+use Rattle.sheet.specs.Outcome.{outcomeOfSheet}
 
 -- The first line has the answer's four numbers; a line for each entry follows it.
 pub record Listing : Type 0 where
@@ -34,8 +30,7 @@ linesOf (planned form side es) =
     cond (leb (length es) 1536) (followed (line 0 form side (length es)) es) (alone (refusalLine (planTooLarge (length es))))
 
 abbrev pub linesOfSheet : Parsed → Listing
-linesOfSheet (unparsed r) = alone (refusalLine r)
-linesOfSheet (parsed S) = linesOf (outcomeOf S)
+linesOfSheet p = linesOf (outcomeOfSheet p)
 
 -- columns of six
 unfoldable pub fourColumns : Line → List ℕ

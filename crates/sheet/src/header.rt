@@ -2,7 +2,7 @@
 ghost use mathlib.Core.Path.{_≡_};
 ghost use Rattle.sheet.specs.Sheet.{withinLimits};
 ghost use Rattle.base.specs.Lent.{old};
-ghost use Rattle.sheet.specs.code.Header.{countsIn, operationIn, placesOf, Limited, headingOf};
+ghost use Rattle.sheet.specs.code.Header.{countsIn, operationIn, placesOf, Countable, headingOf};
 use crate::lines::COLUMN;
 use crate::lines::NUMBER_LINE;
 use crate::lines::read_lines;
@@ -12,11 +12,14 @@ use operation::numbers::are_listed;
 // The bytes of each kind of line, by its columns, and LF.
 const HEAD_LINE: usize = 6 * COLUMN + 1;
 
-const NODE_LINE: usize = 5 * COLUMN + 1;
+pub(crate) const NODE_LINE: usize = 5 * COLUMN + 1;
 
 const CHILD_LINE: usize = COLUMN + 1;
 
 const NAME_LINE: usize = 3 * COLUMN + 1;
+
+// Where the nodes begin.
+pub(crate) const NODES: usize = 2 * HEAD_LINE;
 
 // The limits.
 pub(crate) const MOST_NODES: usize = 512;
@@ -104,11 +107,11 @@ fn within_limits(counts: Counts) -> bool
     counts.text <= MOST_TEXT
 }
 
-fn places_of(counts: Counts) -> Places
-    requires { ⌜ Limited counts ⌝ }
+pub(crate) fn places_of(counts: Counts) -> Places
+    requires { ⌜ Countable counts ⌝ }
     ensures { λ r. ⌜ r ≡ placesOf counts ⌝ }
 {
-    let nodes = 2 * HEAD_LINE;
+    let nodes = NODES;
     let children = nodes + counts.nodes * NODE_LINE;
     let numbers = children + counts.children * CHILD_LINE;
     let names = numbers + counts.numbers * NUMBER_LINE;

@@ -1,13 +1,11 @@
-// Space for a sheet's tables and its plan. Nodes and plan have two sizes, as arrays have to be cleared, which for a small sheet would take longer than all else. The sheet is read, then planned, then listed.
+// Space for a sheet's tables and its plan. For a listing nodes and plan have two sizes, as arrays have to be cleared, which for a small sheet would take longer than all else; the plan's is made once the tables are read.
 ghost use mathlib.Core.Path.{_≡_};
-ghost use mathlib.Core.Bool.{_&&_};
 ghost use Prim.Native.Nat.{_*_, _≤_};
-ghost use lib.Dec.{eqb, ltb};
 ghost use lib.ListN.{length};
 ghost use Rattle.base.specs.Lent.{old};
 ghost use Rattle.sheet.specs.Listing.{listingOf};
 ghost use Rattle.sheet.specs.code.Header.{Headed};
-ghost use Rattle.sheet.specs.code.Post.{planWords, smallWords, scopeIn, PrintedIn, TriedIn, SheetHeld};
+ghost use Rattle.sheet.specs.code.Post.{scopeIn, PrintedIn, TriedIn, PlannedIn, RefusedIn, SheetHeld};
 use crate::header::Header;
 use crate::header::MOST_CHILDREN;
 use crate::header::MOST_NAMES;
@@ -20,8 +18,10 @@ use operation::REGO_V0;
 use operation::numbers::OperationNumbers;
 use operation::numbers::operation_of;
 use operation::row::Row;
+use operation::row::row_from;
 use operation::row::row_of;
 use planner::buffer::ENTRY_WORDS;
+use planner::buffer::clear;
 use scope::ByteScope;
 use scope::Scope;
 
@@ -32,20 +32,10 @@ const SMALL_PLAN_WORDS: usize = ENTRY_WORDS * 128;
 
 const SMALL_NODES: usize = 64;
 
-// What became of a sheet in some space: the bytes of its listing, or its plan needs more.
+// What became of a listing in the small space: its bytes, or its plan needs more.
 enum Tried {
     Listed(usize),
     TooLarge,
-}
-
-// Is an answer 6 in space for less than 1,536 entries?
-fn needs_more(first: Row, words: usize) -> bool
-    ensures { λ r. ⌜ r ≡ (eqb (first .number) 6 && ltb words planWords) ⌝ }
-{
-    if first.number == 6 {
-        return words < PLAN_WORDS;
-    }
-    false
 }
 
 // The scope of a sheet. A good layout has no mark above 31, so none is refused here.
@@ -60,7 +50,15 @@ fn scope_of(marks: &[u8; 128], operation: OperationNumbers) -> Scope
     made.scope
 }
 
-// A sheet whose tables stand in arrays, perhaps longer than they are, planned and listed.
+// A refusal that has no place and no counts.
+pub(crate) fn refuse_plan(number: u64, plan: &mut [u32]) -> Row
+    ensures { λ r. ⌜ RefusedIn plan number r ⌝ }
+{
+    clear(plan);
+    row_from(number, 0, 0, 0)
+}
+
+// A sheet whose tables stand in arrays, perhaps longer than they are.
 fn plan_tables(
     sheet: &[u8],
     header: Header,
@@ -70,10 +68,9 @@ fn plan_tables(
     names: &[u32],
     scope: Scope,
     plan: &mut [u32],
-    out: &mut [u8],
-) -> Tried
-    requires { ⌜ SheetHeld (now sheet) header (now nodes) (now children) (now numbers) (now names) scope × (length (now plan) ≤ planWords) ⌝ }
-    ensures { λ r. ⌜ TriedIn out (listingOf (old sheet)) (length (old plan)) r ⌝ }
+) -> Row
+    requires { ⌜ SheetHeld (now sheet) header (now nodes) (now children) (now numbers) (now names) scope ⌝ }
+    ensures { λ r. ⌜ PlannedIn plan (old sheet) r ⌝ }
 {
     let counts = header.counts;
     let places = header.places;
@@ -97,14 +94,44 @@ fn plan_tables(
         REGO_V0,
         plan,
     );
-    let first = row_of(answer);
-    if needs_more(first, plan.len()) {
-        return Tried::TooLarge;
-    }
-    Tried::Listed(write_lines(out, first, plan))
+    row_of(answer)
 }
 
-fn plan_small(
+// Plans a sheet into the plan that is lent: its tables are read, then planned.
+pub(crate) fn plan_headed(sheet: &[u8], header: Header, plan: &mut [u32]) -> Row
+    requires { ⌜ Headed (now sheet) header ⌝ }
+    ensures { λ r. ⌜ PlannedIn plan (old sheet) r ⌝ }
+{
+    let mut nodes = [0u32; MOST_NODES * 5];
+    let mut children = [0u32; MOST_CHILDREN];
+    let mut numbers = [0u64; MOST_NUMBERS * 2];
+    let mut names = [0u32; MOST_NAMES * 3];
+    let mut marks = [0u8; 128];
+    if !read_tables(
+        sheet,
+        header,
+        &mut nodes,
+        &mut children,
+        &mut numbers,
+        &mut names,
+        &mut marks,
+    ) {
+        return refuse_plan(7, plan);
+    }
+    let scope = scope_of(&marks, header.operation);
+    plan_tables(
+        sheet,
+        header,
+        &nodes,
+        &children,
+        &numbers,
+        &names,
+        scope,
+        plan,
+    )
+}
+
+fn list_small(
     sheet: &[u8],
     header: Header,
     nodes: &[u32],
@@ -115,10 +142,10 @@ fn plan_small(
     out: &mut [u8],
 ) -> Tried
     requires { ⌜ SheetHeld (now sheet) header (now nodes) (now children) (now numbers) (now names) scope ⌝ }
-    ensures { λ r. ⌜ TriedIn out (listingOf (old sheet)) smallWords r ⌝ }
+    ensures { λ r. ⌜ TriedIn out (listingOf (old sheet)) r ⌝ }
 {
     let mut plan = [0u32; SMALL_PLAN_WORDS];
-    plan_tables(
+    let first = plan_tables(
         sheet,
         header,
         nodes,
@@ -127,11 +154,14 @@ fn plan_small(
         names,
         scope,
         &mut plan,
-        out,
-    )
+    );
+    if first.number == 6 {
+        return Tried::TooLarge;
+    }
+    Tried::Listed(write_lines(out, first, &plan))
 }
 
-fn plan_full(
+fn list_full(
     sheet: &[u8],
     header: Header,
     nodes: &[u32],
@@ -145,7 +175,7 @@ fn plan_full(
     ensures { λ r. ⌜ PrintedIn out (listingOf (old sheet)) r ⌝ }
 {
     let mut plan = [0u32; PLAN_WORDS];
-    match plan_tables(
+    let first = plan_tables(
         sheet,
         header,
         nodes,
@@ -154,16 +184,12 @@ fn plan_full(
         names,
         scope,
         &mut plan,
-        out,
-    ) {
-        Tried::Listed(bytes) => bytes,
-        // Not in the full space.
-        Tried::TooLarge => 0,
-    }
+    );
+    write_lines(out, first, &plan)
 }
 
 // Few nodes are planned in the small space first: an `=` may need more entries than there are nodes.
-fn plan_held(
+fn list_tables(
     sheet: &[u8],
     header: Header,
     nodes: &[u32],
@@ -177,16 +203,16 @@ fn plan_held(
     ensures { λ r. ⌜ PrintedIn out (listingOf (old sheet)) r ⌝ }
 {
     if SMALL_NODES < header.counts.nodes {
-        return plan_full(sheet, header, nodes, children, numbers, names, scope, out);
+        return list_full(sheet, header, nodes, children, numbers, names, scope, out);
     }
-    match plan_small(sheet, header, nodes, children, numbers, names, scope, out) {
+    match list_small(sheet, header, nodes, children, numbers, names, scope, out) {
         Tried::Listed(bytes) => bytes,
-        Tried::TooLarge => plan_full(sheet, header, nodes, children, numbers, names, scope, out),
+        Tried::TooLarge => list_full(sheet, header, nodes, children, numbers, names, scope, out),
     }
 }
 
-// The tables are read, the nodes into the space that is lent.
-fn plan_in(sheet: &[u8], header: Header, nodes: &mut [u32], out: &mut [u8]) -> usize
+// The tables are read, the nodes into the space that is lent; then they are listed.
+fn list_in(sheet: &[u8], header: Header, nodes: &mut [u32], out: &mut [u8]) -> usize
     requires { ⌜ Headed (now sheet) header × (header .counts .nodes * 5 ≤ length (now nodes)) ⌝ }
     ensures { λ r. ⌜ PrintedIn out (listingOf (old sheet)) r ⌝ }
 {
@@ -206,7 +232,7 @@ fn plan_in(sheet: &[u8], header: Header, nodes: &mut [u32], out: &mut [u8]) -> u
         return refuse(7, out);
     }
     let scope = scope_of(&marks, header.operation);
-    plan_held(
+    list_tables(
         sheet,
         header,
         nodes,
@@ -218,14 +244,15 @@ fn plan_in(sheet: &[u8], header: Header, nodes: &mut [u32], out: &mut [u8]) -> u
     )
 }
 
-pub(crate) fn plan_headed(sheet: &[u8], header: Header, out: &mut [u8]) -> usize
+// Lists a sheet.
+pub(crate) fn list_headed(sheet: &[u8], header: Header, out: &mut [u8]) -> usize
     requires { ⌜ Headed (now sheet) header ⌝ }
     ensures { λ r. ⌜ PrintedIn out (listingOf (old sheet)) r ⌝ }
 {
     if SMALL_NODES < header.counts.nodes {
         let mut nodes = [0u32; MOST_NODES * 5];
-        return plan_in(sheet, header, &mut nodes, out);
+        return list_in(sheet, header, &mut nodes, out);
     }
     let mut nodes = [0u32; SMALL_NODES * 5];
-    plan_in(sheet, header, &mut nodes, out)
+    list_in(sheet, header, &mut nodes, out)
 }

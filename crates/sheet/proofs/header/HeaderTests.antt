@@ -3,6 +3,7 @@ use Prim.Native.Nat.{ℕ, _<_, _≤_}
 use mathlib.Core.Bool.{Bool, false, not, _&&_, and-false}
 use mathlib.Core.List.{List}
 use mathlib.Core.Path.{_≡_}
+use native.Mathlib.Omega.{arith}
 use borrow.Author.Tests.{ne-eqb, le-leb, lt-leb, leb-true}
 use lib.Dec.{leb}
 use lib.ListN.{length, getD}
@@ -11,7 +12,7 @@ use Rattle.sheet.specs.declared.header.Counts.{Counts}
 use Rattle.operation.specs.declared.numbers.OperationNumbers.{OperationNumbers}
 use Rattle.sheet.specs.Lines.{numberIn}
 use Rattle.sheet.specs.Sheet.{line1, line2, countsOf, withinLimits, endPlace, operationNumbers, layoutOk}
-use Rattle.sheet.specs.code.Header.{countsIn, Limited}
+use Rattle.sheet.specs.code.Header.{countsIn, Countable, Limited}
 
 -- limits
 module _ (c : Counts) where
@@ -56,6 +57,16 @@ module _ (c : Counts) where
         strings-few = leb-true (c .strings) 8192 (f .0);
         text-few = leb-true (c .text) 16384 (f .1);
       }
+
+pub countable : {c : Counts} → Limited c → Countable c
+countable l = record {
+  nodes-below = omega (arith, l .nodes-few);
+  children-below = omega (arith, l .children-few);
+  numbers-below = omega (arith, l .numbers-few);
+  names-below = omega (arith, l .names-few);
+  strings-below = omega (arith, l .strings-few);
+  text-below = omega (arith, l .text-few);
+}
 
 -- the length
 pub length-differs : (sheet : List ℕ) (c : Counts) → (length sheet ≡ endPlace c → ⊥) → false ≡ layoutOk sheet c

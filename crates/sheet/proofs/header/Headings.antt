@@ -8,7 +8,9 @@ use borrow.Author.Tests.{eq-eqb, ne-eqb, eqb-true, not-false}
 use lib.Dec.{eqb}
 use lib.ListN.{length, getD}
 use Rattle.base.specs.Lists.{allFrom}
-use Rattle.base.specs.Refusal.{overLimit, layoutBroken, line}
+use Rattle.base.specs.Refusal.{Refusal, overLimit, layoutBroken, line, refusalLine}
+use Rattle.planner.specs.Operations.{Outcome, refused, answered, written}
+use Rattle.operation.specs.declared.row.Row.{Row}
 use Rattle.table.proofs.tests.Bools.{and-true, told-no, told-yes, never}
 use Rattle.sheet.specs.declared.header.Counts.{Counts}
 use Rattle.sheet.specs.declared.header.Places.{Places}
@@ -19,9 +21,10 @@ use Rattle.sheet.specs.declared.header.Heading.{Heading}
 use Rattle.sheet.specs.declared.header.Heading.the-variants as Heading
 use Rattle.sheet.specs.Lines.{lineLength, isLine, linesOk, wordAt}
 use Rattle.sheet.specs.Sheet.{line1, line2, countsOf, withinLimits, endPlace, operationNumbers, layoutOk, sheetOf, unparsed, parsed, parse}
-use Rattle.sheet.specs.Listing.{alone, linesOfSheet, listingOf, Printed}
+use Rattle.sheet.specs.Outcome.{outcomeOfSheet, PlannedInto}
+use Rattle.sheet.specs.Listing.{linesOf, listingOf, Printed}
 use Rattle.sheet.specs.code.Header.{countsIn, operationIn, placesOf, headerOf, headOk, headingBy, headingOf, tablesOk, Headed}
-use Rattle.sheet.specs.code.Post.{Read, refusalBytes}
+use Rattle.sheet.specs.code.Post.{Read, refusalBytes, RefusedBy}
 use Rattle.sheet.proofs.header.HeaderTests.{limited, counts-read, operation-read}
 
 -- one line of six columns
@@ -115,22 +118,35 @@ headed-by sheet line-1 few ok =
       parses = rw (line-1, few, layout-split sheet c, ok);
     }
 
+-- a refusal by its number alone
+pub record RefusedAs (n : ℕ) (o : Outcome) : Type 0 where
+  pub why : Refusal
+  pub is : o ≡ refused why
+  pub bare : refusalLine why ≡ line n 0 0 0
+
+pub refused-into : {n : ℕ} {o : Outcome} → RefusedAs n o → {before after : List ℕ} {row : Row} → RefusedBy n before after row → PlannedInto o before after row
+unfolding answered written
+refused-into a p = rw (a .is) (record { answer = p .answer ∙ sym (a .bare); buffer = p .buffer })
+
 module _ (sheet : List ℕ) {r : Heading} (is : r ≡ headingOf sheet) where
-  says-refused : {n : ℕ} → r ≡ Heading.Refused n → linesOfSheet (parse sheet) ≡ alone (line n 0 0 0)
+  says-refused : {n : ℕ} → r ≡ Heading.Refused n → RefusedAs n (outcomeOfSheet (parse sheet))
   unfolding headingOf headingBy parse
   says-refused {n} e = go (isLine sheet line1 6) (withinLimits (countsOf sheet)) (headOk sheet (countsOf sheet)) refl (sym e ∙ is)
     where
       go : (a b d : Bool) → headOk sheet (countsOf sheet) ≡ d
           → Heading.Refused n ≡ cond a (cond b (cond d (Heading.Good (headerOf sheet (countsOf sheet))) (Heading.Refused 7)) (Heading.Refused 1)) (Heading.Refused 7)
-          → linesOfSheet (cond a (cond b (cond (layoutOk sheet (countsOf sheet)) (parsed (sheetOf sheet (countsOf sheet))) (unparsed layoutBroken)) (unparsed overLimit)) (unparsed layoutBroken)) ≡ alone (line n 0 0 0)
+          → RefusedAs n (outcomeOfSheet (cond a (cond b (cond (layoutOk sheet (countsOf sheet)) (parsed (sheetOf sheet (countsOf sheet))) (unparsed layoutBroken)) (unparsed overLimit)) (unparsed layoutBroken)))
       go true true true h q = let z : _≡_ {A = ℕ} 0 1 = cc in never z
-      go true true false h q = let m : n ≡ 7 = cc in rw (m, layout-split sheet (countsOf sheet), h)
-      go true false d h q = let m : n ≡ 1 = cc in rw m
-      go false b d h q = let m : n ≡ 7 = cc in rw m
+      go true true false h q = let m : n ≡ 7 = cc in rw (layout-split sheet (countsOf sheet), h) (record { why = layoutBroken; is = refl; bare = rw m })
+      go true false d h q = let m : n ≡ 1 = cc in record { why = overLimit; is = refl; bare = rw m }
+      go false b d h q = let m : n ≡ 7 = cc in record { why = layoutBroken; is = refl; bare = rw m }
 
   pub header-refused : {n : ℕ} → r ≡ Heading.Refused n → {before after : List ℕ} {count : ℕ} → Printed (refusalBytes n) before after count → Printed (listingOf sheet) before after count
-  unfolding listingOf
-  header-refused e p = rw (says-refused e) p
+  unfolding listingOf linesOf
+  header-refused e p = let a = says-refused e in rw (a .is, a .bare) p
+
+  pub header-into : {n : ℕ} → r ≡ Heading.Refused n → {before after : List ℕ} {row : Row} → RefusedBy n before after row → PlannedInto (outcomeOfSheet (parse sheet)) before after row
+  header-into e p = refused-into (says-refused e) p
 
   pub header-good : {h : Header} → r ≡ Heading.Good h → Headed sheet h
   unfolding headingOf headingBy

@@ -70,7 +70,7 @@ module _ (sheet : List ℕ) (long : 51915 ≤ length sheet) where
   unfolding parse
   parsed-long = ap (λ (p : Parsed). cond (isLine sheet line1 6) p (unparsed layoutBroken)) (refused-by (countsOf sheet))
 
-parsed-alike : (xs ys : List ℕ) → 51915 ≤ length xs → parse xs ≡ parse (xs ++ ys)
+pub parsed-alike : (xs ys : List ℕ) → 51915 ≤ length xs → parse xs ≡ parse (xs ++ ys)
 parsed-alike xs ys long =
     let line-1 : lineLength 6 ≤ length xs = omega arith in
     let more : 51915 ≤ length (xs ++ ys) = omega (arith, length-append xs ys) in

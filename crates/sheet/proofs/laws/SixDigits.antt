@@ -5,13 +5,14 @@ use mathlib.Core.List.{List}
 use native.Mathlib.Omega.{arith}
 use lib.Dec.{leb}
 use lib.ListN.{length}
-use Rattle.base.specs.Refusal.{Refusal, line, refusalLine, planTooLarge, layoutBroken, overLimit}
+use Rattle.base.specs.Refusal.{line, refusalLine, planTooLarge, layoutBroken, overLimit}
 use Rattle.planner.specs.Operations.{Outcome, refused, planned}
-use Rattle.planner.specs.Short.{ShortRefusal, ShortOutcome}
+use Rattle.planner.specs.Short.{ShortOutcome}
 use Rattle.planner.proofs.laws.ShortOutcomes.{short, refusal-short}
 use Rattle.operation.proofs.ShortOperation.{operation-short}
 use Rattle.sheet.specs.Sheet.{line1, unparsed, parsed, parse, countsOf, withinLimits, layoutOk, sheetOf}
-use Rattle.sheet.specs.Listing.{outcomeOf, followed, alone, linesOf, linesOfSheet}
+use Rattle.sheet.specs.Outcome.{outcomeOfSheet}
+use Rattle.sheet.specs.Listing.{followed, alone, linesOf}
 use Rattle.sheet.specs.Lines.{isLine}
 use Rattle.sheet.specs.Laws.{ShortListing, SixDigits}
 
@@ -25,18 +26,15 @@ lines-short (planned form side es) p = go (leb (length es) 1536)
     go false = record { head = short (omega arith) (omega arith) (p .0 .four) (omega arith); each = tt }
 
 -- a sheet that is not read has 1 or 7
-unread-short : (r : Refusal) → ShortRefusal r → ShortListing (linesOfSheet (unparsed r))
-unread-short r p = record { head = p; each = tt }
-
-sheet-short : (sheet : List ℕ) → ShortListing (linesOfSheet (parse sheet))
+sheet-short : (sheet : List ℕ) → ShortOutcome (outcomeOfSheet (parse sheet))
 unfolding parse
 sheet-short sheet = go (isLine sheet line1 6) (withinLimits (countsOf sheet)) (layoutOk sheet (countsOf sheet))
   where
-    go : (a b c : Bool) → ShortListing (linesOfSheet (cond a (cond b (cond c (parsed (sheetOf sheet (countsOf sheet))) (unparsed layoutBroken)) (unparsed overLimit)) (unparsed layoutBroken)))
-    go false b c = unread-short layoutBroken (refusal-short (omega arith) (omega arith))
-    go true false c = unread-short overLimit (refusal-short (omega arith) (omega arith))
-    go true true false = unread-short layoutBroken (refusal-short (omega arith) (omega arith))
-    go true true true = lines-short (outcomeOf (sheetOf sheet (countsOf sheet))) (operation-short _ _ _)
+    go : (a b c : Bool) → ShortOutcome (outcomeOfSheet (cond a (cond b (cond c (parsed (sheetOf sheet (countsOf sheet))) (unparsed layoutBroken)) (unparsed overLimit)) (unparsed layoutBroken)))
+    go false b c = refusal-short (omega arith) (omega arith)
+    go true false c = refusal-short (omega arith) (omega arith)
+    go true true false = refusal-short (omega arith) (omega arith)
+    go true true true = operation-short _ _ _
 
 pub six-digits : SixDigits
-six-digits = record { short = sheet-short }
+six-digits = record { short = λ sheet. lines-short (outcomeOfSheet (parse sheet)) (sheet-short sheet) }

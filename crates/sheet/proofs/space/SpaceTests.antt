@@ -1,4 +1,4 @@
--- Tables in arrays, cut to their size, and the listing of their sheet.
+-- Tables in arrays, cut to their size, and what their sheet comes to.
 use Prim.Native.Nat.{ℕ, _+_, _-_, _*_, _<_, _≤_}
 use mathlib.Core.Bool.{Bool, true, false, not}
 use mathlib.Core.List.{List, _++_}
@@ -9,17 +9,28 @@ use lib.Dec.{ltb}
 use lib.ListN.{length, getD, take, drop, replicate, length-append, length-replicate, getD-replicate, List·getD-append}
 use lib.Seq.{ext-getD, length-take-le, getD-append-add}
 use Rattle.scope.specs.declared.Scope.{Scope}
-use Rattle.table.specs.Tables.{tables}
+use Rattle.table.specs.Tables.{Tables, tables}
 use Rattle.table.proofs.tests.Bools.{told-no, told-yes}
 use Rattle.base.specs.Lists.{tabulate}
+use Rattle.base.specs.Refusal.{layoutBroken}
+use Rattle.planner.specs.declared.PlanAnswer.{PlanAnswer}
+use Rattle.planner.specs.Answer.{lineOf}
+use Rattle.planner.specs.Operations.{Answered}
+use Rattle.operation.specs.declared.Operation.{Operation}
+use Rattle.operation.specs.declared.row.Row.{Row}
+use Rattle.operation.specs.Rows.{rowLine}
+use Rattle.operation.specs.Operation.{operationOutcome}
+use Rattle.operation.specs.Numbers.{operationOf}
+use Rattle.operation.proofs.Cases.{by-case}
 use Rattle.planner.proofs.buffer.Filling.{length-tabulate, getD-tabulate}
 use Rattle.sheet.specs.declared.header.Counts.{Counts}
 use Rattle.sheet.specs.declared.header.Header.{Header}
-use Rattle.sheet.specs.declared.space.Tried.{Tried}
-use Rattle.sheet.specs.Sheet.{markWord, namesPlace, stringsPlace, textPlace, endPlace, marksOf, operationNumbers, scopeOf}
-use Rattle.sheet.specs.Listing.{listingOf, Printed}
+use Rattle.sheet.specs.Sheet.{markWord, namesPlace, stringsPlace, textPlace, endPlace, marksOf, operationNumbers, parse, scopeOf}
+use Rattle.sheet.specs.Outcome.{outcomeOfSheet, PlannedInto}
+use Rattle.sheet.specs.Listing.{linesOf, listingOf, Printed}
 use Rattle.sheet.specs.code.Header.{Limited, Headed}
-use Rattle.sheet.specs.code.Post.{Overlaid, refusalBytes, scopeIn, plannedBytes, TriedBy, Roomy, TablesAsks, TablesRead, SheetHeld}
+use Rattle.sheet.specs.code.Post.{Overlaid, RefusedBy, refusalBytes, scopeIn, Roomy, TablesAsks, TablesRead, SheetHeld}
+use Rattle.sheet.proofs.header.Headings.{refused-into}
 use Rattle.sheet.proofs.lines.LineTests.{filled-first}
 use Rattle.sheet.proofs.space.Scopes.{scope-is}
 
@@ -38,15 +49,22 @@ pub tables-asked : {sheet : List ℕ} {h : Header} → Headed sheet h → (nodes
 tables-asked headed nodes children numbers names a b d e =
     record { limited = headed .limited; places-are = headed .places-are; roomy = roomy (headed .limited) nodes children numbers names a b d e }
 
+-- with space for the most nodes
+pub all-asked : {sheet : List ℕ} {h : Header} → Headed sheet h → (nodes children numbers names : List ℕ) → length nodes ≡ 512 * 5 → length children ≡ 512 → length numbers ≡ 256 * 2 → length names ≡ 128 * 3 → TablesAsks h nodes children numbers names
+all-asked {h = h} headed nodes children numbers names a = tables-asked headed nodes children numbers names (most-nodes (h .counts) nodes (headed .limited) a)
+
 pub cut : (n : ℕ) (array : List ℕ) → n ≤ length array → n ≡ length (take n array)
 cut n array le = sym (length-take-le n array le)
 
 -- what was read
 module _ {sheet : List ℕ} {h : Header} (headed : Headed sheet h) {nodes children numbers names marks : List ℕ} {r : Bool}
     (read : TablesRead sheet (h .counts) nodes children numbers names (replicate 128 0) marks r) where
-  pub tables-refused : not r ≡ true → {before after : List ℕ} {bytes : ℕ} → Printed (refusalBytes 7) before after bytes → Printed (listingOf sheet) before after bytes
-  unfolding listingOf
-  tables-refused t p = rw (headed .parses, told-no (read .ok) t) p
+  pub tables-refused : not r ≡ true → {before after : List ℕ} {row : Row} → RefusedBy 7 before after row → PlannedInto (outcomeOfSheet (parse sheet)) before after row
+  tables-refused t p = refused-into (record { why = layoutBroken; is = rw (headed .parses, told-no (read .ok) t); bare = refl }) p
+
+  pub listing-refused : not r ≡ true → {before after : List ℕ} {bytes : ℕ} → Printed (refusalBytes 7) before after bytes → Printed (listingOf sheet) before after bytes
+  unfolding listingOf linesOf
+  listing-refused t p = rw (headed .parses, told-no (read .ok) t) p
 
   pub sheet-held : not r ≡ false → h .counts .nodes * 5 ≤ length nodes → length children ≡ 512 → length numbers ≡ 256 * 2 → length names ≡ 128 * 3
       → {s : Scope} → s ≡ scopeIn (h .operation) marks → SheetHeld sheet h nodes children numbers names s
@@ -58,6 +76,10 @@ module _ {sheet : List ℕ} {h : Header} (headed : Headed sheet h) {nodes childr
     roomy = roomy (headed .limited) nodes children numbers names a b d e;
     held = read .held (not-false r t);
   }
+
+  pub all-held : not r ≡ false → length nodes ≡ 512 * 5 → length children ≡ 512 → length numbers ≡ 256 * 2 → length names ≡ 128 * 3
+      → {s : Scope} → s ≡ scopeIn (h .operation) marks → SheetHeld sheet h nodes children numbers names s
+  all-held t a = sheet-held t (most-nodes (h .counts) nodes (headed .limited) a)
 
 -- the marks of a scope
 marks-all : (f : ℕ → ℕ) (count : ℕ) → count ≤ 128 → {marks : List ℕ} → Overlaid f count (replicate 128 0) marks → marks ≡ tabulate f 0 count ++ replicate (128 - count) 0
@@ -117,12 +139,13 @@ module _ {sheet : List ℕ} {h : Header} {nodes children numbers names : List �
   pub end-inside : h .places .end ≤ length sheet
   end-inside = rw (t .headed .places-are) (omega (arith, t .headed .size))
 
-  pub sheet-bytes : plannedBytes (h .operation)
-      (tables (take (h .counts .nodes * 5) nodes) (take (h .counts .children) children) (take (h .counts .numbers * 2) numbers) (take (h .counts .names * 2) names)
-      (take (h .places .text - h .places .strings) (drop (h .places .strings) sheet)) (take (h .places .end - h .places .text) (drop (h .places .text) sheet))) s
-      ≡ listingOf sheet
-  unfolding listingOf
-  sheet-bytes =
+  abbrev tablesCut : Tables
+  tablesCut =
+      tables (take (h .counts .nodes * 5) nodes) (take (h .counts .children) children) (take (h .counts .numbers * 2) numbers) (take (h .counts .names * 2) names)
+      (take (h .places .text - h .places .strings) (drop (h .places .strings) sheet)) (take (h .places .end - h .places .text) (drop (h .places .text) sheet))
+
+  sheet-outcome : operationOutcome tablesCut s (operationOf (h .operation)) ≡ outcomeOfSheet (parse sheet)
+  sheet-outcome =
       let c = h .counts in
       let strings : textPlace c - stringsPlace c ≡ c .strings = omega arith in
       let text : endPlace c - textPlace c ≡ c .text = omega arith in
@@ -132,5 +155,8 @@ module _ {sheet : List ℕ} {h : Header} {nodes children numbers names : List �
       let scope : s ≡ scopeOf (operationNumbers sheet) (marksOf sheet c) = t .scope-made ∙ scope-is sheet c (t .good) (t .headed .operation-is) scope-marks in
       rw (t .headed .parses, t .good, t .headed .places-are, scope, t .headed .operation-is, strings, text, filled-first (held .nodes-filled) nodes-inside, filled-first (held .children-filled) children-inside, filled-first (held .numbers-filled) numbers-inside, filled-first (held .names-held .words) names-inside)
 
-pub tried-as : {listing other : List ℕ} → listing ≡ other → {space : ℕ} {before after : List ℕ} {r : Tried} → TriedBy listing space before after r → TriedBy other space before after r
-tried-as e t = rw e at t
+  pub tables-planned : {operation : Operation} {blank plan : List ℕ} {a : PlanAnswer} {r : Row} → operation ≡ operationOf (h .operation) → Answered (operationOutcome tablesCut s operation) blank plan a → rowLine r ≡ lineOf a
+      → PlannedInto (outcomeOfSheet (parse sheet)) blank plan r
+  tables-planned {operation} of done is =
+      let here = by-case tablesCut s (operationOf (h .operation)) operation (sym of) done in
+      rw (← sheet-outcome) (record { answer = is ∙ here .answer; buffer = here .buffer })

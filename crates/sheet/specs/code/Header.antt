@@ -1,5 +1,5 @@
 -- Lines 1 and 2, as the code reads them.
-use Prim.Native.Nat.{ℕ, _≤_}
+use Prim.Native.Nat.{ℕ, _^_, _<_, _≤_}
 use mathlib.Core.Bool.{Bool, cond, _&&_}
 use mathlib.Core.List.{List}
 use mathlib.Core.Path.{_≡_}
@@ -51,6 +51,24 @@ placesOf c =
       text = textPlace c;
       end = endPlace c;
     }
+
+-- counts below 2^32, as any that columns say
+pub record Countable (c : Counts) : Type 0 where
+  pub nodes-below : c .nodes < 2 ^ 32
+  pub children-below : c .children < 2 ^ 32
+  pub numbers-below : c .numbers < 2 ^ 32
+  pub names-below : c .names < 2 ^ 32
+  pub strings-below : c .strings < 2 ^ 32
+  pub text-below : c .text < 2 ^ 32
+
+-- a number as it was read, and line 1
+pub record NumberRead (value r : ℕ) : Type 0 where
+  pub is : r ≡ value
+  pub below : r < 2 ^ 32
+
+pub record CountsRead (sheet : List ℕ) (r : Counts) : Type 0 where
+  pub is : r ≡ countsOf sheet
+  pub countable : Countable r
 
 -- counts within the limits
 pub record Limited (c : Counts) : Type 0 where

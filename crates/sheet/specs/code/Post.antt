@@ -7,23 +7,24 @@ use lib.Dec.{eqb, leb}
 use lib.ListN.{length, getD, set, replicate}
 use Rattle.scope.specs.declared.Scope.{Scope}
 use Rattle.scope.specs.Bytes.{converted}
-use Rattle.table.specs.Tables.{Tables}
 use Rattle.base.specs.Lists.{allFrom}
 use Rattle.columns.specs.Columns.{columnAt, writeColumn}
 use Rattle.base.specs.Refusal.{Line, line}
 use Rattle.planner.specs.Layout.{entryWords}
 use Rattle.planner.specs.Entries.{readEntries}
+use Rattle.planner.specs.Operations.{zeros}
 use Rattle.sheet.specs.declared.header.Counts.{Counts}
 use Rattle.sheet.specs.declared.header.Header.{Header}
 use Rattle.operation.specs.declared.numbers.OperationNumbers.{OperationNumbers}
-use Rattle.operation.specs.Operation.{operationOutcome}
-use Rattle.operation.specs.Numbers.{operationOf}
+use Rattle.operation.specs.declared.row.Row.{Row}
+use Rattle.operation.specs.Rows.{rowLine}
 use Rattle.sheet.specs.declared.space.Tried.{Tried}
 use Rattle.sheet.specs.declared.space.Tried.the-variants as Tried
 use Rattle.base.specs.Lent.{Slices}
 use Rattle.sheet.specs.Lines.{isReadable, numberAt, lineLength, numberLineLength, linesOk, wordAt, numberWord}
-use Rattle.sheet.specs.Sheet.{bytesOf, nodesPlace, markWord, childrenPlace, numbersPlace, namesPlace, marksOk}
-use Rattle.sheet.specs.Listing.{Listing, followed, alone, linesOf, linesBytes, Printed}
+use Rattle.sheet.specs.Sheet.{bytesOf, nodesPlace, markWord, childrenPlace, numbersPlace, namesPlace, marksOk, parse}
+use Rattle.sheet.specs.Outcome.{outcomeOfSheet, PlannedInto}
+use Rattle.sheet.specs.Listing.{Listing, followed, alone, linesBytes, Printed}
 use Rattle.sheet.specs.code.Header.{placesOf, Limited, tablesOk, Headed}
 
 -- so many parts of `line` bytes each, below 2^32
@@ -130,33 +131,35 @@ pub record EntriesAsks (out plan : List ℕ) (count : ℕ) : Type 0 where
 abbrev pub scopeIn : OperationNumbers → List ℕ → Scope
 scopeIn o marks = converted (bytesOf o marks)
 
--- the words of a plan in the full space and in the small one
+-- the words of a plan in the full space
 abbrev pub planWords : ℕ
 planWords = entryWords * 1536
 
-abbrev pub smallWords : ℕ
-smallWords = entryWords * 128
-
--- what became of an operation in space of so many words: it is listed, or it needs more and nothing was written
-pub record TriedBy (listing : List ℕ) (space : ℕ) (before after : List ℕ) (r : Tried) : Type 0 where
+-- what became of a listing in the small space: it is written, or its plan needs more and nothing was written
+pub record TriedBy (listing before after : List ℕ) (r : Tried) : Type 0 where
   pub listed : (bytes : ℕ) → r ≡ Tried.Listed bytes → Printed listing before after bytes
-  pub more : r ≡ Tried.TooLarge → space < planWords
   pub kept : r ≡ Tried.TooLarge → after ≡ before
 
--- the listing of a sheet, by its tables and its scope
-abbrev pub plannedBytes : OperationNumbers → Tables → Scope → List ℕ
-plannedBytes o T s = linesBytes (linesOf (operationOutcome T s (operationOf o)))
-
--- in an output that is lent
+-- in an output or a plan that is lent
 abbrev pub PrintedIn : Slices → List ℕ → ℕ → Type 0
 PrintedIn out listing r = Printed listing (out .entry .now) (out .exit .now) r
 
-abbrev pub TriedIn : Slices → List ℕ → ℕ → Tried → Type 0
-TriedIn out listing space r = TriedBy listing space (out .entry .now) (out .exit .now) r
+abbrev pub TriedIn : Slices → List ℕ → Tried → Type 0
+TriedIn out listing r = TriedBy listing (out .entry .now) (out .exit .now) r
+
+abbrev pub PlannedIn : Slices → List ℕ → Row → Type 0
+PlannedIn plan sheet r = PlannedInto (outcomeOfSheet (parse sheet)) (plan .entry .now) (plan .exit .now) r
 
 -- a refusal that has no place and no counts
 abbrev pub refusalBytes : ℕ → List ℕ
 refusalBytes number = linesBytes (alone (line number 0 0 0))
+
+pub record RefusedBy (number : ℕ) (before after : List ℕ) (r : Row) : Type 0 where
+  pub answer : rowLine r ≡ line number 0 0 0
+  pub buffer : after ≡ zeros before
+
+abbrev pub RefusedIn : Slices → ℕ → Row → Type 0
+RefusedIn plan number r = RefusedBy number (plan .entry .now) (plan .exit .now) r
 
 -- arrays that have space for the tables: a name's line has three words
 pub record Roomy (c : Counts) (nodes children numbers names : List ℕ) : Type 0 where

@@ -5,7 +5,7 @@ use Rattle.c_calls.proofs.planning.teluddru_plan.Tie as tie
 use Rattle.c_calls.proofs.planning.teluddru_plan.Reads as reads
 use Rattle.c_calls.proofs.planning.teluddru_plan.Lts as lts
 use Rattle.c_calls.proofs.answer.refuse.Reads as refuse-reads
-use Rattle.c_calls.proofs.answer.tell.Reads as tell-reads
+use Rattle.operation.proofs.inner.tell.Reads as tell-reads
 use Rattle.c_calls.proofs.given.scope_of.Reads as scope-of-reads
 use Rattle.c_calls.proofs.given.refused_first.Reads as refused-first-reads
 use Rattle.operation.proofs.numbers.operation_of.Reads as operation-of-reads

@@ -6,7 +6,7 @@ use Rattle.c_calls.proofs.reporting.teluddru_names_report.Reads as read
 use Rattle.c_calls.proofs.reporting.teluddru_names_report.Lts as lts
 use Rattle.c_calls.proofs.answer.refuse.Reads as refuse-reads
 use Rattle.c_calls.proofs.answer.report_row.Reads as report-row-reads
-use Rattle.c_calls.proofs.answer.tell.Reads as tell-reads
+use Rattle.operation.proofs.inner.tell.Reads as tell-reads
 use Rattle.c_calls.proofs.given.pattern_numbers.Reads as pattern-numbers-reads
 use Rattle.c_calls.proofs.given.scope_of.Reads as scope-of-reads
 use Rattle.c_calls.proofs.given.refused_first.Reads as refused-first-reads

@@ -6,7 +6,7 @@ use Rattle.c_calls.proofs.running.teluddru_run.Reads as reads
 use Rattle.c_calls.proofs.running.teluddru_run.Lts as lts
 use Rattle.c_calls.proofs.answer.refuse.Reads as refuse-reads
 use Rattle.c_calls.proofs.answer.run_row.Reads as run-row-reads
-use Rattle.c_calls.proofs.answer.tell.Reads as tell-reads
+use Rattle.operation.proofs.inner.tell.Reads as tell-reads
 use Rattle.c_calls.proofs.given.pattern_numbers.Reads as pattern-numbers-reads
 use Rattle.c_calls.proofs.given.scope_of.Reads as scope-of-reads
 use Rattle.c_calls.proofs.given.refused_first.Reads as refused-first-reads

@@ -1,0 +1,5 @@
+pub mod Page
+pub mod Answer
+pub mod Laws
+pub mod Trial
+pub mod code

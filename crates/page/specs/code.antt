@@ -1,0 +1,2 @@
+-- For the code's own proofs.
+pub mod Lines
