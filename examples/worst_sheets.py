@@ -68,6 +68,8 @@ RULES: dict[str, tuple[Operation, Callable[[Side], str]]] = {
 }
 # The rules whose literal stands one level deeper.
 DEEPER = {"repeated-name", "some-in-literal"}
+# The rules that the careful reading reads otherwise.
+READ = {"colon-equals-literal", "equals-literal-right", "equals-literal-left", "some-in-literal"}
 
 
 def shapes(around: int) -> Iterator[tuple[str, Shape]]:
@@ -83,8 +85,8 @@ def shape(opening: str, closing: str, times: int, container: Callable[[list[str]
     )
 
 
-def planned_as(operation: Operation, text: str) -> Sheet:
-    return sheet_of(replace(read_rule(text.encode()), operation=operation), Scope())
+def planned_as(operation: Operation, text: str, careful: bool = False) -> Sheet:
+    return sheet_of(replace(read_rule(text.encode()), operation=operation), Scope(careful=careful))
 
 
 def within_limits(sheet: Sheet) -> bool:
@@ -103,6 +105,8 @@ def sheets() -> Iterator[tuple[str, Sheet]]:
                 fits = within_limits(planned_as(operation, rule(side(middle))))
                 low, high = (middle, high) if fits else (low, middle)
             yield f"{label}-{shaped}-of-{low}", planned_as(operation, rule(side(low)))
+            if label in READ:
+                yield f"careful-{label}-{shaped}-of-{low}", planned_as(operation, rule(side(low)), careful=True)
 
 
 def main(folder: Path) -> None:

@@ -77,9 +77,16 @@ enum teluddru_scheduler {
     TELUDDRU_SCHEDULER = 1
 };
 
+/*
+ * Read by patterns and parameters. `:=`, `=` where one side binds and some-in take from it only how a pattern is
+ * held against a literal expression: by 3 and 4 carefully, so that a mismatch behind an item whose shape says nothing
+ * is refused too (TELUDDRU_ARRAY_LENGTH_MISMATCH, TELUDDRU_OBJECT_LITERAL_KEYS_MISMATCH). Else 3 acts as 1, and 4 as 2.
+ */
 enum teluddru_scoping {
     TELUDDRU_RESPECT_PARENT = 1,
-    TELUDDRU_ALLOW_SHADOWING = 2
+    TELUDDRU_ALLOW_SHADOWING = 2,
+    TELUDDRU_RESPECT_PARENT_CAREFUL = 3,
+    TELUDDRU_ALLOW_SHADOWING_CAREFUL = 4
 };
 
 /* The version of Rego that a rule is written for: v1 reserves `input` and `data`. Any number but 1 counts as 0. */

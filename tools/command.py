@@ -9,8 +9,8 @@ from dataclasses import replace
 from pathlib import Path
 
 from hints import hint_of
-from listing import ListingError, Refusal, read_listing
-from refusals import refusal_in_words
+from listing import ListingError, Plan, Refusal, read_listing
+from refusals import BY_STRUCTURE, UNREADABLE, refusal_in_words
 from rule_text import Operation, Rule, read_rule
 from sheet import ALLOW_SHADOWING, RESPECT_PARENT, Scope, Sheet, sheet_of
 from source import marked, shown
@@ -34,6 +34,10 @@ TARGET = Path(__file__).resolve().parent.parent / "target"
 BUILT = TARGET / "bin" / "plansheet"
 BUILT_LIBRARY = TARGET / "tools" / "libteluddru.so"
 SECONDS = 60
+
+PLANNED_WITHOUT = (
+    "without --careful this rule is planned: the check ends at the first part that it can't judge"
+)
 
 DESCRIPTION = """\
 Plans a line of rule text and says the plan, or why there is none, in words.
@@ -132,6 +136,12 @@ def argument_parser() -> argparse.ArgumentParser:
     )
     add_scope_options(parser)
     parser.add_argument(
+        "--careful",
+        action="store_true",
+        help="check structure behind parts that can't be judged too; of :=, = and some-in only,"
+        " others are planned as without it",
+    )
+    parser.add_argument(
         "--rego",
         choices=VERSIONS,
         default="v0",
@@ -209,7 +219,7 @@ def scope_of(options: argparse.Namespace) -> Scope:
     for option, mark in MARKS.items():
         for name in listed_names(options, option):
             marks[os.fsencode(name)] = marks.get(os.fsencode(name), 0) | mark
-    return Scope(marks, options.scheduler, SCOPINGS[options.scoping])
+    return Scope(marks, options.scheduler, SCOPINGS[options.scoping], options.careful)
 
 
 def check_names(sheet: Sheet, options: argparse.Namespace) -> None:
@@ -239,15 +249,34 @@ def sheet_bytes(sheet: Sheet, options: argparse.Namespace) -> bytes:
 
 def answer(sheet: Sheet, options: argparse.Namespace) -> tuple[int, str]:
     """Exit status and words of the planner's answer."""
-    planner = Path(options.plansheet if options.rego == "v0" else options.library)
-    planned_by = listing_of if options.rego == "v0" else library_listing
     try:
-        found = read_listing(planned_by(sheet, planner), len(sheet.nodes))
-        if isinstance(found, Refusal):
-            return REFUSED, refusal_in_words(sheet, found)
-        return PLANNED, plan_in_words(sheet, found)
+        found = found_of(sheet, options)
+        if isinstance(found, Plan):
+            return PLANNED, plan_in_words(sheet, found)
+        return REFUSED, refusal_in_words(sheet, found) + without_careful(sheet, found, options)
     except ListingError as error:
-        raise NoAnswer(f"the listing of {planner} can't be read: {error}") from None
+        raise NoAnswer(f"the listing of {planner_of(options)} can't be read: {error}") from None
+
+
+def planner_of(options: argparse.Namespace) -> Path:
+    return Path(options.plansheet if options.rego == "v0" else options.library)
+
+
+def found_of(sheet: Sheet, options: argparse.Namespace) -> Plan | Refusal:
+    planned_by = listing_of if options.rego == "v0" else library_listing
+    return read_listing(planned_by(sheet, planner_of(options)), len(sheet.nodes))
+
+
+def without_careful(sheet: Sheet, refusal: Refusal, options: argparse.Namespace) -> str:
+    """Says it where the careful reading alone refuses, for which the planner is asked again."""
+    if not sheet.scope.careful:
+        return ""
+    if refusal.number == UNREADABLE:
+        raise NoAnswer(f"{planner_of(options)} doesn't know --careful: build it anew")
+    if refusal.number not in BY_STRUCTURE:
+        return ""
+    present = replace(sheet, scope=replace(sheet.scope, careful=False))
+    return f"{PLANNED_WITHOUT}\n" if isinstance(found_of(present, options), Plan) else ""
 
 
 def library_listing(sheet: Sheet, library: Path) -> bytes:

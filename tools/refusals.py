@@ -30,6 +30,10 @@ class Meaning:
     node_in_first_count: str = ""
 
 
+UNREADABLE = 7
+# Pattern and value can't fit.
+BY_STRUCTURE = (13, 14)
+
 UNKNOWN = Meaning("unknown", "this tool has no words for it", "the place", "counts {0} and {1}")
 
 MEANINGS = {
@@ -46,7 +50,9 @@ MEANINGS = {
         "the plan doesn't fit into the planner's 1536 entries",
         counts="entries needed: {0}",
     ),
-    7: Meaning("unreadable", "the planner can't read the sheet, which no rule text leads to"),
+    UNREADABLE: Meaning(
+        "unreadable", "the planner can't read the sheet, which no rule text leads to"
+    ),
     11: Meaning(
         "ColonEqualsRequiresBindableLeft",
         "the left of := has no name to bind and no _",

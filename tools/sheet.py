@@ -10,6 +10,8 @@ from tokens import RuleTextError
 
 RESPECT_PARENT = 1
 ALLOW_SHADOWING = 2
+# Added to either.
+CAREFUL = 2
 
 COLUMN = 6
 NUMBER_COLUMN = 20
@@ -39,6 +41,11 @@ class Scope:
     marks: Mapping[bytes, int] = field(default_factory=dict)
     scheduler: bool = False
     scoping: int = RESPECT_PARENT
+    careful: bool = False
+
+    def scoping_number(self) -> int:
+        """As line 2 has it: 3 and 4 are 1 and 2 with the careful reading."""
+        return self.scoping + (CAREFUL if self.careful else 0)
 
 
 @dataclass
@@ -69,10 +76,15 @@ class Sheet:
     def node(self, number: int) -> Node:
         return self.nodes[number - 1]
 
+    def asked(self) -> list[int]:
+        """Line 2."""
+        scope = self.scope
+        return [self.operation, scope.scheduler, scope.scoping_number(), *self.roots]
+
     def to_bytes(self) -> bytes:
         lines = [
             columns(*self.counts().values()),
-            columns(self.operation, self.scope.scheduler, self.scope.scoping, *self.roots),
+            columns(*self.asked()),
             *(columns(*node) for node in self.nodes),
             *(columns(child) for child in self.children),
             *(f"{number:{NUMBER_COLUMN}}\n" for number in self.numbers),

@@ -15,8 +15,7 @@ def listing_for(sheet: Sheet, version: int, library: Path) -> bytes:
     call = ctypes.CDLL(str(library.resolve())).teluddru_plan
     plan = lent(ctypes.c_uint32, [0] * (MOST_ENTRIES * ENTRY_COLUMNS))
     answer = lent(ctypes.c_uint32, [0] * HEAD_COLUMNS)
-    scope = sheet.scope
-    numbers = [sheet.operation, scope.scheduler, scope.scoping, *sheet.roots, version]
+    numbers = [*sheet.asked(), version]
     call(*tables(sheet), *map(ctypes.c_uint32, numbers), *plan, *answer)
     number, _, _, entries = answer[0]
     words = plan[0][: entries * ENTRY_COLUMNS] if number == 0 else []

@@ -1,4 +1,4 @@
-//! A fixed list of the Rust's answers: of each row of the tally as many as its share takes.
+//! A fixed list of the oracle's answers: of each row of the tally as many as its share takes.
 
 use crate::answer::answer;
 use crate::generate::{self, Random};
@@ -19,6 +19,7 @@ const SHORT: usize = 700;
 fn share((row, _): &Place) -> (usize, usize) {
     match row {
         Row::Refusal(1..=7) => (30, 12_000),
+        Row::Careful(..) => (30, 15_000),
         _ => (60, 29_000),
     }
 }

@@ -4,12 +4,15 @@ import io
 import os
 import subprocess
 import sys
+import tempfile
 import unittest
+from collections.abc import Iterator
+from contextlib import contextmanager
 from pathlib import Path
 from typing import BinaryIO
 from unittest import mock
 
-from command import BUILT, BUILT_LIBRARY, main
+from command import BUILT, BUILT_LIBRARY, PLANNED_WITHOUT, main
 from tests.test_sheet import EXAMPLE
 
 COMMAND = Path(__file__).parent.parent / "plan_rule"
@@ -60,6 +63,23 @@ def written(text: io.TextIOWrapper) -> str:
     return text.read()
 
 
+@contextmanager
+def planner_of_answers(present: str, careful: str) -> Iterator[str]:
+    """A planner that has one line for scoping 1 and 2, and one for 3 and 4."""
+    with tempfile.TemporaryDirectory() as folder:
+        planner = Path(folder) / "planner"
+        chosen = f'case $(sed -n 2p) in ?????????????????[12]*) echo "{present}";;'
+        planner.write_text(f'#!/bin/sh\n{chosen} *) echo "{careful}";; esac\n')
+        planner.chmod(0o755)
+        yield str(planner)
+
+
+def careful_lines(present: str, careful: str, rule: str) -> list[str]:
+    """What is said with --careful where the planner has these answers."""
+    with planner_of_answers(present, careful) as planner:
+        return run("--plansheet", planner, "--careful", rule)[1].splitlines()
+
+
 class WithoutPlanner(unittest.TestCase):
     def test_sheet(self) -> None:
         arguments = ["--sheet", "--as", "index", "[x, x]"]
@@ -94,6 +114,30 @@ class WithoutPlanner(unittest.TestCase):
         self.assertEqual(run("--sheet", "--rego", "v1", "x")[0], 2)
         self.assertEqual(run("--sheet", "--rego", "v0", "x")[0], 0)
         self.assertEqual(run("--rego", "v2", "x")[0], 2)
+
+    def test_careful(self) -> None:
+        rule = "[x, [y]] := [1, [1, 2]]"
+        for scoping, numbers in (("respect", (1, 3)), ("shadow", (2, 4))):
+            for careful, number in zip(([], ["--careful"]), numbers):
+                printed = run("--sheet", "--scoping", scoping, *careful, rule)[1]
+                line = f"     2     0     {number}     4     9     0"
+                self.assertEqual(printed.splitlines()[1], line)
+        plan = "     0     1     0     0"
+        refusal = "    13     8     1     2"
+        lines = careful_lines(plan, refusal, rule)
+        self.assertEqual(lines[2], "                    ^^^^^^ the value's array")
+        self.assertEqual(lines[4:], [PLANNED_WITHOUT])
+        self.assertEqual(len(careful_lines(refusal, refusal, rule)), 4)
+        self.assertEqual(len(careful_lines(plan, "    17     1     0     0", rule)), 3)
+        self.assertEqual(careful_lines(refusal, plan, rule)[1][:15], "planned as `:=`")
+
+    def test_planner_that_does_not_know_careful(self) -> None:
+        unreadable = "     7     0     0     0"
+        with planner_of_answers(unreadable, unreadable) as planner:
+            status, printed, error = run("--plansheet", planner, "--careful", "x := 1")
+            self.assertEqual((status, printed), (2, ""))
+            self.assertEqual(error, f"{planner} doesn't know --careful: build it anew\n")
+            self.assertEqual(run("--plansheet", planner, "x := 1")[0], 1)
 
     def test_planner_without_an_answer(self) -> None:
         status, _, error = run("--plansheet", "/bin/cat", "x")
@@ -194,6 +238,44 @@ class WithPlanner(unittest.TestCase):
                 self.assertEqual((status, lines[0][:11]), (1, "refused, 18"))
                 self.assertEqual(lines[2].lstrip(" ^"), side)
 
+    def test_careful(self) -> None:
+        mismatches = {
+            "[x, [y]] := [1, [1, 2]]": ("13", 16, 6),
+            "[x, [y]] = [1, [1, 2]]": ("13", 15, 6),
+            "[1, [1, 2]] = [x, [y]]": ("13", 4, 6),
+            "some [x, [y]] in [[1, [1, 2]]]": ("13", 22, 6),
+            '[x, {"a": y}] := [1, {"b": 2}]': ("14", 21, 8),
+            "[{k: x}, [y]] := [{}, [1, 2]]": ("13", 22, 6),
+            '{"a": x, "b": [y]} := {"a": 1, "b": []}': ("13", 36, 2),
+        }
+        for text, (number, place, width) in mismatches.items():
+            with self.subTest(text=text):
+                self.assertEqual(self.plan(text)[0], 0)
+                status, lines = self.plan(text, "--careful")
+                self.assertEqual((status, lines[0][:11]), (1, f"refused, {number}"))
+                self.assertEqual(lines[2].split(" the")[0], " " * (4 + place) + "^" * width)
+                self.assertEqual(lines[-1], PLANNED_WITHOUT)
+
+    def test_careful_where_the_present_reading_refuses(self) -> None:
+        refused = self.plan("[x] := [1, 2]")
+        self.assertEqual(refused[0], 1)
+        self.assertEqual(self.plan("[x] := [1, 2]", "--careful"), refused)
+        moved = '{"b": [x], "a": [y]} := {"b": [1, 2], "a": [1, 2, 3]}'
+        self.assertEqual(self.plan(moved)[1][3][-1], "2")
+        self.assertEqual(self.plan(moved, "--careful")[1][3][-1], "3")
+        self.assertEqual(len(self.plan(moved, "--careful")[1]), 4)
+
+    def test_careful_makes_no_difference_else(self) -> None:
+        rules = ["[x, [y]] := [1, [2]]", "[w, w] = [18, 16]", "[x, 1] = [1, x]", "x = y"]
+        rules += ["x := f(x)", "some x in [[1, [1, 2]]]", "[x, {y}]", "[" * 33 + "]" * 33]
+        for text in rules:
+            with self.subTest(text=text):
+                self.assertEqual(self.plan(text, "--careful"), self.plan(text))
+        for operation in ("pattern", "parameter", "index"):
+            for scoping in ("respect", "shadow"):
+                rule = ("[x, y]", "--as", operation, "--scoping", scoping, "--bound", "x")
+                self.assertEqual(self.plan(*rule, "--careful"), self.plan(*rule))
+
 
 @unittest.skipIf(LIBRARY_SKIPPED, NO_LIBRARY)
 class RegoV1(unittest.TestCase):
@@ -227,6 +309,14 @@ class RegoV1(unittest.TestCase):
             self.assertEqual(self.plan(text)[0], 0)
         self.assertEqual(self.plan("input = 1", "--bound", "input")[0], 0)
         self.assertEqual(self.plan("--", "-3 = x")[0], 0)
+
+    def test_careful(self) -> None:
+        rule = "[x, [y]] := [1, [1, 2]]"
+        self.assertEqual(self.plan(rule)[0], 0)
+        status, lines = self.plan(rule, "--careful")
+        self.assertEqual((status, lines[-1]), (1, PLANNED_WITHOUT))
+        status, lines = self.plan("[input, [y]] := [1, [1, 2]]", "--careful")
+        self.assertEqual((status, lines[0][:11]), (1, "refused, 31"))
 
     def test_refusals_of_v0(self) -> None:
         status, lines = self.plan("x := 1", "--bound-here", "x")

@@ -14,6 +14,7 @@ use Rattle.assignment.specs.declared.AssignOp.{AssignOp}
 use Rattle.assignment.specs.declared.AssignOp.the-variants.{ColEq, Eq}
 use Rattle.planner.specs.Layout.{Entry, top, entries, bindsAny}
 use Rattle.planner.specs.Operations.{Outcome, planned, require, checkedFirst, planOf, unlessDefined}
+use Rattle.checks.specs.declared.Reading.{Reading}
 use Rattle.checks.specs.Structure.{structure}
 use Rattle.checks.specs.Refusals.{unlessMismatch}
 use Rattle.assignment.specs.Pairs.{Shape, items, fields, single, shapeOf, flatten, flatOutcome}
@@ -29,10 +30,10 @@ opposed (fields n es) single = false
 opposed single s = false
 
 -- the binding side held against the value side: shapes, then structure, then the plan
-abbrev pub bindSide : Tables → ℕ → ℕ → ℕ → List Entry → Outcome
-bindSide T form binding value es =
+abbrev pub bindSide : Tables → ℕ → ℕ → ℕ → Reading → List Entry → Outcome
+bindSide T form binding value reading es =
     require (not (opposed (shapeOf (expr T binding)) (shapeOf (expr T value)))) (incompatibleDestructuringPatterns binding)
-    (unlessMismatch (structure (expr T value) (expr T binding)) (planned form 0 es))
+    (unlessMismatch (structure reading (expr T value) (expr T binding)) (planned form 0 es))
 
 -- the first bind entry whose name is bound in this very scope, or 0
 abbrev pub boundHere : List ℕ → Scope → ℕ → ℕ → Bool
@@ -43,13 +44,13 @@ firstSameScope nodes s [] = 0
 firstSameScope nodes s (e ∷ es) = cond (boundHere nodes s (e .kind) (e .node)) (e .node) (firstSameScope nodes s es)
 
 -- `:=`, from the entries of the left side's plan
-abbrev pub colonEqualsFrom : Tables → Scope → ℕ → ℕ → List Entry → Outcome
-colonEqualsFrom T s left right es =
+abbrev pub colonEqualsFrom : Tables → Scope → ℕ → ℕ → Reading → List Entry → Outcome
+colonEqualsFrom T s left right reading es =
     require (bindsAny es) (colonEqualsRequiresBindableLeft left)
-    (unlessDefined (firstSameScope (T .nodes) s es) (bindSide T 1 left right es))
+    (unlessDefined (firstSameScope (T .nodes) s es) (bindSide T 1 left right reading es))
 
-abbrev pub colonEqualsPlanned : Tables → Scope → ℕ → ℕ → Outcome
-colonEqualsPlanned T s left right = colonEqualsFrom T s left right (entries (planOf T s AllowShadowing left) top)
+abbrev pub colonEqualsPlanned : Tables → Scope → ℕ → ℕ → Reading → Outcome
+colonEqualsPlanned T s left right reading = colonEqualsFrom T s left right reading (entries (planOf T s AllowShadowing left) top)
 
 -- `=`
 abbrev pub isUnderscore : Expr → Bool
@@ -71,29 +72,29 @@ wildcardSide true true = 3
 abbrev pub pairsOutcome : Tables → Scope → ℕ → ℕ → Outcome
 pairsOutcome T s left right = flatOutcome (flatten (isUnbound s RespectParent) (expr T right) (expr T left) [])
 
--- by the sides that bind, with the entries of their plans
-abbrev pub bySides : Bool → Bool → Tables → Scope → ℕ → ℕ → List Entry → List Entry → Outcome
-bySides true true T s left right ls rs = pairsOutcome T s left right
-bySides false false T s left right ls rs = planned 5 0 []
-bySides true false T s left right ls rs = bindSide T 2 left right ls
-bySides false true T s left right ls rs = bindSide T 3 right left rs
+-- by the sides that bind, with the entries of their plans; pairs have no reading
+abbrev pub bySides : Bool → Bool → Tables → Scope → ℕ → ℕ → Reading → List Entry → List Entry → Outcome
+bySides true true T s left right reading ls rs = pairsOutcome T s left right
+bySides false false T s left right reading ls rs = planned 5 0 []
+bySides true false T s left right reading ls rs = bindSide T 2 left right reading ls
+bySides false true T s left right reading ls rs = bindSide T 3 right left reading rs
 
-abbrev pub equalsFrom : Tables → Scope → ℕ → ℕ → List Entry → List Entry → Outcome
-equalsFrom T s left right ls rs = bySides (bindsAny ls) (bindsAny rs) T s left right ls rs
+abbrev pub equalsFrom : Tables → Scope → ℕ → ℕ → Reading → List Entry → List Entry → Outcome
+equalsFrom T s left right reading ls rs = bySides (bindsAny ls) (bindsAny rs) T s left right reading ls rs
 
 -- one side's plan never sees the other's names
-abbrev pub equalsSides : Tables → Scope → ℕ → ℕ → Outcome
-equalsSides T s left right = equalsFrom T s left right (entries (planOf T s RespectParent left) top) (entries (planOf T s RespectParent right) top)
+abbrev pub equalsSides : Tables → Scope → ℕ → ℕ → Reading → Outcome
+equalsSides T s left right reading = equalsFrom T s left right reading (entries (planOf T s RespectParent left) top) (entries (planOf T s RespectParent right) top)
 
 abbrev pub sideOf : Tables → ℕ → ℕ → ℕ
 sideOf T left right = wildcardSide (isUnderscore (expr T left)) (isUnderscore (expr T right))
 
-abbrev pub equalsPlanned : Tables → Scope → ℕ → ℕ → Outcome
-equalsPlanned T s left right = cond (eqb (sideOf T left right) 0) (equalsSides T s left right) (planned 6 (sideOf T left right) [])
+abbrev pub equalsPlanned : Tables → Scope → ℕ → ℕ → Reading → Outcome
+equalsPlanned T s left right reading = cond (eqb (sideOf T left right) 0) (equalsSides T s left right reading) (planned 6 (sideOf T left right) [])
 
-abbrev pub byOperator : AssignOp → Tables → Scope → ℕ → ℕ → Outcome
-byOperator ColEq T s left right = colonEqualsPlanned T s left right
-byOperator Eq T s left right = equalsPlanned T s left right
+abbrev pub byOperator : AssignOp → Tables → Scope → ℕ → ℕ → Reading → Outcome
+byOperator ColEq T s left right reading = colonEqualsPlanned T s left right reading
+byOperator Eq T s left right reading = equalsPlanned T s left right reading
 
-abbrev pub assignmentOutcome : Tables → Scope → AssignOp → ℕ → ℕ → Outcome
-assignmentOutcome T s op left right = checkedFirst T s (left ∷ (right ∷ [])) (byOperator op T s left right)
+abbrev pub assignmentOutcome : Tables → Scope → AssignOp → ℕ → ℕ → Reading → Outcome
+assignmentOutcome T s op left right reading = checkedFirst T s (left ∷ (right ∷ [])) (byOperator op T s left right reading)

@@ -13,14 +13,15 @@ use Rattle.planner.specs.Layout.{Entry}
 use Rattle.planner.specs.Simple.{simple}
 use Rattle.planner.specs.Operations.{planned, Answered}
 use Rattle.planner.specs.Entries.{readEntries}
+use Rattle.checks.specs.declared.Reading.{Reading}
 use Rattle.assignment.specs.PairsPromise.{PairsPromise, EntriesPromise}
 use Rattle.assignment.specs.declared.AssignOp.the-variants.{Eq}
 use Rattle.assignment.specs.Assignment.{assignmentOutcome}
 
--- Of what is answered: form 4 with its entries, and the entries in the plan buffer of whatever meets the contract of create_assignment_binding_plan.
+-- Of what is answered, in either reading: form 4 with its entries, and the entries in the plan buffer of whatever meets the contract of create_assignment_binding_plan.
 pub record AnswerPromise (T : Tables) (s : Scope) (left right : ℕ) : Type 0 where
-  pub entries : (side : ℕ) (es : List Entry) → assignmentOutcome T s Eq left right ≡ planned 4 side es → EntriesPromise T s es
-  pub buffer : (before after : List ℕ) (side count : ℕ) → Answered (assignmentOutcome T s Eq left right) before after (Planned 4 side count)
+  pub entries : (reading : Reading) (side : ℕ) (es : List Entry) → assignmentOutcome T s Eq left right reading ≡ planned 4 side es → EntriesPromise T s es
+  pub buffer : (reading : Reading) (before after : List ℕ) (side count : ℕ) → Answered (assignmentOutcome T s Eq left right reading) before after (Planned 4 side count)
       → EntriesPromise T s (readEntries after 0 count)
 
 pub record PairsDemand : Type 0 where

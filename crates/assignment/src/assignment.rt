@@ -6,11 +6,10 @@ ghost use mathlib.Core.List.{[]};
 ghost use Rattle.table.specs.Tables.{kindOf};
 ghost use Rattle.planner.specs.Operations.{planned, AnsweredIn};
 ghost use Rattle.planner.specs.code.Post.{GoodPair};
-ghost use Rattle.planner.specs.Entries.{readEntries};
-ghost use Rattle.assignment.specs.Assignment.{equalsSides, equalsPlanned, byOperator, assignmentOutcome, bindSide, colonEqualsFrom};
+ghost use Rattle.assignment.specs.Assignment.{equalsSides, equalsPlanned, byOperator, assignmentOutcome};
 ghost use Rattle.assignment.specs.code.Previewing.{GoodPairIn, SidesAsksIn};
 ghost use Rattle.checks.specs.code.Post.{WorkingSpace};
-ghost use Rattle.assignment.specs.code.Binding.{BindAsks, opposedKinds, underscoreAt, underscoreSide, RightBoundIn, ColonEqualsIn};
+ghost use Rattle.assignment.specs.code.Binding.{BindAsks, SideBoundIn, ColonBoundIn, opposedKinds, underscoreAt, underscoreSide, RightBoundIn, ColonEqualsIn};
 use crate::AssignOp;
 use crate::entries::deliver;
 use crate::entries::first_same_scope;
@@ -19,6 +18,7 @@ use crate::preview::introduces_binding;
 use crate::preview::preview_binding_plan;
 use crate::preview::preview_sides;
 use checks::LiteralStructureCheck;
+use checks::Reading;
 use checks::inner::check_literal_structure;
 use planner::PlanAnswer;
 use planner::buffer::ENTRY_WORDS;
@@ -66,12 +66,13 @@ fn bind_side(
     form: u32,
     binding: u32,
     value: u32,
+    reading: Reading,
     scratch: &[u32],
     count: usize,
     plan: &mut [u32],
 ) -> PlanAnswer
     requires { ⌜ BindAsks (given nodes children numbers names strings text) binding value (now scratch) count ⌝ }
-    ensures { λ r. ⌜ AnsweredIn plan (bindSide (lent nodes children numbers names strings text) form binding value (readEntries (old scratch) 0 count)) r ⌝ }
+    ensures { λ r. ⌜ SideBoundIn plan scratch (lent nodes children numbers names strings text) form binding value reading count r ⌝ }
 {
     if structurally_incompatible(nodes, binding, value) {
         clear(plan);
@@ -86,6 +87,7 @@ fn bind_side(
         text,
         binding,
         value,
+        reading,
     );
     match structure {
         LiteralStructureCheck::Match => deliver(plan, scratch, form, count),
@@ -132,12 +134,13 @@ fn colon_equals_from(
     scope: Scope,
     left: u32,
     right: u32,
+    reading: Reading,
     scratch: &[u32],
     count: usize,
     plan: &mut [u32],
 ) -> PlanAnswer
     requires { ⌜ BindAsks (given nodes children numbers names strings text) left right (now scratch) count ⌝ }
-    ensures { λ r. ⌜ AnsweredIn plan (colonEqualsFrom (lent nodes children numbers names strings text) scope left right (readEntries (old scratch) 0 count)) r ⌝ }
+    ensures { λ r. ⌜ ColonBoundIn plan scratch (lent nodes children numbers names strings text) scope left right reading count r ⌝ }
 {
     if !introduces_binding(scratch, count) {
         clear(plan);
@@ -158,6 +161,7 @@ fn colon_equals_from(
         1,
         left,
         right,
+        reading,
         scratch,
         count,
         plan,
@@ -175,11 +179,12 @@ fn colon_equals_in(
     scope: Scope,
     left: u32,
     right: u32,
+    reading: Reading,
     scratch: &mut [u32],
     plan: &mut [u32],
 ) -> PlanAnswer
     requires { ⌜ GoodPairIn scratch (given nodes children numbers names strings text) left right ⌝ }
-    ensures { λ r. ⌜ ColonEqualsIn plan scratch (lent nodes children numbers names strings text) scope left right r ⌝ }
+    ensures { λ r. ⌜ ColonEqualsIn plan scratch (lent nodes children numbers names strings text) scope left right reading r ⌝ }
 {
     let mut binders = [0u32; 128];
     let planned = plan_pattern(
@@ -207,6 +212,7 @@ fn colon_equals_in(
         scope,
         left,
         right,
+        reading,
         scratch,
         count,
         plan,
@@ -257,12 +263,13 @@ fn bind_right(
     states: &[u8; 128],
     left: u32,
     right: u32,
+    reading: Reading,
     binders: &mut [u32; 128],
     scratch: &mut [u32],
     plan: &mut [u32],
 ) -> PlanAnswer
     requires { ⌜ SidesAsksIn scratch (given nodes children numbers names strings text) (now states) left right ⌝ }
-    ensures { λ r. ⌜ RightBoundIn plan scratch binders (lent nodes children numbers names strings text) (old states) left right r ⌝ }
+    ensures { λ r. ⌜ RightBoundIn plan scratch binders (lent nodes children numbers names strings text) (old states) left right reading r ⌝ }
 {
     let planned = preview_binding_plan(
         nodes,
@@ -287,6 +294,7 @@ fn bind_right(
         3,
         right,
         left,
+        reading,
         scratch,
         planned.count,
         plan,
@@ -304,11 +312,12 @@ fn equals_in(
     scope: Scope,
     left: u32,
     right: u32,
+    reading: Reading,
     scratch: &mut [u32],
     plan: &mut [u32],
 ) -> PlanAnswer
     requires { ⌜ GoodPairIn scratch (given nodes children numbers names strings text) left right ⌝ }
-    ensures { λ r. ⌜ AnsweredIn plan (equalsSides (lent nodes children numbers names strings text) scope left right) r × WorkingSpace scratch ⌝ }
+    ensures { λ r. ⌜ AnsweredIn plan (equalsSides (lent nodes children numbers names strings text) scope left right reading) r × WorkingSpace scratch ⌝ }
 {
     let states = name_states(names, text, scope, ScopingMode::RespectParent);
     let mut binders = [0u32; 128];
@@ -354,6 +363,7 @@ fn equals_in(
             2,
             left,
             right,
+            reading,
             scratch,
             count,
             plan,
@@ -370,6 +380,7 @@ fn equals_in(
             &states,
             left,
             right,
+            reading,
             &mut binders,
             scratch,
             plan,
@@ -389,11 +400,12 @@ fn plan_equals(
     scope: Scope,
     left: u32,
     right: u32,
+    reading: Reading,
     scratch: &mut [u32],
     plan: &mut [u32],
 ) -> PlanAnswer
     requires { ⌜ GoodPairIn scratch (given nodes children numbers names strings text) left right ⌝ }
-    ensures { λ r. ⌜ AnsweredIn plan (equalsPlanned (lent nodes children numbers names strings text) scope left right) r × WorkingSpace scratch ⌝ }
+    ensures { λ r. ⌜ AnsweredIn plan (equalsPlanned (lent nodes children numbers names strings text) scope left right reading) r × WorkingSpace scratch ⌝ }
 {
     let side = wildcard_side(nodes, names, text, left, right);
     if side != 0 {
@@ -409,6 +421,7 @@ fn plan_equals(
         scope,
         left,
         right,
+        reading,
         scratch,
         plan,
     )
@@ -426,11 +439,12 @@ fn plan_assignment_in(
     op: AssignOp,
     left: u32,
     right: u32,
+    reading: Reading,
     scratch: &mut [u32],
     plan: &mut [u32],
 ) -> PlanAnswer
     requires { ⌜ GoodPairIn scratch (given nodes children numbers names strings text) left right ⌝ }
-    ensures { λ r. ⌜ AnsweredIn plan (byOperator op (lent nodes children numbers names strings text) scope left right) r × WorkingSpace scratch ⌝ }
+    ensures { λ r. ⌜ AnsweredIn plan (byOperator op (lent nodes children numbers names strings text) scope left right reading) r × WorkingSpace scratch ⌝ }
 {
     match op {
         AssignOp::ColEq => colon_equals_in(
@@ -443,6 +457,7 @@ fn plan_assignment_in(
             scope,
             left,
             right,
+            reading,
             scratch,
             plan,
         ),
@@ -456,6 +471,7 @@ fn plan_assignment_in(
             scope,
             left,
             right,
+            reading,
             scratch,
             plan,
         ),
@@ -474,10 +490,11 @@ fn plan_assignment(
     op: AssignOp,
     left: u32,
     right: u32,
+    reading: Reading,
     plan: &mut [u32],
 ) -> PlanAnswer
     requires { ⌜ GoodPair (given nodes children numbers names strings text) left right ⌝ }
-    ensures { λ r. ⌜ AnsweredIn plan (byOperator op (lent nodes children numbers names strings text) scope left right) r ⌝ }
+    ensures { λ r. ⌜ AnsweredIn plan (byOperator op (lent nodes children numbers names strings text) scope left right reading) r ⌝ }
 {
     if nodes.len() <= 320 {
         let mut scratch = [0u32; SMALL_WORDS];
@@ -492,6 +509,7 @@ fn plan_assignment(
             op,
             left,
             right,
+            reading,
             &mut scratch,
             plan,
         );
@@ -508,6 +526,7 @@ fn plan_assignment(
         op,
         left,
         right,
+        reading,
         &mut scratch,
         plan,
     )
@@ -524,9 +543,10 @@ pub fn create_assignment_binding_plan(
     op: AssignOp,
     left: u32,
     right: u32,
+    reading: Reading,
     plan: &mut [u32],
 ) -> PlanAnswer
-    ensures { λ r. ⌜ AnsweredIn plan (assignmentOutcome (lent nodes children numbers names strings text) scope op left right) r ⌝ }
+    ensures { λ r. ⌜ AnsweredIn plan (assignmentOutcome (lent nodes children numbers names strings text) scope op left right reading) r ⌝ }
 {
     let checked = check(nodes, children, numbers, names, strings, text, scope);
     if let TableAnswer::Refused(refused) = checked {
@@ -552,6 +572,7 @@ pub fn create_assignment_binding_plan(
         op,
         left,
         right,
+        reading,
         plan,
     )
 }

@@ -1,21 +1,16 @@
 -- The structure check by nodes: arrays item by item, objects field by field.
 use Prim.Native.Nat.{ℕ, _+_, _-_, _*_, _≤_, _<_}
 use mathlib.Core.Path.{_≡_, refl, sym, ap, _∙_}
-use mathlib.Core.Bool.{Bool, true, false, cond}
+use mathlib.Core.Bool.{Bool, true, false, cond, not}
 use mathlib.Core.List.{List, [], _∷_, map}
-use mathlib.Core.Logic.{inl, inr}
-use mathlib.Core.Option.{Option}
-use mathlib.Core.Option as Option
 use native.Mathlib.Omega.{arith}
-use borrow.Author.Tests.{eq-eqb, ne-eqb, eqb-true, eqb-false}
+use borrow.Author.Tests.{eq-eqb, ne-eqb, eqb-true, eqb-false, not-true, not-false}
 use lib.Dec.{eqb}
 use lib.ListN.{length, length-map, length-append}
 use mir.Syntax.{w64}
 use mir.Val.{Fits}
-use types.Run.{OneOf}
-use denote.Enum.Declared.{tagOf}
 use Rattle.table.specs.Tables.{Tables, kindOf, firstOf, countOf, width, childAt}
-use Rattle.table.specs.Expr.{Expr, literal, name, wildcard, array, set, object, other, count}
+use Rattle.table.specs.Expr.{Expr, literal, name, wildcard, array, set, object, other}
 use Rattle.table.specs.Decode.{expr, fields, literalAt, isWildcard, fieldsOf}
 use Rattle.table.specs.code.Sound.{Node, WellFormed}
 use Rattle.table.proofs.trees.Trees.{expr-name, expr-array, expr-object, width-array, items-step, items-end, fields-step, fields-end, child-node, count-items}
@@ -27,27 +22,15 @@ use Rattle.planner.proofs.fields.FieldOrder.{mapSlot}
 use Rattle.planner.proofs.fields.Objects.{key-literal}
 use Rattle.checks.specs.declared.LiteralStructureCheck.{LiteralStructureCheck}
 use Rattle.checks.specs.declared.LiteralStructureCheck.the-variants.{Match, Unknown, ArrayMismatch, ObjectMismatch}
-use Rattle.checks.proofs.LiteralStructureCheck.{the-type}
-use Rattle.checks.specs.Structure.{andThen, held, partner, objectStructure, slotText, keyTexts, sortTexts, sameTexts, sameKeys, computedKeys, structure, structureAll, structureFields}
+use Rattle.checks.specs.declared.Reading.{Reading}
+use Rattle.checks.specs.Joining.{joined}
+use Rattle.checks.specs.Structure.{fieldChecks, objectStructure, slotText, keyTexts, sortTexts, sameTexts, sameKeys, structure, itemChecks, valueFields}
+use Rattle.checks.specs.code.Joins.{isSettled}
 use Rattle.planner.specs.Held.{isEmpty}
 use Rattle.planner.specs.code.Post.{GoodPair}
-use Rattle.checks.specs.code.Post.{itemsAt, ItemsAsks, ObjectsAsks, orderOfNode, patternsOf, KeysCompared, FieldsAsks, fieldsStructure, FieldAsks, fieldStructure, PartnerAsks, PartnerIs}
-use Rattle.checks.proofs.PatternObjects.{object-key, object-value, object-few, patterns-are}
-
--- a part that does not match ends the check
-abbrev pub Ends : LiteralStructureCheck → Type 0
-Ends check = OneOf (1 ∷ 2 ∷ 3 ∷ []) (tagOf the-type check)
-
-not-match : OneOf (1 ∷ 2 ∷ 3 ∷ []) 0 → ⊥
-not-match (inl e) = omega arith
-not-match (inr (inl e)) = omega arith
-not-match (inr (inr e)) = omega arith
-
-ended : (check rest : LiteralStructureCheck) → Ends check → check ≡ andThen check rest
-ended Match rest e = absurd (not-match e)
-ended Unknown rest e = refl
-ended (ArrayMismatch n a b) rest e = refl
-ended (ObjectMismatch n m) rest e = refl
+use Rattle.checks.specs.code.Post.{itemsAt, itemsStructure, ItemsAsks, ObjectsAsks, orderOfNode, patternsOf, KeysCompared, FieldsAsks, fieldsStructure, valuesFrom}
+use Rattle.checks.proofs.Joins.{two, join-one, join-match, join-settled, join-two}
+use Rattle.checks.proofs.PatternObjects.{object-key, patterns-are}
 
 -- arrays and objects by their kinds
 unfoldable shape : Expr → ℕ
@@ -59,37 +42,37 @@ shape (set n es) = 0
 shape (object n fs) = 9
 shape (other n) = 0
 
-unlike : (v p : Expr) → (shape v ≡ shape p → ⊥) → Unknown ≡ structure v p
+unlike : (r : Reading) (v p : Expr) → (shape v ≡ shape p → ⊥) → Unknown ≡ structure r v p
 unfolding shape structure
-unlike (literal n l) p d = refl
-unlike (name n x) p d = refl
-unlike (wildcard n) p d = refl
-unlike (array n es) (literal m l) d = refl
-unlike (array n es) (name m x) d = refl
-unlike (array n es) (wildcard m) d = refl
-unlike (array n es) (array m ps) d = absurd (d refl)
-unlike (array n es) (set m ps) d = refl
-unlike (array n es) (object m gs) d = refl
-unlike (array n es) (other m) d = refl
-unlike (set n es) p d = refl
-unlike (object n fs) (literal m l) d = refl
-unlike (object n fs) (name m x) d = refl
-unlike (object n fs) (wildcard m) d = refl
-unlike (object n fs) (array m ps) d = refl
-unlike (object n fs) (set m ps) d = refl
-unlike (object n fs) (object m gs) d = absurd (d refl)
-unlike (object n fs) (other m) d = refl
-unlike (other n) p d = refl
+unlike r (literal n l) p d = refl
+unlike r (name n x) p d = refl
+unlike r (wildcard n) p d = refl
+unlike r (array n es) (literal m l) d = refl
+unlike r (array n es) (name m x) d = refl
+unlike r (array n es) (wildcard m) d = refl
+unlike r (array n es) (array m ps) d = absurd (d refl)
+unlike r (array n es) (set m ps) d = refl
+unlike r (array n es) (object m gs) d = refl
+unlike r (array n es) (other m) d = refl
+unlike r (set n es) p d = refl
+unlike r (object n fs) (literal m l) d = refl
+unlike r (object n fs) (name m x) d = refl
+unlike r (object n fs) (wildcard m) d = refl
+unlike r (object n fs) (array m ps) d = refl
+unlike r (object n fs) (set m ps) d = refl
+unlike r (object n fs) (object m gs) d = absurd (d refl)
+unlike r (object n fs) (other m) d = refl
+unlike r (other n) p d = refl
 
-leaf-unknown : (v p : Expr) → shape v ≡ 0 → Unknown ≡ structure v p
+leaf-unknown : (r : Reading) (v p : Expr) → shape v ≡ 0 → Unknown ≡ structure r v p
 unfolding shape structure
-leaf-unknown (literal n l) p e = refl
-leaf-unknown (name n x) p e = refl
-leaf-unknown (wildcard n) p e = refl
-leaf-unknown (array n es) p e = absurd (omega arith)
-leaf-unknown (set n es) p e = refl
-leaf-unknown (object n fs) p e = absurd (omega arith)
-leaf-unknown (other n) p e = refl
+leaf-unknown r (literal n l) p e = refl
+leaf-unknown r (name n x) p e = refl
+leaf-unknown r (wildcard n) p e = refl
+leaf-unknown r (array n es) p e = absurd (omega arith)
+leaf-unknown r (set n es) p e = refl
+leaf-unknown r (object n fs) p e = absurd (omega arith)
+leaf-unknown r (other n) p e = refl
 
 module _ (T : Tables) (w : WellFormed T) (n : ℕ) (v : Node T n) where
   shape-leaf : (kindOf (T .nodes) n ≡ 7 → ⊥) → (kindOf (T .nodes) n ≡ 9 → ⊥) → shape (expr T n) ≡ 0
@@ -124,19 +107,19 @@ module _ (T : Tables) (w : WellFormed T) (n : ℕ) (v : Node T n) where
       go false p false q = absurd (some (sym e ∙ shape-leaf (eqb-false _ _ p) (eqb-false _ _ q)))
 
 module _ {T : Tables} {pattern value : ℕ} (a : GoodPair T pattern value) {kind other-kind : ℕ} (is-kind : kind ≡ kindOf (T .nodes) value) (is-other : other-kind ≡ kindOf (T .nodes) pattern) where
-  pub kinds-differ : (other-kind ≡ kind → ⊥) → Unknown ≡ structure (expr T value) (expr T pattern)
-  kinds-differ d = go (eqb (shape (expr T value)) 0) refl
+  pub kinds-differ : (r : Reading) → (other-kind ≡ kind → ⊥) → Unknown ≡ structure r (expr T value) (expr T pattern)
+  kinds-differ r d = go (eqb (shape (expr T value)) 0) refl
     where
-      go : (b : Bool) → eqb (shape (expr T value)) 0 ≡ b → Unknown ≡ structure (expr T value) (expr T pattern)
-      go true p = leaf-unknown (expr T value) (expr T pattern) (eqb-true _ _ p)
+      go : (b : Bool) → eqb (shape (expr T value)) 0 ≡ b → Unknown ≡ structure r (expr T value) (expr T pattern)
+      go true p = leaf-unknown r (expr T value) (expr T pattern) (eqb-true _ _ p)
       go false p =
           let some = eqb-false _ _ p in
-          unlike (expr T value) (expr T pattern) (λ e. d (is-other
+          unlike r (expr T value) (expr T pattern) (λ e. d (is-other
           ∙ (kind-of-shape T (a .table) pattern (a .first) (shape (expr T value)) (sym e) some
           ∙ (sym (kind-of-shape T (a .table) value (a .second) (shape (expr T value)) refl some) ∙ sym is-kind))))
 
-  pub kinds-plain : (kind ≡ 7 → ⊥) → (kind ≡ 9 → ⊥) → Unknown ≡ structure (expr T value) (expr T pattern)
-  kinds-plain not-7 not-9 = leaf-unknown (expr T value) (expr T pattern) (shape-leaf T (a .table) value (a .second) (λ e. not-7 (is-kind ∙ e)) (λ e. not-9 (is-kind ∙ e)))
+  pub kinds-plain : (r : Reading) → (kind ≡ 7 → ⊥) → (kind ≡ 9 → ⊥) → Unknown ≡ structure r (expr T value) (expr T pattern)
+  kinds-plain r not-7 not-9 = leaf-unknown r (expr T value) (expr T pattern) (shape-leaf T (a .table) value (a .second) (λ e. not-7 (is-kind ∙ e)) (λ e. not-9 (is-kind ∙ e)))
 
   module _ (alike : other-kind ≡ kind) where
     pub ask-objects : kind ≡ 9 → ObjectsAsks T pattern value
@@ -149,17 +132,18 @@ module _ {T : Tables} {pattern value : ℕ} (a : GoodPair T pattern value) {kind
       value-array : kindOf (T .nodes) value ≡ 7
       value-array = sym is-kind ∙ k
 
-      arrays : structure (expr T value) (expr T pattern) ≡ cond (eqb actual expected) (structureAll (itemsAt T (firstOf (T .nodes) value) actual) (itemsAt T (firstOf (T .nodes) pattern) expected)) (ArrayMismatch value expected actual)
+      arrays : (r : Reading) → structure r (expr T value) (expr T pattern)
+          ≡ cond (eqb actual expected) (joined r (itemChecks r (itemsAt T (firstOf (T .nodes) value) actual) (itemsAt T (firstOf (T .nodes) pattern) expected))) (ArrayMismatch value expected actual)
       unfolding structure
-      arrays =
+      arrays r =
           let p = expr-array T (a .table) pattern (a .first) pattern-array in
           let v = expr-array T (a .table) value (a .second) value-array in
           let c = count-items (expr T) (T .children) (firstOf (T .nodes) pattern) expected in
           let d = count-items (expr T) (T .children) (firstOf (T .nodes) value) actual in
           rw (p, v, ← is-expected, ← is-actual, c, d)
 
-      pub arrays-mismatch : (actual ≡ expected → ⊥) → ArrayMismatch value expected actual ≡ structure (expr T value) (expr T pattern)
-      arrays-mismatch d = sym (arrays ∙ simp (ne-eqb actual expected d))
+      pub arrays-mismatch : (r : Reading) → (actual ≡ expected → ⊥) → ArrayMismatch value expected actual ≡ structure r (expr T value) (expr T pattern)
+      arrays-mismatch r d = sym (arrays r ∙ simp (ne-eqb actual expected d))
 
       module _ (even : actual ≡ expected) {at place : ℕ} (is-at : at ≡ firstOf (T .nodes) pattern) (is-place : place ≡ firstOf (T .nodes) value) where
         child : (n : ℕ) (v : Node T n) → kindOf (T .nodes) n ≡ 7 → (i : ℕ) → i < countOf (T .nodes) n → Node T (childAt (T .children) (firstOf (T .nodes) n + i)) × (childAt (T .children) (firstOf (T .nodes) n + i) < n)
@@ -186,26 +170,25 @@ module _ {T : Tables} {pattern value : ℕ} (a : GoodPair T pattern value) {kind
               small = (omega arith, omega arith);
             }
 
-        pub arrays-done : {r : LiteralStructureCheck} → r ≡ structureAll (itemsAt T place actual) (itemsAt T at actual) → r ≡ structure (expr T value) (expr T pattern)
-        arrays-done e =
+        pub arrays-done : (r : Reading) {c : LiteralStructureCheck} → c ≡ itemsStructure r T place at actual → c ≡ structure r (expr T value) (expr T pattern)
+        arrays-done r e =
             let q = eq-eqb actual expected even in
-            (rw (is-at, is-place) at e) ∙ sym (arrays ∙ rw (q, even))
+            (rw (is-at, is-place) at e) ∙ sym (arrays r ∙ rw (q, even))
 
 -- the items in turn
-pub record CheckingItems (T : Tables) (value at place left i : ℕ) : Type 0 where
+pub record CheckingItems (r : Reading) (T : Tables) (value at place left : ℕ) (so-far : LiteralStructureCheck) (i : ℕ) : Type 0 where
   pub asks : ItemsAsks T value at place left
   pub inside : i ≤ left
-  pub same : structureAll (itemsAt T (place + i) (left - i)) (itemsAt T (at + i) (left - i))
-      ≡ structureAll (itemsAt T place left) (itemsAt T at left)
+  pub same : joined r (so-far ∷ itemChecks r (itemsAt T (place + i) (left - i)) (itemsAt T (at + i) (left - i))) ≡ itemsStructure r T place at left
 
-pub items-start : {T : Tables} {value at place left : ℕ} → ItemsAsks T value at place left → CheckingItems T value at place left 0
-items-start {T} {value} {at} {place} {left} a =
+pub items-start : (r : Reading) {T : Tables} {value at place left : ℕ} → ItemsAsks T value at place left → CheckingItems r T value at place left Match 0
+items-start r {T} {value} {at} {place} {left} a =
     let x : place + 0 ≡ place = omega arith in
     let y : at + 0 ≡ at = omega arith in
     let z : left - 0 ≡ left = omega arith in
-    record { asks = a; inside = omega arith; same = rw (x, y, z) }
+    record { asks = a; inside = omega arith; same = rw (x, y, z) (join-match r _) }
 
-module _ {T : Tables} {value at place left i : ℕ} (s : CheckingItems T value at place left i) where
+module _ {r : Reading} {T : Tables} {value at place left : ℕ} {so-far : LiteralStructureCheck} {i : ℕ} (s : CheckingItems r T value at place left so-far i) where
   pub items-pattern-fits : i < left → Fits w64 (at + i)
   items-pattern-fits lt = let m = s .asks .small .0 in record { fits = omega arith }
 
@@ -226,9 +209,8 @@ module _ {T : Tables} {value at place left i : ℕ} (s : CheckingItems T value a
     pub items-below : item < value
     items-below = rw is-item (s .asks .values i lt .1)
 
-    module _ {check : LiteralStructureCheck} (is-check : check ≡ structure (expr T item) (expr T pattern)) where
-      step : andThen check (structureAll (itemsAt T (place + (i + 1)) (left - (i + 1))) (itemsAt T (at + (i + 1)) (left - (i + 1))))
-          ≡ structureAll (itemsAt T place left) (itemsAt T at left)
+    module _ {check : LiteralStructureCheck} (is-check : check ≡ structure r (expr T item) (expr T pattern)) {later : LiteralStructureCheck} (is-later : later ≡ two r so-far check) {settled : Bool} (is-settled : settled ≡ isSettled r later) where
+      step : joined r (later ∷ itemChecks r (itemsAt T (place + (i + 1)) (left - (i + 1))) (itemsAt T (at + (i + 1)) (left - (i + 1)))) ≡ itemsStructure r T place at left
       unfolding structure
       step =
           let x : place + (i + 1) ≡ place + i + 1 = omega arith in
@@ -236,19 +218,19 @@ module _ {T : Tables} {value at place left i : ℕ} (s : CheckingItems T value a
           let z : left - (i + 1) ≡ left - i - 1 = omega arith in
           let v = items-step (expr T) (T .children) (place + i) (left - i) (omega arith) in
           let p = items-step (expr T) (T .children) (at + i) (left - i) (omega arith) in
-          rw (x, y, z, is-check, is-pattern, is-item) (sym (rw (v, p)) ∙ s .same)
+          rw (x, y, z, is-later) (sym (join-two r so-far check _) ∙ rw (is-check, is-pattern, is-item) (sym (rw (v, p)) ∙ s .same))
 
-      pub items-on : check ≡ Match → CheckingItems T value at place left (i + 1)
-      items-on e = record { asks = s .asks; inside = omega arith; same = rw e at step }
+      pub items-on : settled ≡ false → CheckingItems r T value at place left later (i + 1)
+      items-on e = record { asks = s .asks; inside = omega arith; same = step }
 
-      pub items-stop : Ends check → check ≡ structureAll (itemsAt T place left) (itemsAt T at left)
-      items-stop e = ended check _ e ∙ step
+      pub items-stop : settled ≡ true → later ≡ itemsStructure r T place at left
+      items-stop e = sym (join-settled r later _ (sym is-settled ∙ e)) ∙ step
 
-  pub items-done : left ≤ i → Match ≡ structureAll (itemsAt T place left) (itemsAt T at left)
+  pub items-done : left ≤ i → so-far ≡ itemsStructure r T place at left
   unfolding structure
   items-done le =
       let v = items-end (expr T) (T .children) (place + i) (left - i) (omega arith) in
-      sym (rw v) ∙ s .same
+      sym (join-one r so-far) ∙ (sym (rw v) ∙ s .same)
 
 -- two objects
 
@@ -282,21 +264,21 @@ module _ {T : Tables} {pattern value : ℕ} (a : ObjectsAsks T pattern value) {o
       let x = length-append (map heldIn (orderOfNode T pattern .literals)) (orderOfNode T pattern .computed) in
       omega arith
 
-  last-unknown : m < total → isEmpty (patternsOf T pattern .computed) ≡ false
+  pub last-unknown : m < total → isEmpty (patternsOf T pattern .computed) ≡ false
   last-unknown lt = let c = computed-length in empty-some (patternsOf T pattern .computed) (λ e. omega arith)
 
-  last-match : total ≤ m → isEmpty (patternsOf T pattern .computed) ≡ true
+  pub last-match : total ≤ m → isEmpty (patternsOf T pattern .computed) ≡ true
   last-match le = let c = computed-length in empty-none (patternsOf T pattern .computed) (omega arith)
 
-module _ {T : Tables} {pattern value : ℕ} (a : ObjectsAsks T pattern value) {order : List ℕ} {literals total : ℕ} {same : Bool} (k : KeysCompared T pattern value order literals total same) where
-  objects : structure (expr T value) (expr T pattern) ≡ objectStructure value pattern (fieldsOf T value) (patternsOf T pattern) (structureFields (fieldsOf T value) (patternsOf T pattern .literals))
+module _ (r : Reading) {T : Tables} {pattern value : ℕ} (a : ObjectsAsks T pattern value) {order : List ℕ} {literals total : ℕ} {same : Bool} (k : KeysCompared T pattern value order literals total same) where
+  objects : structure r (expr T value) (expr T pattern) ≡ objectStructure value pattern (fieldsOf T value) (patternsOf T pattern) (joined r (fieldChecks r (patternsOf T pattern .literals) (valueFields r (fieldsOf T value))))
   unfolding structure
   objects =
       let p = expr-object T (a .pair .table) pattern (a .pair .first) (a .pattern-object) in
       let v = expr-object T (a .pair .table) value (a .pair .second) (a .value-object) in
       rw (p, v)
 
-  pub objects-empty : total ≡ 0 → Match ≡ structure (expr T value) (expr T pattern)
+  pub objects-empty : total ≡ 0 → Match ≡ structure r (expr T value) (expr T pattern)
   objects-empty z =
       let c = computed-length a (k .ordered) in
       let l = literals-length a (k .ordered) in
@@ -304,7 +286,7 @@ module _ {T : Tables} {pattern value : ℕ} (a : ObjectsAsks T pattern value) {o
       let y = empty-none (patternsOf T pattern .computed) (omega arith) in
       sym (objects ∙ rw (x, y))
 
-  pub objects-unknown : (total ≡ 0 → ⊥) → literals ≡ 0 → Unknown ≡ structure (expr T value) (expr T pattern)
+  pub objects-unknown : (total ≡ 0 → ⊥) → literals ≡ 0 → Unknown ≡ structure r (expr T value) (expr T pattern)
   objects-unknown d z =
       let c = computed-length a (k .ordered) in
       let l = literals-length a (k .ordered) in
@@ -312,11 +294,8 @@ module _ {T : Tables} {pattern value : ℕ} (a : ObjectsAsks T pattern value) {o
       let y = empty-some (patternsOf T pattern .computed) (λ e. d (omega arith)) in
       sym (objects ∙ rw (x, y))
 
-  pub ask-fields : FieldsAsks T pattern value order literals total
-  ask-fields = record { objects = a; ordered = k .ordered; few = k .few }
-
   module _ (some : literals ≡ 0 → ⊥) where
-    keys-held : structure (expr T value) (expr T pattern) ≡ cond same (fieldsStructure T pattern value) (ObjectMismatch value pattern)
+    keys-held : structure r (expr T value) (expr T pattern) ≡ cond same (fieldsStructure r T pattern value) (ObjectMismatch value pattern)
     keys-held =
         let l = literals-length a (k .ordered) in
         let x = empty-some (patternsOf T pattern .literals) (λ e. some (omega arith)) in
@@ -325,124 +304,36 @@ module _ {T : Tables} {pattern value : ℕ} (a : ObjectsAsks T pattern value) {o
         ap (λ (ts : List (List ℕ)). sameTexts (sortTexts ts) (sortTexts (keyTexts (fieldsOf T value)))) slots ∙ sym (k .same-texts) in
         objects ∙ rw (x, e)
 
-    pub objects-fields : same ≡ true → {r : LiteralStructureCheck} → r ≡ fieldsStructure T pattern value → r ≡ structure (expr T value) (expr T pattern)
-    objects-fields t e = e ∙ sym (keys-held ∙ ap (λ (b : Bool). cond b (fieldsStructure T pattern value) (ObjectMismatch value pattern)) t)
+    pub objects-fields : not same ≡ false → {c : LiteralStructureCheck} → c ≡ fieldsStructure r T pattern value → c ≡ structure r (expr T value) (expr T pattern)
+    objects-fields t e = e ∙ sym (keys-held ∙ ap (λ (b : Bool). cond b (fieldsStructure r T pattern value) (ObjectMismatch value pattern)) (not-false same t))
 
-    pub objects-differ : same ≡ false → ObjectMismatch value pattern ≡ structure (expr T value) (expr T pattern)
-    objects-differ f = sym (keys-held ∙ ap (λ (b : Bool). cond b (fieldsStructure T pattern value) (ObjectMismatch value pattern)) f)
+    pub objects-differ : not same ≡ true → ObjectMismatch value pattern ≡ structure r (expr T value) (expr T pattern)
+    objects-differ f = sym (keys-held ∙ ap (λ (b : Bool). cond b (fieldsStructure r T pattern value) (ObjectMismatch value pattern)) (not-true same f))
 
--- the value's fields in turn
-pub record CheckingFields (T : Tables) (pattern value : ℕ) (order : List ℕ) (literals total count i : ℕ) : Type 0 where
-  pub asks : FieldsAsks T pattern value order literals total
-  pub sized : count ≡ countOf (T .nodes) value
-  pub inside : i ≤ count
-  pub few : count ≤ 256
-  pub same : structureFields (fields (expr T) (T .children) (firstOf (T .nodes) value + i * 2) (count - i)) (patternsOf T pattern .literals) ≡ structureFields (fieldsOf T value) (patternsOf T pattern .literals)
+pub ask-fields : {T : Tables} {pattern value : ℕ} → ObjectsAsks T pattern value → {order : List ℕ} {literals total : ℕ} {same : Bool} → KeysCompared T pattern value order literals total same → FieldsAsks T pattern value order literals total
+ask-fields a k = record { objects = a; ordered = k .ordered; few = k .few }
 
-pub fields-start : {T : Tables} {pattern value : ℕ} {order : List ℕ} {literals total count : ℕ} → FieldsAsks T pattern value order literals total → count ≡ countOf (T .nodes) value
-    → CheckingFields T pattern value order literals total count 0
-fields-start {T} {pattern} {value} {order} {literals} {total} {count} a e =
-    let x : firstOf (T .nodes) value + 0 * 2 ≡ firstOf (T .nodes) value = omega arith in
-    let z : count - 0 ≡ countOf (T .nodes) value = omega arith in
-    let f = object-few T (a .objects .pair .table) value (a .objects .pair .second) (a .objects .value-object) in
-    record { asks = a; sized = e; inside = omega arith; few = omega arith; same = rw (x, z) }
-
-module _ {T : Tables} {pattern value : ℕ} {order : List ℕ} {literals total count i : ℕ} (s : CheckingFields T pattern value order literals total count i) where
-  pub fields-field : i < count → FieldAsks T pattern value order literals i
-  fields-field lt = let e = s .sized in record { total = total; asks = s .asks; inside = omega arith }
-
-  module _ (lt : i < count) {check : LiteralStructureCheck} (is-check : check ≡ fieldStructure T pattern value i) where
-    field-step : andThen check (structureFields (fields (expr T) (T .children) (firstOf (T .nodes) value + (i + 1) * 2) (count - (i + 1))) (patternsOf T pattern .literals))
-        ≡ structureFields (fieldsOf T value) (patternsOf T pattern .literals)
-    unfolding structure
-    field-step =
-        let c = s .sized in
-        let x : firstOf (T .nodes) value + (i + 1) * 2 ≡ firstOf (T .nodes) value + i * 2 + 2 = omega arith in
-        let z : count - (i + 1) ≡ count - i - 1 = omega arith in
-        let v = fields-step (expr T) (T .children) (firstOf (T .nodes) value + i * 2) (count - i) (omega arith) in
-        let p = s .asks .objects .pair in
-        let l = key-literal T (p .table) (keyNode T (firstOf (T .nodes) value) i) (object-key T (p .table) value (p .second) (s .asks .objects .value-object) i (omega arith)) in
-        rw (x, z, is-check) (sym (rw (v, l)) ∙ s .same)
-
-    pub fields-on : check ≡ Match → CheckingFields T pattern value order literals total count (i + 1)
-    fields-on e = record { asks = s .asks; sized = s .sized; inside = omega arith; few = s .few; same = rw e at field-step }
-
-    pub fields-stop : Ends check → check ≡ fieldsStructure T pattern value
-    fields-stop e = stops check (structureFields (fields (expr T) (T .children) (firstOf (T .nodes) value + (i + 1) * 2) (count - (i + 1))) (patternsOf T pattern .literals)) _ e ∙ ap (λ (c : LiteralStructureCheck). andThen c (computedKeys (patternsOf T pattern))) field-step
-      where
-        stops : (c rest last : LiteralStructureCheck) → Ends c → c ≡ andThen (andThen c rest) last
-        stops Match rest last e = absurd (not-match e)
-        stops Unknown rest last e = refl
-        stops (ArrayMismatch n a b) rest last e = refl
-        stops (ObjectMismatch n m) rest last e = refl
-
-  fields-all : count ≤ i → fieldsStructure T pattern value ≡ computedKeys (patternsOf T pattern)
+-- the value's fields
+module _ (r : Reading) {T : Tables} {pattern value : ℕ} (a : ObjectsAsks T pattern value) where
+  pub values-step : (i : ℕ) → i < countOf (T .nodes) value
+      → valuesFrom r T value i (countOf (T .nodes) value - i) ≡ record { key = literalAt T (keyNode T (firstOf (T .nodes) value) i); against = structure r (expr T (valueNode T (firstOf (T .nodes) value) i)) } ∷ valuesFrom r T value (i + 1) (countOf (T .nodes) value - (i + 1))
   unfolding structure
-  fields-all le =
-      let v = fields-end (expr T) (T .children) (firstOf (T .nodes) value + i * 2) (count - i) (omega arith) in
-      let e : Match ≡ structureFields (fieldsOf T value) (patternsOf T pattern .literals) = sym (rw v) ∙ s .same in
-      sym (ap (λ (c : LiteralStructureCheck). andThen c (computedKeys (patternsOf T pattern))) e)
+  values-step i lt =
+      let x : firstOf (T .nodes) value + (i + 1) * 2 ≡ firstOf (T .nodes) value + i * 2 + 2 = omega arith in
+      let z : countOf (T .nodes) value - (i + 1) ≡ countOf (T .nodes) value - i - 1 = omega arith in
+      let v = fields-step (expr T) (T .children) (firstOf (T .nodes) value + i * 2) (countOf (T .nodes) value - i) (omega arith) in
+      let l = key-literal T (a .pair .table) (keyNode T (firstOf (T .nodes) value) i) (object-key T (a .pair .table) value (a .pair .second) (a .value-object) i lt) in
+      rw (x, z, v, l)
 
-  pub fields-unknown : count ≤ i → literals < total → Unknown ≡ fieldsStructure T pattern value
-  fields-unknown le lt = let e = last-unknown (s .asks .objects) (s .asks .ordered) lt in sym (fields-all le ∙ rw e)
+  pub values-none : (i : ℕ) → countOf (T .nodes) value ≤ i → valuesFrom r T value i (countOf (T .nodes) value - i) ≡ []
+  unfolding structure
+  values-none i le = let v = fields-end (expr T) (T .children) (firstOf (T .nodes) value + i * 2) (countOf (T .nodes) value - i) (omega arith) in rw v
 
-  pub fields-match : count ≤ i → total ≤ literals → Match ≡ fieldsStructure T pattern value
-  fields-match le more = let e = last-match (s .asks .objects) (s .asks .ordered) more in sym (fields-all le ∙ rw e)
-
--- one field
-module _ {T : Tables} {pattern value : ℕ} {order : List ℕ} {literals i : ℕ} (a : FieldAsks T pattern value order literals i) {first : ℕ} (is-first : first ≡ firstOf (T .nodes) value) where
-  place-few : first + i * 2 + 1 < 512
-  place-few =
-      let p = a .asks .objects .pair in
-      let f = object-few T (p .table) value (p .second) (a .asks .objects .value-object) in
-      let l = a .inside in
-      omega arith
-
-  pub field-double : Fits w64 (i * 2)
-  field-double = let p = place-few in record { fits = omega arith }
-
-  pub field-place : Fits w64 (first + i * 2)
-  field-place = let p = place-few in record { fits = omega arith }
-
-  pub field-next : Fits w64 (first + i * 2 + 1)
-  field-next = let p = place-few in record { fits = omega arith }
-
-  module _ {key : ℕ} (is-key : key ≡ childAt (T .children) (first + i * 2)) where
-    own-key : key ≡ keyNode T (firstOf (T .nodes) value) i
-    own-key = rw is-first at is-key
-
-    pub ask-partner : PartnerAsks T pattern order literals key
-    ask-partner =
-        let p = a .asks .objects .pair in
-        record { value = value; total = a .total; asks = a .asks; node = rw own-key (object-key T (p .table) value (p .second) (a .asks .objects .value-object) i (a .inside)) }
-
-    module _ {other-node : ℕ} (is-partner : PartnerIs T (held (literalAt T key) (patternsOf T pattern .literals)) other-node) where
-      held-there : {o : Option Expr} → held (literalAt T key) (patternsOf T pattern .literals) ≡ o
-          → partner o (structure (expr T (valueNode T (firstOf (T .nodes) value) i))) ≡ fieldStructure T pattern value i
-      held-there e = sym (ap (λ (o : Option Expr). partner o (structure (expr T (valueNode T (firstOf (T .nodes) value) i)))) (rw own-key at e))
-
-      pub field-alone : other-node ≡ 0 → Match ≡ fieldStructure T pattern value i
-      field-alone z = held-there (is-partner .absent z)
-
-      module _ (some : other-node ≡ 0 → ⊥) {child : ℕ} (is-child : child ≡ childAt (T .children) (first + i * 2 + 1)) where
-        own-child : child ≡ valueNode T (firstOf (T .nodes) value) i
-        own-child = rw is-first at is-child
-
-        here : Node T (valueNode T (firstOf (T .nodes) value) i) × (valueNode T (firstOf (T .nodes) value) i < value)
-        here = let p = a .asks .objects .pair in object-value T (p .table) value (p .second) (a .asks .objects .value-object) i (a .inside)
-
-        pub field-pair : GoodPair T other-node child
-        field-pair = record {
-          table = a .asks .objects .pair .table;
-          first = is-partner .there some .0;
-          second = rw own-child (here .0);
-        }
-
-        pub field-below : child < value
-        field-below = rw own-child (here .1)
-
-        pub field-done : {r : LiteralStructureCheck} → r ≡ structure (expr T child) (expr T other-node) → r ≡ fieldStructure T pattern value i
-        field-done e = e ∙ (ap (λ (n : ℕ). structure (expr T n) (expr T other-node)) own-child ∙ held-there (is-partner .there some .1))
+  pub values-all : valuesFrom r T value 0 (countOf (T .nodes) value - 0) ≡ valueFields r (fieldsOf T value)
+  values-all =
+      let x : firstOf (T .nodes) value + 0 * 2 ≡ firstOf (T .nodes) value = omega arith in
+      let z : countOf (T .nodes) value - 0 ≡ countOf (T .nodes) value = omega arith in
+      rw (x, z)
 
 -- the measures, by the value's node: of a pair, of two objects, of items or fields, of one field
 pub object-falls : {T : Tables} {pattern value t : ℕ} → GoodPair T pattern value → 4 * value ≡ t → 4 * value - 1 < t

@@ -1,7 +1,11 @@
+pub mod Joins
+pub mod Pairing
 pub mod TextOrder
 pub mod KeyTexts
 pub mod TextLoops
 pub mod PatternObjects
 pub mod Checks
+pub mod ObjectFields
 pub mod Refused
 pub mod ShortChecks
+pub mod laws

@@ -13,7 +13,7 @@ use mir.Syntax.{w64}
 use mir.Val.{Fits}
 use Rattle.literal.specs.Literal.{Literal}
 use Rattle.literal.specs.declared.LiteralRef.{LiteralRef}
-use Rattle.literal.specs.Order.{less, same, more, keyOrder}
+use Rattle.literal.specs.Order.{Order, less, same, more, keyOrder}
 use Rattle.literal.proofs.Orders.{key-order}
 use Rattle.table.specs.Names.{isSame}
 use Rattle.table.specs.declared.Key.{Key}
@@ -29,13 +29,13 @@ use Rattle.planner.specs.Layout.{Slot, FieldOrder, noFields, addField}
 use Rattle.planner.specs.code.Passes.{keyNode, valueNode, fieldKey, orderFrom, orderOf}
 use Rattle.planner.specs.code.Post.{OrderAsks, OrderedBy}
 use Rattle.planner.specs.code.Ordering.{KeyBetween, FindAsks, FoundBy}
-use Rattle.planner.proofs.fields.FieldOrder.{mapSlot, mapOrder, add-map, blank, Ordered, place-held, to-slot, same-before, literals-first, ordered-first}
+use Rattle.planner.proofs.fields.FieldOrder.{mapSlot, mapOrder, add-map, blank, Ordered, place-held, to-slot, sorted-less, same-before, literals-first, ordered-first}
 use Rattle.planner.proofs.fields.FieldLoops.{ref-above, never-computed}
 use Rattle.planner.proofs.fields.Objects.{key-literal}
-use Rattle.checks.specs.Structure.{slotText, held}
-use Rattle.planner.specs.Held.{valueOrder, heldUnder}
+use Rattle.checks.specs.Structure.{slotText, isUnder}
+use Rattle.planner.specs.Held.{valueOrder}
 use Rattle.checks.specs.code.Texts.{BothAsks, TextsCompared}
-use Rattle.checks.specs.code.Post.{ObjectsAsks, orderOfNode, patternsOf, KeysCompared, PartnerAsks, PartnerIs}
+use Rattle.checks.specs.code.Post.{ObjectsAsks, orderOfNode, patternsOf, KeysCompared, FieldsAsks, PartnerAsks, noSlot, PlaceIs, SlotAsks, SlotIs}
 use Rattle.checks.proofs.KeyTexts.{ordered-texts, field-below, written-texts}
 
 -- an object node's fields
@@ -115,50 +115,86 @@ module _ {T : Tables} {pattern value : ℕ} (a : ObjectsAsks T pattern value) {f
           same-texts = rw (← is-first, ← is-count, ← is-from, ← is-size, ← o, ← wt) (t .same-texts);
         }
 
--- what is held under a key among mapped slots
-module _ {B : Type 0} (f : ℕ → B) (l : Literal) where
-  held-found : (ss : List (Slot ℕ)) (p : ℕ) → p < length ss → ((q : ℕ) → q < p → keyOrder l (getD ss q blank .at) ≡ more) → keyOrder l (getD ss p blank .at) ≡ same
-      → heldUnder l (map (mapSlot f) ss) ≡ Option.some (f (getD ss p blank .held))
-  unfolding heldUnder
-  held-found [] p lt front here = absurd (omega arith)
-  held-found (s ∷ ss) zero lt front here = rw here
-  held-found (s ∷ ss) (suc p) lt front here =
-      let e = front 0 (omega arith) in
-      rw e (held-found ss p (omega arith) (λ q h. front (suc q) (omega arith)) here)
+-- a mapped slot
+slot-mapped : (f : ℕ → Expr) (ss : List (Slot ℕ)) (q : ℕ) → q < length ss → getD (map (mapSlot f) ss) q noSlot ≡ mapSlot f (getD ss q blank)
+slot-mapped f [] q lt = absurd (omega arith)
+slot-mapped f (s ∷ ss) zero lt = refl
+slot-mapped f (s ∷ ss) (suc q) lt = slot-mapped f ss q (omega arith)
 
-  held-absent : (ss : List (Slot ℕ)) → ((q : ℕ) → q < length ss → isSame (keyOrder l (getD ss q blank .at)) ≡ false) → heldUnder l (map (mapSlot f) ss) ≡ Option.none
-  unfolding heldUnder
-  held-absent [] none = refl
-  held-absent (s ∷ ss) none =
-      let e = none 0 (omega arith) in
-      rw e (held-absent ss (λ q h. none (suc q) (omega arith)))
-
--- the partner of a key
-module _ {T : Tables} {pattern : ℕ} {order : List ℕ} {m key : ℕ} (a : PartnerAsks T pattern order m key) where
+-- a pattern's literal fields, by their places in its order
+module _ {T : Tables} {pattern value : ℕ} {order : List ℕ} {m total : ℕ} (a : FieldsAsks T pattern value order m total) where
   w : WellFormed T
-  w = a .asks .objects .pair .table
+  w = a .objects .pair .table
 
   first₀ : ℕ
   first₀ = firstOf (T .nodes) pattern
 
+  in-order : Ordered (fieldKey T first₀) (orderOfNode T pattern) order m total
+  unfolding first₀
+  in-order = ordered-first (fieldKey T first₀) key-order (countOf (T .nodes) pattern) order (a .ordered .counted) (a .ordered .sized) (a .ordered .listed)
+
+  pub slots-few : m ≤ 256
+  slots-few = let l = literals-first in-order in let f = a .few in omega arith
+
   slots : patternsOf T pattern .literals ≡ map (mapSlot (patternAt T first₀)) (orderOfNode T pattern .literals)
   unfolding first₀
-  slots = ap (λ (o : FieldOrder Expr). o .literals) (patterns-are T w pattern (a .asks .objects .pair .first) (a .asks .objects .pattern-object))
+  slots = ap (λ (o : FieldOrder Expr). o .literals) (patterns-are T w pattern (a .objects .pair .first) (a .objects .pattern-object))
 
-  in-order : Ordered (fieldKey T first₀) (orderOfNode T pattern) order m (a .total)
-  unfolding first₀
-  in-order = ordered-first (fieldKey T first₀) key-order (countOf (T .nodes) pattern) order (a .asks .ordered .counted) (a .asks .ordered .sized) (a .asks .ordered .listed)
+  pub slots-counted : length (patternsOf T pattern .literals) ≡ m
+  slots-counted = ap length slots ∙ (length-map (orderOfNode T pattern .literals) _ ∙ sym (in-order .counted))
 
-  few-literals : m ≤ 256
-  few-literals = let l = literals-first in-order in let f = a .asks .few in omega arith
+  slot-is : (q : ℕ) → q < m → getD (patternsOf T pattern .literals) q noSlot ≡ mapSlot (patternAt T first₀) (getD (orderOfNode T pattern .literals) q blank)
+  slot-is q lt =
+      let c = in-order .counted in
+      ap (λ (ss : List (Slot Expr)). getD ss q noSlot) slots ∙ slot-mapped (patternAt T first₀) (orderOfNode T pattern .literals) q (omega arith)
+
+  -- a literal with the keys of the slots
+  module _ (l : Literal) where
+    abbrev way : ℕ → Order
+    way q = keyOrder l (getD (orderOfNode T pattern .literals) q blank .at)
+
+    under : (q : ℕ) → q < m → isUnder (getD (patternsOf T pattern .literals) q noSlot .at) (Option.some l) ≡ isSame (way q)
+    under q lt = ap (λ (s : Slot Expr). isSame (keyOrder l (s .at))) (slot-is q lt)
+
+    place-found : (place : ℕ) → place < m → way place ≡ same → PlaceIs (patternsOf T pattern .literals) (Option.some l) place
+    place-found place lt here = record {
+      here = λ h. under place lt ∙ ap isSame here;
+      others = λ q h d. let n = slots-counted in under q (omega arith) ∙ other-way q (omega arith) d (leb q place) refl;
+    }
+      where
+        counted : m ≡ length (orderOfNode T pattern .literals)
+        counted = in-order .counted
+
+        other-way : (q : ℕ) → q < m → (q ≡ place → ⊥) → (b : Bool) → leb q place ≡ b → isSame (way q) ≡ false
+        other-way q lt′ d true p =
+            let c = counted in
+            let le : q ≤ place = leb-true q place p in
+            ap isSame (same-before key-order blank l (orderOfNode T pattern .literals) (in-order .sorted) place (omega arith) here q (omega (arith, d, le)))
+        other-way q lt′ d false p =
+            let c = counted in
+            let gt : place < q = leb-false q place p in
+            let own = key-order .equal l (getD (orderOfNode T pattern .literals) place blank .at) here in
+            ap isSame (ap (λ (k : Literal). keyOrder k (getD (orderOfNode T pattern .literals) q blank .at)) own ∙ sorted-less blank (orderOfNode T pattern .literals) (in-order .sorted) place q gt (omega arith))
+
+    place-none : ((q : ℕ) → q < m → isSame (way q) ≡ false) → PlaceIs (patternsOf T pattern .literals) (Option.some l) m
+    place-none none = record {
+      here = λ h. let n = slots-counted in absurd (omega arith);
+      others = λ q h d. let n = slots-counted in under q (omega arith) ∙ none q (omega arith);
+    }
+
+-- the place of a value's key
+module _ {T : Tables} {pattern : ℕ} {order : List ℕ} {m key : ℕ} (a : PartnerAsks T pattern order m key) where
+  table : WellFormed T
+  table = a .asks .objects .pair .table
 
   module _ {ref : Key} (is-ref : ref ≡ refOf (T .nodes) key) where
-    pub partner-computed : ref ≡ Computed → PartnerIs T (held (literalAt T key) (patternsOf T pattern .literals)) 0
+    pub place-computed : ref ≡ Computed → PlaceIs (patternsOf T pattern .literals) (literalAt T key) m
     unfolding literalNode
-    partner-computed e =
+    place-computed e =
         let r = sym is-ref ∙ e in
         let n : literalAt T key ≡ Option.none = rw r in
-        record { absent = λ z. ap (λ (o : Option Literal). held o (patternsOf T pattern .literals)) n; there = λ d. absurd (d refl) }
+        let c = slots-counted (a .asks) in
+        record { here = λ h. absurd (omega arith); others = λ q h d. ap (isUnder (getD (patternsOf T pattern .literals) q noSlot .at)) n }
 
     module _ {sought : LiteralRef} (is-sought : ref ≡ Key.Literal sought) where
       refers : referred T sought ≡ literalAt T key
@@ -168,84 +204,74 @@ module _ {T : Tables} {pattern : ℕ} {order : List ℕ} {m key : ℕ} (a : Part
       own = go (leb (kindOf (T .nodes) key) 5) refl
         where
           go : (b : Bool) → leb (kindOf (T .nodes) key) 5 ≡ b → (l : Literal) × (literalAt T key ≡ Option.some l)
-          go true h = w .literals key (a .node) (leb-true _ _ h)
+          go true h = table .literals key (a .node) (leb-true _ _ h)
           go false h = absurd (never-computed (sym is-sought ∙ (is-ref ∙ ref-above (T .nodes) key (leb-false _ _ h))))
 
     module _ {sought : LiteralRef} (is-sought : ref ≡ Key.Literal sought) {first : ℕ} (is-first : first ≡ firstOf (T .nodes) pattern) where
-      pub partner-find : FindAsks T first order m sought
-      partner-find =
+      pub place-find : FindAsks T first order m sought
+      place-find =
           let l = own is-sought in
-          let f = object-few T w pattern (a .asks .objects .pair .first) (a .asks .objects .pattern-object) in
+          let f = object-few T table pattern (a .asks .objects .pair .first) (a .asks .objects .pattern-object) in
           record {
             fields = countOf (T .nodes) pattern;
             total = a .total;
             so-far = rw is-first (a .asks .ordered);
-            few = few-literals;
+            few = slots-few (a .asks);
             small = omega arith;
             own = l .0;
             literal = refers is-sought ∙ l .1;
           }
 
       module _ {place : ℕ} {equal : Bool} (found : FoundBy (fieldKey T first) (referred T sought) order m place equal) where
-        pub partner-absent : equal ≡ false → PartnerIs T (held (literalAt T key) (patternsOf T pattern .literals)) 0
+        pub place-absent : equal ≡ false → PlaceIs (patternsOf T pattern .literals) (literalAt T key) m
         unfolding first₀
-        partner-absent e =
+        place-absent e =
             let l = own is-sought in
             let b = rw (refers is-sought, is-first) at (found .new e) in
-            let k = in-order .counted in
-            let none : heldUnder (l .0) (patternsOf T pattern .literals) ≡ Option.none =
-            ap (heldUnder (l .0)) slots ∙ held-absent (patternAt T first₀) (l .0) (orderOfNode T pattern .literals) (λ q lt. go (l .0) (l .1) b q (omega arith) (leb place q) refl) in
-            record {
-              absent = λ z. ap (λ (o : Option Literal). held o (patternsOf T pattern .literals)) (l .1) ∙ none;
-              there = λ d. absurd (d refl);
-            }
+            rw (l .1) (place-none (a .asks) (l .0) (λ q lt. go (l .0) (l .1) b q lt (leb place q) refl))
           where
-            go : (l : Literal) → literalAt T key ≡ Option.some l → KeyBetween (fieldKey T first₀) (literalAt T key) order m place place → (q : ℕ) → q < m → (b : Bool) → leb place q ≡ b
+            go : (l : Literal) → literalAt T key ≡ Option.some l → KeyBetween (fieldKey T (firstOf (T .nodes) pattern)) (literalAt T key) order m place place → (q : ℕ) → q < m → (b : Bool) → leb place q ≡ b
                 → isSame (keyOrder l (getD (orderOfNode T pattern .literals) q blank .at)) ≡ false
-            go l e b q lt true h = ap isSame (to-slot in-order e less q lt (b .behind q (leb-true _ _ h) lt))
-            go l e b q lt false h = ap isSame (to-slot in-order e more q lt (b .before q (leb-false _ _ h)))
+            go l e b q lt true h = ap isSame (to-slot (in-order (a .asks)) e less q lt (b .behind q (leb-true _ _ h) lt))
+            go l e b q lt false h = ap isSame (to-slot (in-order (a .asks)) e more q lt (b .before q (leb-false _ _ h)))
 
-        module _ (e : equal ≡ true) where
-          module _ {j : ℕ} (is-field : j ≡ getD order place 0) where
-            below : j < countOf (T .nodes) pattern
-            below =
-                let p = found .old e in
-                let l = literals-first in-order in
-                let by : OrderedBy T (firstOf (T .nodes) pattern) (countOf (T .nodes) pattern) order (a .total) = record { total = a .asks .ordered .sized; fields = a .asks .ordered .listed; few = a .asks .few } in
-                rw is-field (field-below by place (omega (arith, p .0)))
+        pub place-there : equal ≡ true → PlaceIs (patternsOf T pattern .literals) (literalAt T key) place
+        unfolding first₀
+        place-there e =
+            let l = own is-sought in
+            let p = rw (refers is-sought, is-first) at (found .old e) in
+            rw (l .1) (place-found (a .asks) (l .0) place (p .0) (to-slot (in-order (a .asks)) (l .1) same place (p .0) (p .1)))
 
-            place-few : first + j * 2 + 1 < 512
-            place-few =
-                let b = below in
-                let f = object-few T w pattern (a .asks .objects .pair .first) (a .asks .objects .pattern-object) in
-                omega arith
+-- the node at a place
+module _ {T : Tables} {pattern : ℕ} {order : List ℕ} {m place : ℕ} (a : SlotAsks T pattern order m place) {first : ℕ} (is-first : first ≡ firstOf (T .nodes) pattern) {j : ℕ} (is-field : j ≡ getD order place 0) where
+  slot-below : j < countOf (T .nodes) pattern
+  slot-below =
+      let l = literals-first (in-order (a .asks)) in
+      let i = a .inside in
+      let by : OrderedBy T (firstOf (T .nodes) pattern) (countOf (T .nodes) pattern) order (a .total) = record { total = a .asks .ordered .sized; fields = a .asks .ordered .listed; few = a .asks .few } in
+      rw is-field (field-below by place (omega arith))
 
-            pub partner-double : Fits w64 (j * 2)
-            partner-double = let p = place-few in record { fits = omega arith }
+  slot-few : first + j * 2 + 1 < 512
+  slot-few =
+      let b = slot-below in
+      let f = object-few T (a .asks .objects .pair .table) pattern (a .asks .objects .pair .first) (a .asks .objects .pattern-object) in
+      omega arith
 
-            pub partner-key : Fits w64 (first + j * 2)
-            partner-key = let p = place-few in record { fits = omega arith }
+  pub slot-double : Fits w64 (j * 2)
+  slot-double = let p = slot-few in record { fits = omega arith }
 
-            pub partner-value : Fits w64 (first + j * 2 + 1)
-            partner-value = let p = place-few in record { fits = omega arith }
+  pub slot-key : Fits w64 (first + j * 2)
+  slot-key = let p = slot-few in record { fits = omega arith }
 
-            pub partner-found : {r : ℕ} → r ≡ childAt (T .children) (first + j * 2 + 1) → PartnerIs T (held (literalAt T key) (patternsOf T pattern .literals)) r
-            unfolding first₀
-            partner-found {r} is-r =
-                let l = own is-sought in
-                let p = rw (refers is-sought, is-first) at (found .old e) in
-                let k = in-order .counted in
-                let lt : place < length (orderOfNode T pattern .literals) = omega (arith, p .0) in
-                let here : keyOrder (l .0) (getD (orderOfNode T pattern .literals) place blank .at) ≡ same = to-slot in-order (l .1) same place (p .0) (p .1) in
-                let there : r ≡ valueNode T first₀ j = rw is-first at is-r in
-                let at-place : r ≡ valueNode T first₀ (getD (orderOfNode T pattern .literals) place blank .held) = there ∙ ap (valueNode T first₀) (is-field ∙ place-held in-order place (p .0)) in
-                let some : heldUnder (l .0) (patternsOf T pattern .literals) ≡ Option.some (expr T r) =
-                ap (heldUnder (l .0)) slots
-                ∙ (held-found (patternAt T first₀) (l .0) (orderOfNode T pattern .literals) place lt (same-before key-order blank (l .0) (orderOfNode T pattern .literals) (in-order .sorted) place lt here) here
-                ∙ sym (ap (λ (n : ℕ). Option.some (expr T n)) at-place)) in
-                let node : Node T r = rw there (object-value T w pattern (a .asks .objects .pair .first) (a .asks .objects .pattern-object) j below .0) in
-                let low = node .low in
-                record {
-                  absent = λ z. absurd (omega arith);
-                  there = λ d. (node, ap (λ (o : Option Literal). held o (patternsOf T pattern .literals)) (l .1) ∙ some);
-                }
+  pub slot-value : Fits w64 (first + j * 2 + 1)
+  slot-value = let p = slot-few in record { fits = omega arith }
+
+  pub slot-node : {r : ℕ} → r ≡ childAt (T .children) (first + j * 2 + 1) → SlotIs T (patternsOf T pattern .literals) place r
+  unfolding first₀
+  slot-node {r} is-r =
+      let there : r ≡ valueNode T (firstOf (T .nodes) pattern) j = rw is-first at is-r in
+      let h : j ≡ getD (orderOfNode T pattern .literals) place blank .held = is-field ∙ place-held (in-order (a .asks)) place (a .inside) in
+      record {
+        node = rw there (object-value T (a .asks .objects .pair .table) pattern (a .asks .objects .pair .first) (a .asks .objects .pattern-object) j slot-below .0);
+        is = ap (expr T) there ∙ (ap (λ (i : ℕ). expr T (valueNode T (firstOf (T .nodes) pattern) i)) h ∙ sym (ap (λ (s : Slot Expr). s .held) (slot-is (a .asks) place (a .inside))));
+      }

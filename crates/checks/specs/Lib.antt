@@ -1,3 +1,5 @@
+pub mod Joining
 pub mod Structure
+pub mod ReadingLaws
 pub mod Refusals
 pub mod code

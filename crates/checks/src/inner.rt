@@ -1,59 +1,26 @@
 // A pattern held against a literal expression (utils.rs).
 ghost use Rattle.table.specs.Lent.{given, lent};
 ghost use mathlib.Core.Path.{_≡_};
-ghost use Rattle.table.specs.Decode.{expr, literalAt};
-ghost use Rattle.checks.specs.Structure.{held, structure};
+ghost use Rattle.table.specs.Decode.{expr};
+ghost use Rattle.checks.specs.Structure.{structure};
 ghost use Rattle.planner.specs.code.Post.{GoodPair};
-ghost use Rattle.checks.specs.code.Post.{itemsStructure, ItemsAsks, ObjectsAsks, WorkingSpaces, patternsOf, FieldsAsks, fieldsStructure, FieldAsks, fieldStructure, PartnerAsks, PartnerIs};
+ghost use Rattle.checks.specs.code.Post.{structureAt, itemsStructure, ItemsAsks, ObjectsAsks, WorkingSpaces, FieldsAsks, fieldsStructure, FieldAsks, OneMore};
 use crate::LiteralStructureCheck;
+use crate::Reading;
+use crate::joining::FieldsSoFar;
+use crate::joining::is_settled;
+use crate::joining::join;
+use crate::joining::no_field_yet;
+use crate::joining::with_field;
+use crate::partners::each_paired;
+use crate::partners::partner_place;
+use crate::partners::pattern_at;
 use crate::texts::compare_object_keys;
-use planner::fields::field_at;
-use planner::inner::fields::find_field;
-use table::Key;
 use table::node_kind;
 use table::reading::child_at;
 use table::reading::count_of;
-use table::reading::extract_literal_key;
 use table::reading::first_of;
 use table::reading::kind_of;
-
-// The pattern's node under a literal key equal to a value's, or 0.
-fn partner_of(
-    nodes: &[u32],
-    children: &[u32],
-    numbers: &[u64],
-    names: &[u32],
-    strings: &[u8],
-    text: &[u8],
-    pattern: u32,
-    order: &[u8; 256],
-    literals: usize,
-    key: u32,
-) -> u32
-    requires { ⌜ PartnerAsks (given nodes children numbers names strings text) pattern (now order) literals key ⌝ }
-    ensures { λ r. let T = lent nodes children numbers names strings text in ⌜ PartnerIs T (held (literalAt T key) (patternsOf T pattern .literals)) r ⌝ }
-{
-    let Key::Literal(literal) = extract_literal_key(nodes, key) else {
-        return 0;
-    };
-    let first = first_of(nodes, pattern) as usize;
-    let found = find_field(
-        nodes,
-        children,
-        numbers,
-        names,
-        strings,
-        text,
-        first,
-        order,
-        literals,
-        literal,
-    );
-    if found.equal {
-        return child_at(children, first + field_at(order, found.place) * 2 + 1);
-    }
-    0
-}
 
 // A pattern against a value. The two arrays are for the objects' key nodes; all levels share them, which keeps the stack small.
 fn check_structure(
@@ -65,11 +32,12 @@ fn check_structure(
     text: &[u8],
     pattern: u32,
     value: u32,
+    reading: Reading,
     keys: &mut [u32; 256],
     others: &mut [u32; 256],
 ) -> LiteralStructureCheck
     requires { ⌜ GoodPair (given nodes children numbers names strings text) pattern value ⌝ }
-    ensures { λ r. let T = lent nodes children numbers names strings text in ⌜ (r ≡ structure (expr T value) (expr T pattern)) × WorkingSpaces keys others ⌝ }
+    ensures { λ r. let T = lent nodes children numbers names strings text in ⌜ (r ≡ structureAt reading T pattern value) × WorkingSpaces keys others ⌝ }
 {
     let kind = kind_of(nodes, value);
     if kind_of(nodes, pattern) != kind {
@@ -98,6 +66,7 @@ fn check_structure(
             at,
             place,
             actual as usize,
+            reading,
             keys,
             others,
         );
@@ -112,6 +81,7 @@ fn check_structure(
             text,
             pattern,
             value,
+            reading,
             keys,
             others,
         );
@@ -131,12 +101,14 @@ fn check_items(
     at: usize,
     place: usize,
     left: usize,
+    reading: Reading,
     keys: &mut [u32; 256],
     others: &mut [u32; 256],
 ) -> LiteralStructureCheck
     requires { ⌜ ItemsAsks (given nodes children numbers names strings text) value at place left ⌝ }
-    ensures { λ r. ⌜ (r ≡ itemsStructure (lent nodes children numbers names strings text) place at left) × WorkingSpaces keys others ⌝ }
+    ensures { λ r. ⌜ (r ≡ itemsStructure reading (lent nodes children numbers names strings text) place at left) × WorkingSpaces keys others ⌝ }
 {
+    let mut so_far = LiteralStructureCheck::Match;
     let mut i: usize = 0;
     while i < left {
         let pattern = child_at(children, at + i);
@@ -150,15 +122,17 @@ fn check_items(
             text,
             pattern,
             item,
+            reading,
             keys,
             others,
         );
-        let LiteralStructureCheck::Match = check else {
-            return check;
-        };
+        so_far = join(reading, so_far, check);
+        if is_settled(reading, so_far) {
+            return so_far;
+        }
         i += 1;
     }
-    LiteralStructureCheck::Match
+    so_far
 }
 
 // Two objects: their literal keys' texts first.
@@ -171,11 +145,12 @@ fn check_object(
     text: &[u8],
     pattern: u32,
     value: u32,
+    reading: Reading,
     keys: &mut [u32; 256],
     others: &mut [u32; 256],
 ) -> LiteralStructureCheck
     requires { ⌜ ObjectsAsks (given nodes children numbers names strings text) pattern value ⌝ }
-    ensures { λ r. let T = lent nodes children numbers names strings text in ⌜ (r ≡ structure (expr T value) (expr T pattern)) × WorkingSpaces keys others ⌝ }
+    ensures { λ r. let T = lent nodes children numbers names strings text in ⌜ (r ≡ structureAt reading T pattern value) × WorkingSpaces keys others ⌝ }
 {
     let mut order = [0u8; 256];
     let compared = compare_object_keys(
@@ -197,27 +172,28 @@ fn check_object(
     if compared.literals == 0 {
         return LiteralStructureCheck::Unknown;
     }
-    if compared.same {
-        return check_fields(
-            nodes,
-            children,
-            numbers,
-            names,
-            strings,
-            text,
-            pattern,
-            value,
-            &order,
-            compared.literals,
-            compared.total,
-            keys,
-            others,
-        );
+    if !compared.same {
+        return LiteralStructureCheck::ObjectMismatch { value, pattern };
     }
-    LiteralStructureCheck::ObjectMismatch { value, pattern }
+    check_fields(
+        nodes,
+        children,
+        numbers,
+        names,
+        strings,
+        text,
+        pattern,
+        value,
+        &order,
+        compared.literals,
+        compared.total,
+        reading,
+        keys,
+        others,
+    )
 }
 
-// A value's literal fields as written, each with the pattern's field of an equal key.
+// The value's fields as written, each with the pattern's of an equal key. In the careful reading the mismatch at the pattern's first place counts.
 fn check_fields(
     nodes: &[u32],
     children: &[u32],
@@ -230,16 +206,33 @@ fn check_fields(
     order: &[u8; 256],
     literals: usize,
     total: usize,
+    reading: Reading,
     keys: &mut [u32; 256],
     others: &mut [u32; 256],
 ) -> LiteralStructureCheck
     requires { ⌜ FieldsAsks (given nodes children numbers names strings text) pattern value (now order) literals total ⌝ }
-    ensures { λ r. ⌜ (r ≡ fieldsStructure (lent nodes children numbers names strings text) pattern value) × WorkingSpaces keys others ⌝ }
+    ensures { λ r. ⌜ (r ≡ fieldsStructure reading (lent nodes children numbers names strings text) pattern value) × WorkingSpaces keys others ⌝ }
 {
     let count = count_of(nodes, value) as usize;
+    let paired = each_paired(
+        nodes,
+        children,
+        numbers,
+        names,
+        strings,
+        text,
+        pattern,
+        value,
+        order,
+        literals,
+        total,
+        reading,
+        keys,
+    );
+    let mut so_far = no_field_yet(paired, literals, total);
     let mut i: usize = 0;
     while i < count {
-        let check = check_field(
+        so_far = check_field(
             nodes,
             children,
             numbers,
@@ -251,21 +244,20 @@ fn check_fields(
             order,
             literals,
             i,
+            reading,
+            so_far,
             keys,
             others,
         );
-        let LiteralStructureCheck::Match = check else {
-            return check;
-        };
+        if so_far.end == 0 {
+            return so_far.check;
+        }
         i += 1;
     }
-    if literals < total {
-        return LiteralStructureCheck::Unknown;
-    }
-    LiteralStructureCheck::Match
+    so_far.check
 }
 
-// A field without a partner is passed over.
+// A field whose partner's place no longer counts, or that has none, is passed over.
 fn check_field(
     nodes: &[u32],
     children: &[u32],
@@ -278,15 +270,17 @@ fn check_field(
     order: &[u8; 256],
     literals: usize,
     i: usize,
+    reading: Reading,
+    before: FieldsSoFar,
     keys: &mut [u32; 256],
     others: &mut [u32; 256],
-) -> LiteralStructureCheck
-    requires { ⌜ FieldAsks (given nodes children numbers names strings text) pattern value (now order) literals i ⌝ }
-    ensures { λ r. ⌜ (r ≡ fieldStructure (lent nodes children numbers names strings text) pattern value i) × WorkingSpaces keys others ⌝ }
+) -> FieldsSoFar
+    requires { ⌜ FieldAsks (given nodes children numbers names strings text) pattern value (now order) literals i before ⌝ }
+    ensures { λ r. ⌜ OneMore reading (lent nodes children numbers names strings text) pattern value literals i before r × WorkingSpaces keys others ⌝ }
 {
     let place = first_of(nodes, value) as usize + i * 2;
     let key = child_at(children, place);
-    let other = partner_of(
+    let met = partner_place(
         nodes,
         children,
         numbers,
@@ -298,11 +292,23 @@ fn check_field(
         literals,
         key,
     );
-    if other == 0 {
-        return LiteralStructureCheck::Match;
+    if before.end <= met {
+        return before;
     }
+    let other = pattern_at(
+        nodes,
+        children,
+        numbers,
+        names,
+        strings,
+        text,
+        pattern,
+        order,
+        literals,
+        met,
+    );
     let child = child_at(children, place + 1);
-    check_structure(
+    let check = check_structure(
         nodes,
         children,
         numbers,
@@ -311,12 +317,14 @@ fn check_field(
         text,
         other,
         child,
+        reading,
         keys,
         others,
-    )
+    );
+    with_field(reading, before, met, check)
 }
 
-// A pattern against a value: the first part that doesn't match decides.
+// A pattern against a value.
 pub fn check_literal_structure(
     nodes: &[u32],
     children: &[u32],
@@ -326,9 +334,10 @@ pub fn check_literal_structure(
     text: &[u8],
     pattern: u32,
     value: u32,
+    reading: Reading,
 ) -> LiteralStructureCheck
     requires { ⌜ GoodPair (given nodes children numbers names strings text) pattern value ⌝ }
-    ensures { λ r. let T = lent nodes children numbers names strings text in ⌜ r ≡ structure (expr T value) (expr T pattern) ⌝ }
+    ensures { λ r. let T = lent nodes children numbers names strings text in ⌜ r ≡ structure reading (expr T value) (expr T pattern) ⌝ }
 {
     let mut keys = [0u32; 256];
     let mut others = [0u32; 256];
@@ -341,6 +350,7 @@ pub fn check_literal_structure(
         text,
         pattern,
         value,
+        reading,
         &mut keys,
         &mut others,
     )

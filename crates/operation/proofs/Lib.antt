@@ -5,3 +5,4 @@ pub mod ReservedNames
 pub mod ShortOperation
 pub mod RowLaws
 pub mod Versions
+pub mod Readings

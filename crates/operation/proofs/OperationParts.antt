@@ -13,6 +13,7 @@ use Rattle.table.specs.code.Sound.{Node}
 use Rattle.table.proofs.tests.Bools.{and-true}
 use Rattle.planner.specs.code.Post.{GoodRoot}
 use Rattle.planner.proofs.laws.Operations.{root-node}
+use Rattle.checks.specs.declared.Reading.{Reading}
 use Rattle.some_in.specs.SomeIn.{roots}
 use Rattle.operation.specs.declared.Operation.{Operation}
 use Rattle.operation.specs.declared.Operation.the-variants.{Pattern, ColonEquals, Equals, SomeIn, Index, Parameter}
@@ -33,15 +34,15 @@ module _ (operation : Operation) {l : List PatternRoot} where
   unfolding patternsOf
   of-pattern e is = rw e is
 
-  pub of-colon-equals : {left right : ℕ} → operation ≡ ColonEquals left right → l ≡ patternRoot AllowShadowing left ∷ [] → l ≡ patternsOf operation
+  pub of-colon-equals : {left right : ℕ} {reading : Reading} → operation ≡ ColonEquals left right reading → l ≡ patternRoot AllowShadowing left ∷ [] → l ≡ patternsOf operation
   unfolding patternsOf
   of-colon-equals e is = rw e is
 
-  pub of-equals : {left right : ℕ} → operation ≡ Equals left right → l ≡ patternRoot RespectParent left ∷ (patternRoot RespectParent right ∷ []) → l ≡ patternsOf operation
+  pub of-equals : {left right : ℕ} {reading : Reading} → operation ≡ Equals left right reading → l ≡ patternRoot RespectParent left ∷ (patternRoot RespectParent right ∷ []) → l ≡ patternsOf operation
   unfolding patternsOf
   of-equals e is = rw e is
 
-  pub of-some-in : {value collection key : ℕ} → operation ≡ SomeIn value collection key → l ≡ someInPatterns value key → l ≡ patternsOf operation
+  pub of-some-in : {value collection key : ℕ} {reading : Reading} → operation ≡ SomeIn value collection key reading → l ≡ someInPatterns value key → l ≡ patternsOf operation
   unfolding patternsOf
   of-some-in e is = rw e is
 
@@ -85,15 +86,15 @@ module _ (nodes : List ℕ) where
     unfolding rootsOf
     root-pattern {root = root} e is = rw e (is ∙ only (isNode (inNodes nodes) root))
 
-    pub roots-colon-equals : {left right : ℕ} → operation ≡ ColonEquals left right → r ≡ allNodes (inNodes nodes) (left ∷ (right ∷ [])) → r ≡ allNodes (inNodes nodes) (rootsOf operation)
+    pub roots-colon-equals : {left right : ℕ} {reading : Reading} → operation ≡ ColonEquals left right reading → r ≡ allNodes (inNodes nodes) (left ∷ (right ∷ [])) → r ≡ allNodes (inNodes nodes) (rootsOf operation)
     unfolding rootsOf
     roots-colon-equals e is = rw e is
 
-    pub roots-equals : {left right : ℕ} → operation ≡ Equals left right → r ≡ allNodes (inNodes nodes) (left ∷ (right ∷ [])) → r ≡ allNodes (inNodes nodes) (rootsOf operation)
+    pub roots-equals : {left right : ℕ} {reading : Reading} → operation ≡ Equals left right reading → r ≡ allNodes (inNodes nodes) (left ∷ (right ∷ [])) → r ≡ allNodes (inNodes nodes) (rootsOf operation)
     unfolding rootsOf
     roots-equals e is = rw e is
 
-    pub roots-some-in : {value collection key : ℕ} → operation ≡ SomeIn value collection key → r ≡ allNodes (inNodes nodes) (roots value collection key) → r ≡ allNodes (inNodes nodes) (rootsOf operation)
+    pub roots-some-in : {value collection key : ℕ} {reading : Reading} → operation ≡ SomeIn value collection key reading → r ≡ allNodes (inNodes nodes) (roots value collection key) → r ≡ allNodes (inNodes nodes) (rootsOf operation)
     unfolding rootsOf
     roots-some-in e is = rw e is
 
@@ -117,9 +118,9 @@ rootsIn (p ∷ ps) = p .root ∷ rootsIn ps
 pub patterns-inside : (T : Tables) (operation : Operation) → allNodes T (rootsOf operation) ≡ true → allNodes T (rootsIn (patternsOf operation)) ≡ true
 unfolding patternsOf rootsOf
 patterns-inside T (Pattern scoping root) h = h
-patterns-inside T (ColonEquals left right) h = let a = and-true (isNode T left) _ h .0 in rw a refl
-patterns-inside T (Equals left right) h = h
-patterns-inside T (SomeIn value collection key) h = go (eqb key 0) refl
+patterns-inside T (ColonEquals left right reading) h = let a = and-true (isNode T left) _ h .0 in rw a refl
+patterns-inside T (Equals left right reading) h = h
+patterns-inside T (SomeIn value collection key reading) h = go (eqb key 0) refl
   where
     go : (b : Bool) → eqb key 0 ≡ b → allNodes T (rootsIn (someInPatterns value key)) ≡ true
     go true e = let a = and-true (isNode T value) _ h .0 in simp (e, a)

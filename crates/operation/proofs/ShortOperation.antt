@@ -30,9 +30,9 @@ use Rattle.operation.proofs.OperationParts.{rootsIn, patterns-inside}
 pub operation-short : (T : Tables) (s : Scope) (operation : Operation) → ShortOutcome (operationOutcome T s operation)
 unfolding operationOutcome
 operation-short T s (Pattern scoping root) = pattern-short T s scoping root
-operation-short T s (ColonEquals left right) = assignment-short T s ColEq left right
-operation-short T s (Equals left right) = assignment-short T s Eq left right
-operation-short T s (SomeIn value collection key) = some-in-short T s value collection key
+operation-short T s (ColonEquals left right reading) = assignment-short T s ColEq left right reading
+operation-short T s (Equals left right reading) = assignment-short T s Eq left right reading
+operation-short T s (SomeIn value collection key reading) = some-in-short T s value collection key reading
 operation-short T s (Index root) = index-short T s root
 operation-short T s (Parameter scoping root) = parameter-short T s scoping root
 

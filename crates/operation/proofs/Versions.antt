@@ -32,18 +32,18 @@ use Rattle.operation.proofs.OperationParts.{nodes-of-table, inNodes}
 -- what comes after the table check and the roots
 abbrev planned : Tables → Scope → Operation → Outcome
 planned T s (Pattern scoping root) = patternPlanned T s scoping root
-planned T s (ColonEquals left right) = byOperator ColEq T s left right
-planned T s (Equals left right) = byOperator Eq T s left right
-planned T s (SomeIn value collection key) = someInPlanned T s value collection key
+planned T s (ColonEquals left right reading) = byOperator ColEq T s left right reading
+planned T s (Equals left right reading) = byOperator Eq T s left right reading
+planned T s (SomeIn value collection key reading) = someInPlanned T s value collection key reading
 planned T s (Index root) = patternPlanned T s RespectParent root
 planned T s (Parameter scoping root) = parameterPlanned T s scoping root
 
 pub operation-checked : (T : Tables) (s : Scope) (operation : Operation) → operationOutcome T s operation ≡ checkedFirst T s (rootsOf operation) (planned T s operation)
 unfolding operationOutcome rootsOf
 operation-checked T s (Pattern scoping root) = refl
-operation-checked T s (ColonEquals left right) = refl
-operation-checked T s (Equals left right) = refl
-operation-checked T s (SomeIn value collection key) = refl
+operation-checked T s (ColonEquals left right reading) = refl
+operation-checked T s (Equals left right reading) = refl
+operation-checked T s (SomeIn value collection key reading) = refl
 operation-checked T s (Index root) = refl
 operation-checked T s (Parameter scoping root) = refl
 

@@ -10,8 +10,8 @@ use Rattle.operation.specs.declared.Operation.the-variants.{Pattern, Col
 
 unfoldable pub operationOutcome : Tables → Scope → Operation → Outcome
 operationOutcome T s (Pattern scoping root) = patternOutcome T s scoping root
-operationOutcome T s (ColonEquals left right) = assignmentOutcome T s ColEq left right
-operationOutcome T s (Equals left right) = assignmentOutcome T s Eq left right
-operationOutcome T s (SomeIn value collection key) = someInOutcome T s value collection key
+operationOutcome T s (ColonEquals left right reading) = assignmentOutcome T s ColEq left right reading
+operationOutcome T s (Equals left right reading) = assignmentOutcome T s Eq left right reading
+operationOutcome T s (SomeIn value collection key reading) = someInOutcome T s value collection key reading
 operationOutcome T s (Index root) = indexOutcome T s root
 operationOutcome T s (Parameter scoping root) = parameterOutcome T s scoping root

@@ -35,18 +35,18 @@ someInPatterns value key = cond (eqb key 0) (patternRoot RespectParent value ∷
 -- The patterns of an operation: both sides of `=`, left first.
 unfoldable pub patternsOf : Operation → List PatternRoot
 patternsOf (Pattern scoping root) = patternRoot scoping root ∷ []
-patternsOf (ColonEquals left right) = patternRoot AllowShadowing left ∷ []
-patternsOf (Equals left right) = patternRoot RespectParent left ∷ (patternRoot RespectParent right ∷ [])
-patternsOf (SomeIn value collection key) = someInPatterns value key
+patternsOf (ColonEquals left right reading) = patternRoot AllowShadowing left ∷ []
+patternsOf (Equals left right reading) = patternRoot RespectParent left ∷ (patternRoot RespectParent right ∷ [])
+patternsOf (SomeIn value collection key reading) = someInPatterns value key
 patternsOf (Index root) = patternRoot RespectParent root ∷ []
 patternsOf (Parameter scoping root) = patternRoot scoping root ∷ []
 
 -- the roots that have to be nodes (5)
 unfoldable pub rootsOf : Operation → List ℕ
 rootsOf (Pattern scoping root) = root ∷ []
-rootsOf (ColonEquals left right) = left ∷ (right ∷ [])
-rootsOf (Equals left right) = left ∷ (right ∷ [])
-rootsOf (SomeIn value collection key) = roots value collection key
+rootsOf (ColonEquals left right reading) = left ∷ (right ∷ [])
+rootsOf (Equals left right reading) = left ∷ (right ∷ [])
+rootsOf (SomeIn value collection key reading) = roots value collection key
 rootsOf (Index root) = root ∷ []
 rootsOf (Parameter scoping root) = root ∷ []
 

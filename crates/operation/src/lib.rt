@@ -12,6 +12,7 @@ ghost use Rattle.operation.specs.Version.{versionOutcome};
 use crate::version::refusing_name;
 use assignment::AssignOp;
 use assignment::assignment::create_assignment_binding_plan;
+use checks::Reading;
 use planner::PlanAnswer;
 use planner::buffer::clear;
 use planner::destructuring::create_destructuring_plan;
@@ -26,7 +27,7 @@ pub const REGO_V0: u32 = 0;
 
 pub const REGO_V1: u32 = 1;
 
-// What to plan, with its roots; a some-in key of 0 says that there is none.
+// What to plan, with its roots, and the reading where a pattern is held against a literal expression; a some-in key of 0 says that there is none.
 pub enum Operation {
     Pattern {
         scoping: ScopingMode,
@@ -35,15 +36,18 @@ pub enum Operation {
     ColonEquals {
         left: u32,
         right: u32,
+        reading: Reading,
     },
     Equals {
         left: u32,
         right: u32,
+        reading: Reading,
     },
     SomeIn {
         value: u32,
         collection: u32,
         key: u32,
+        reading: Reading,
     },
     Index {
         root: u32,
@@ -81,7 +85,11 @@ fn plan_v0(
             root,
             plan,
         ),
-        Operation::ColonEquals { left, right } => create_assignment_binding_plan(
+        Operation::ColonEquals {
+            left,
+            right,
+            reading,
+        } => create_assignment_binding_plan(
             nodes,
             children,
             numbers,
@@ -92,9 +100,14 @@ fn plan_v0(
             AssignOp::ColEq,
             left,
             right,
+            reading,
             plan,
         ),
-        Operation::Equals { left, right } => create_assignment_binding_plan(
+        Operation::Equals {
+            left,
+            right,
+            reading,
+        } => create_assignment_binding_plan(
             nodes,
             children,
             numbers,
@@ -105,12 +118,14 @@ fn plan_v0(
             AssignOp::Eq,
             left,
             right,
+            reading,
             plan,
         ),
         Operation::SomeIn {
             value,
             collection,
             key,
+            reading,
         } => create_some_in_binding_plan(
             nodes,
             children,
@@ -122,6 +137,7 @@ fn plan_v0(
             value,
             collection,
             key,
+            reading,
             plan,
         ),
         Operation::Index { root } => create_loop_index_binding_plan(

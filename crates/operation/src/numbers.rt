@@ -1,7 +1,8 @@
 // An operation as the six numbers of a sheet's line 2.
 ghost use mathlib.Core.Path.{_≡_};
-ghost use Rattle.operation.specs.Numbers.{areListed, scopingOf, operationOf};
+ghost use Rattle.operation.specs.Numbers.{areListed, scopingOf, readingOf, operationOf};
 use crate::Operation;
+use checks::Reading;
 use scope::ScopingMode;
 
 // The roots: first (left, pattern or value pattern), second (right or collection), some-in key.
@@ -14,7 +15,7 @@ pub struct OperationNumbers {
     pub key: u32,
 }
 
-// Are operation, scheduler and scoping numbers that document 01 lists?
+// Are operation, scheduler and scoping listed numbers?
 pub fn are_listed(numbers: OperationNumbers) -> bool
     ensures { λ r. ⌜ r ≡ areListed numbers ⌝ }
 {
@@ -30,17 +31,30 @@ pub fn are_listed(numbers: OperationNumbers) -> bool
     if numbers.scoping < 1 {
         return false;
     }
-    numbers.scoping <= 2
+    numbers.scoping <= 4
 }
 
-// Meant for listed numbers: any but 2 is RespectParent.
+// Meant for listed numbers: any but 2 and 4 is RespectParent.
 pub fn scoping_of(scoping: u32) -> ScopingMode
     ensures { λ r. ⌜ r ≡ scopingOf scoping ⌝ }
 {
     if scoping == 2 {
         return ScopingMode::AllowShadowing;
     }
+    if scoping == 4 {
+        return ScopingMode::AllowShadowing;
+    }
     ScopingMode::RespectParent
+}
+
+// Meant for listed numbers: 3 and 4 are read carefully.
+pub fn reading_of(scoping: u32) -> Reading
+    ensures { λ r. ⌜ r ≡ readingOf scoping ⌝ }
+{
+    if scoping < 3 {
+        return Reading::Present;
+    }
+    Reading::Careful
 }
 
 // Meant for listed numbers: any but 1 to 5 is the parameter operation.
@@ -49,6 +63,7 @@ pub fn operation_of(numbers: OperationNumbers) -> Operation
 {
     let number = numbers.number;
     let scoping = scoping_of(numbers.scoping);
+    let reading = reading_of(numbers.scoping);
     let first = numbers.first;
     let second = numbers.second;
     if number == 1 {
@@ -61,12 +76,14 @@ pub fn operation_of(numbers: OperationNumbers) -> Operation
         return Operation::ColonEquals {
             left: first,
             right: second,
+            reading,
         };
     }
     if number == 3 {
         return Operation::Equals {
             left: first,
             right: second,
+            reading,
         };
     }
     if number == 4 {
@@ -74,6 +91,7 @@ pub fn operation_of(numbers: OperationNumbers) -> Operation
             value: first,
             collection: second,
             key: numbers.key,
+            reading,
         };
     }
     if number == 5 {

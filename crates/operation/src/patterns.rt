@@ -56,12 +56,21 @@ pub(crate) fn patterns_of(operation: Operation) -> Patterns
 {
     match operation {
         Operation::Pattern { scoping, root } => one_pattern(scoping, root),
-        Operation::ColonEquals { left, right } => one_pattern(ScopingMode::AllowShadowing, left),
-        Operation::Equals { left, right } => two_patterns(left, right),
+        Operation::ColonEquals {
+            left,
+            right,
+            reading,
+        } => one_pattern(ScopingMode::AllowShadowing, left),
+        Operation::Equals {
+            left,
+            right,
+            reading,
+        } => two_patterns(left, right),
         Operation::SomeIn {
             value,
             collection,
             key,
+            reading,
         } => some_in_patterns(value, key),
         Operation::Index { root } => one_pattern(ScopingMode::RespectParent, root),
         Operation::Parameter { scoping, root } => one_pattern(scoping, root),
@@ -95,12 +104,21 @@ pub(crate) fn roots_are_nodes(nodes: &[u32], operation: Operation) -> bool
 {
     match operation {
         Operation::Pattern { scoping, root } => is_node(nodes, root),
-        Operation::ColonEquals { left, right } => are_nodes(nodes, left, right),
-        Operation::Equals { left, right } => are_nodes(nodes, left, right),
+        Operation::ColonEquals {
+            left,
+            right,
+            reading,
+        } => are_nodes(nodes, left, right),
+        Operation::Equals {
+            left,
+            right,
+            reading,
+        } => are_nodes(nodes, left, right),
         Operation::SomeIn {
             value,
             collection,
             key,
+            reading,
         } => are_some_in_nodes(nodes, value, collection, key),
         Operation::Index { root } => is_node(nodes, root),
         Operation::Parameter { scoping, root } => is_node(nodes, root),

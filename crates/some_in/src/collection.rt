@@ -4,30 +4,17 @@ ghost use mathlib.Core.Path.{_≡_};
 ghost use Rattle.planner.specs.code.Post.{GoodPair};
 ghost use Rattle.table.specs.Decode.{expr};
 ghost use Rattle.checks.specs.code.Post.{itemsAt};
-ghost use Rattle.some_in.specs.SomeIn.{isMismatch, anyFits, itemsStructure, collectionStructure};
+ghost use Rattle.some_in.specs.SomeIn.{anyFits, itemsStructure, collectionStructure};
 ghost use Rattle.some_in.specs.code.Post.{ItemsAsks};
 use checks::LiteralStructureCheck;
+use checks::Reading;
 use checks::inner::check_literal_structure;
+use checks::is_mismatch;
 use table::node_kind;
 use table::reading::child_at;
 use table::reading::count_of;
 use table::reading::first_of;
 use table::reading::kind_of;
-
-fn is_mismatch(check: LiteralStructureCheck) -> bool
-    ensures { λ r. ⌜ r ≡ isMismatch check ⌝ }
-{
-    match check {
-        LiteralStructureCheck::Match => false,
-        LiteralStructureCheck::Unknown => false,
-        LiteralStructureCheck::ArrayMismatch {
-            value,
-            expected,
-            actual,
-        } => true,
-        LiteralStructureCheck::ObjectMismatch { value, pattern } => true,
-    }
-}
 
 // Does one of `left` items from child entry `at` on match the pattern, or is it unknown?
 fn any_fits(
@@ -40,9 +27,10 @@ fn any_fits(
     pattern: u32,
     at: usize,
     left: usize,
+    reading: Reading,
 ) -> bool
     requires { ⌜ ItemsAsks (given nodes children numbers names strings text) pattern at left ⌝ }
-    ensures { λ r. let T = lent nodes children numbers names strings text in ⌜ r ≡ anyFits (itemsAt T at left) (expr T pattern) ⌝ }
+    ensures { λ r. let T = lent nodes children numbers names strings text in ⌜ r ≡ anyFits reading (itemsAt T at left) (expr T pattern) ⌝ }
 {
     let mut place = at;
     let mut more = left;
@@ -57,6 +45,7 @@ fn any_fits(
             text,
             pattern,
             item,
+            reading,
         );
         if !is_mismatch(check) {
             return true;
@@ -78,9 +67,10 @@ fn check_collection_items(
     pattern: u32,
     at: usize,
     left: usize,
+    reading: Reading,
 ) -> LiteralStructureCheck
     requires { ⌜ ItemsAsks (given nodes children numbers names strings text) pattern at left ⌝ }
-    ensures { λ r. let T = lent nodes children numbers names strings text in ⌜ r ≡ itemsStructure (itemsAt T at left) (expr T pattern) ⌝ }
+    ensures { λ r. let T = lent nodes children numbers names strings text in ⌜ r ≡ itemsStructure reading (itemsAt T at left) (expr T pattern) ⌝ }
 {
     if left == 0 {
         return LiteralStructureCheck::Unknown;
@@ -95,6 +85,7 @@ fn check_collection_items(
         pattern,
         at,
         left,
+        reading,
     ) {
         return LiteralStructureCheck::Match;
     }
@@ -108,6 +99,7 @@ fn check_collection_items(
         text,
         pattern,
         item,
+        reading,
     )
 }
 
@@ -120,9 +112,10 @@ pub(crate) fn check_collection(
     text: &[u8],
     pattern: u32,
     collection: u32,
+    reading: Reading,
 ) -> LiteralStructureCheck
     requires { ⌜ GoodPair (given nodes children numbers names strings text) pattern collection ⌝ }
-    ensures { λ r. let T = lent nodes children numbers names strings text in ⌜ r ≡ collectionStructure (expr T collection) (expr T pattern) ⌝ }
+    ensures { λ r. let T = lent nodes children numbers names strings text in ⌜ r ≡ collectionStructure reading (expr T collection) (expr T pattern) ⌝ }
 {
     if kind_of(nodes, collection) != node_kind::ARRAY {
         return LiteralStructureCheck::Unknown;
@@ -139,5 +132,6 @@ pub(crate) fn check_collection(
         pattern,
         at,
         left,
+        reading,
     )
 }

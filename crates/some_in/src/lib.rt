@@ -9,6 +9,7 @@ ghost use Rattle.some_in.specs.SomeIn.{someInPlanned, someInOutcome};
 ghost use Rattle.some_in.specs.code.Post.{PlaceAsks, Validated, SomeInClosed, ValueAsks, ValueAnswered, KeyAsks};
 use crate::collection::check_collection;
 use checks::LiteralStructureCheck;
+use checks::Reading;
 use planner::PlanAnswer;
 use planner::buffer::clear;
 use planner::buffer::close;
@@ -114,11 +115,12 @@ fn plan_value(
     value: u32,
     collection: u32,
     form: u32,
+    reading: Reading,
     plan: &mut [u32],
     at: usize,
 ) -> PlanAnswer
     requires { ⌜ ValueAsks (given nodes children numbers names strings text) value collection at ⌝ }
-    ensures { λ r. ⌜ ValueAnswered (lent nodes children numbers names strings text) scope value collection form at (old plan) (new plan) r ⌝ }
+    ensures { λ r. ⌜ ValueAnswered (lent nodes children numbers names strings text) scope value collection form reading at (old plan) (new plan) r ⌝ }
 {
     let value_plan = plan_validated(
         nodes,
@@ -147,6 +149,7 @@ fn plan_value(
         text,
         value,
         collection,
+        reading,
     );
     deliver_some_in(plan, form, check, value_plan.end)
 }
@@ -162,10 +165,11 @@ fn plan_key(
     value: u32,
     collection: u32,
     key: u32,
+    reading: Reading,
     plan: &mut [u32],
 ) -> PlanAnswer
     requires { ⌜ KeyAsks (given nodes children numbers names strings text) value collection key ⌝ }
-    ensures { λ r. ⌜ AnsweredIn plan (someInPlanned (lent nodes children numbers names strings text) scope value collection key) r ⌝ }
+    ensures { λ r. ⌜ AnsweredIn plan (someInPlanned (lent nodes children numbers names strings text) scope value collection key reading) r ⌝ }
 {
     let key_plan = plan_validated(
         nodes,
@@ -196,6 +200,7 @@ fn plan_key(
         value,
         collection,
         1,
+        reading,
         plan,
         key_plan.end,
     )
@@ -211,10 +216,11 @@ fn plan_without_key(
     scope: Scope,
     value: u32,
     collection: u32,
+    reading: Reading,
     plan: &mut [u32],
 ) -> PlanAnswer
     requires { ⌜ GoodPair (given nodes children numbers names strings text) value collection ⌝ }
-    ensures { λ r. ⌜ AnsweredIn plan (someInPlanned (lent nodes children numbers names strings text) scope value collection 0) r ⌝ }
+    ensures { λ r. ⌜ AnsweredIn plan (someInPlanned (lent nodes children numbers names strings text) scope value collection 0 reading) r ⌝ }
 {
     plan_value(
         nodes,
@@ -227,6 +233,7 @@ fn plan_without_key(
         value,
         collection,
         0,
+        reading,
         plan,
         0,
     )
@@ -244,9 +251,10 @@ pub fn create_some_in_binding_plan(
     value: u32,
     collection: u32,
     key: u32,
+    reading: Reading,
     plan: &mut [u32],
 ) -> PlanAnswer
-    ensures { λ r. ⌜ AnsweredIn plan (someInOutcome (lent nodes children numbers names strings text) scope value collection key) r ⌝ }
+    ensures { λ r. ⌜ AnsweredIn plan (someInOutcome (lent nodes children numbers names strings text) scope value collection key reading) r ⌝ }
 {
     let checked = check(nodes, children, numbers, names, strings, text, scope);
     if let TableAnswer::Refused(refused) = checked {
@@ -272,6 +280,7 @@ pub fn create_some_in_binding_plan(
             scope,
             value,
             collection,
+            reading,
             plan,
         );
     }
@@ -290,6 +299,7 @@ pub fn create_some_in_binding_plan(
         value,
         collection,
         key,
+        reading,
         plan,
     )
 }

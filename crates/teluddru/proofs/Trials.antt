@@ -20,7 +20,8 @@ use Rattle.planner.specs.Plan.{plan}
 use Rattle.planner.specs.Layout.{insert, concat, entries, words, bindsAny}
 use Rattle.planner.specs.Operations.{answered, written}
 use Rattle.planner.specs.Entries.{readEntries}
-use Rattle.checks.specs.Structure.{keyTexts, insertText, sortTexts, sameTexts, structure}
+use Rattle.checks.specs.Joining.{inTurn, anyUnknown, firstMismatchOr, joined}
+use Rattle.checks.specs.Structure.{keyTexts, insertText, sortTexts, sameTexts, writtenChecks, fieldChecks, structure}
 use Rattle.planner.specs.Held.{heldUnder, valueOrder}
 use Rattle.assignment.specs.Pairs.{pairsEntries, flatten}
 use Rattle.assignment.specs.Assignment.{firstSameScope}
@@ -40,5 +41,5 @@ abbrev expectedIn : Trial → Shown
 expectedIn t = t .expected
 
 pub trials-hold : map shownIn trials ≡ map expectedIn trials
-unfolding isNumber literalOf bytesOrder keyOrder keyText digits isName contains says isUnderscore isUnbound known sameScope wordFrom Bytes.marked ofBytes recordWord widthOf nameBytes sameBytes depth count refOf literalNode items fields headed exprAt expr allFrom elem noRepeat withinLimits wholeRecords spanOk nameTextOk wordsOk childrenBelow nodeOk placesFrom usedPlaces nameOk scopeOk followsRules shallow namesDiffer checked plan insert concat entries words bindsAny answered written valueOrder keyTexts insertText sortTexts sameTexts heldUnder structure pairsEntries flatten firstSameScope readEntries oneByteEach positive operationOutcome admitted hasKey differing keysOf occurrences namesOf valueOf same within keysᵛ under run planKeys sameLength insertWritten asWritten itemsRead fieldsRead plansRead valuesListed knownListed runAnswer valuesAfter tabulate
+unfolding isNumber literalOf bytesOrder keyOrder keyText digits isName contains says isUnderscore isUnbound known sameScope wordFrom Bytes.marked ofBytes recordWord widthOf nameBytes sameBytes depth count refOf literalNode items fields headed exprAt expr allFrom elem noRepeat withinLimits wholeRecords spanOk nameTextOk wordsOk childrenBelow nodeOk placesFrom usedPlaces nameOk scopeOk followsRules shallow namesDiffer checked plan insert concat entries words bindsAny answered written valueOrder keyTexts insertText sortTexts sameTexts heldUnder inTurn anyUnknown firstMismatchOr joined writtenChecks fieldChecks structure pairsEntries flatten firstSameScope readEntries oneByteEach positive operationOutcome admitted hasKey differing keysOf occurrences namesOf valueOf same within keysᵛ under run planKeys sameLength insertWritten asWritten itemsRead fieldsRead plansRead valuesListed knownListed runAnswer valuesAfter tabulate
 trials-hold = refl

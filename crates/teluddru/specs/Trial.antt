@@ -16,6 +16,7 @@ use Rattle.planner.specs.Operations.{Outcome, answered, written}
 use Rattle.planner.specs.Entries.{readEntries}
 use Rattle.run.specs.Answer.{RunResult, aMatch}
 use Rattle.run.specs.Operations.{RunOutcome, runOutcome, runAnswer, valuesAfter, plannedName}
+use Rattle.checks.specs.declared.Reading.the-variants.{Present, Careful}
 use Rattle.operation.specs.declared.Operation.{Operation}
 use Rattle.operation.specs.declared.Operation.the-variants.{Pattern, ColonEquals, Equals}
 use Rattle.operation.specs.Operation.{operationOutcome}
@@ -93,10 +94,10 @@ abbrev pub pattern : Tables → ℕ → Shown
 pattern T root = planning [] T (Pattern RespectParent root)
 
 abbrev pub colonEquals : List ℕ → Tables → ℕ → ℕ → Shown
-colonEquals marks T left right = planning marks T (ColonEquals left right)
+colonEquals marks T left right = planning marks T (ColonEquals left right Present)
 
 abbrev pub equals : Tables → ℕ → ℕ → Shown
-equals T left right = planning [] T (Equals left right)
+equals T left right = planning [] T (Equals left right Present)
 
 abbrev pub afterRun : (ℕ → Bool) → RunOutcome → List ℕ → Shown
 afterRun toSet outcome values = ran (runAnswer outcome blank) (valuesAfter toSet outcome blank values)
@@ -117,6 +118,12 @@ y = 121
 
 abbrev pub underscore : ℕ
 underscore = 95
+
+-- [x, [y]] and [1, [1, 2]]
+abbrev pub pastUnknown : Tables
+pastUnknown =
+    rule (x ∷ y ∷ []) [] (1 ∷ 1 ∷ 2 ∷ []) (2 ∷ 1 ∷ 3 ∷ 6 ∷ 7 ∷ 5 ∷ 8 ∷ [])
+    (nameNode 1 (nameNode 2 (arrayNode 0 1 (arrayNode 1 2 (numberNode 0 (numberNode 1 (numberNode 2 (arrayNode 3 2 (arrayNode 5 2 [])))))))))
 
 abbrev pub trials : List Trial
 trials =
@@ -174,14 +181,14 @@ trials =
           2 5;
       expected = planned (line 13 5 1 2) [];
     }
-    -- [x, [y]] := [1, [1, 2]]
+    -- [x, [y]] := [1, [1, 2]]; and read carefully
     ∷ record {
-      shown =
-          colonEquals []
-          (rule (x ∷ y ∷ []) [] (1 ∷ 1 ∷ 2 ∷ []) (2 ∷ 1 ∷ 3 ∷ 6 ∷ 7 ∷ 5 ∷ 8 ∷ [])
-          (nameNode 1 (nameNode 2 (arrayNode 0 1 (arrayNode 1 2 (numberNode 0 (numberNode 1 (numberNode 2 (arrayNode 3 2 (arrayNode 5 2 []))))))))))
-          4 9;
+      shown = colonEquals [] pastUnknown 4 9;
       expected = planned (line 0 1 0 4) (row 5 4 2 0 0 ∷ row 1 1 0 0 1 ∷ row 5 3 1 0 2 ∷ row 1 2 0 0 1 ∷ []);
+    }
+    ∷ record {
+      shown = planning [] pastUnknown (ColonEquals 4 9 Careful);
+      expected = planned (line 13 8 1 2) [];
     }
     -- {1: x} := {"1": 2}
     ∷ record {

@@ -1,4 +1,4 @@
-// Plans for versions 0, 1 and 2 of Rego and prints, for each case, the answer's four numbers and the first word of the plan buffer.
+// Plans for versions 0, 1 and 2 of Rego, and in both readings, and prints, for each case, the answer's four numbers and the first word of the plan buffer.
 use libc::STDOUT_FILENO;
 use operation::numbers::OperationNumbers;
 use operation::numbers::operation_of;
@@ -10,7 +10,7 @@ ghost use Prim.Native.Nat.{_<_};
 ghost use lib.ListN.{length};
 
 // Kind, start, end, first, count.
-const NODES: [[u32; 5]; 25] = [
+const NODES: [[u32; 5]; 54] = [
     [6, 0, 1, 1, 0], // 1: x
     [6, 1, 6, 2, 0], // 2: input
     [6, 6, 10, 3, 0], // 3: data
@@ -36,20 +36,86 @@ const NODES: [[u32; 5]; 25] = [
     [7, 0, 0, 12, 0], // 23: []
     [9, 0, 0, 12, 0], // 24: {}
     [10, 0, 0, 0, 0], // 25: f()
+    [6, 10, 11, 4, 0],
+    [6, 0, 1, 1, 0],
+    [7, 0, 0, 12, 1],
+    [7, 0, 0, 13, 2], // 29: [_, [x]]
+    [3, 0, 0, 0, 0],
+    [3, 0, 0, 0, 0],
+    [3, 0, 0, 0, 0],
+    [7, 0, 0, 15, 2], // 33: [7, 7]
+    [7, 0, 0, 17, 2], // 34: [7, [7, 7]]
+    [1, 0, 0, 1, 1],
+    [6, 0, 1, 1, 0],
+    [7, 0, 0, 19, 1],
+    [1, 0, 0, 0, 1],
+    [6, 10, 11, 4, 0],
+    [7, 0, 0, 20, 1],
+    [9, 0, 0, 21, 2], // 41: {"b": [x], "a": [_]}
+    [1, 0, 0, 1, 1],
+    [7, 0, 0, 25, 0], // 43: []
+    [1, 0, 0, 0, 1],
+    [3, 0, 0, 0, 0],
+    [3, 0, 0, 0, 0],
+    [7, 0, 0, 25, 2], // 47: [7, 7]
+    [9, 0, 0, 27, 2], // 48: {"b": [], "a": [7, 7]}
+    [3, 0, 0, 0, 0],
+    [3, 0, 0, 0, 0],
+    [3, 0, 0, 0, 0],
+    [7, 0, 0, 31, 2], // 52: [7, 7]
+    [7, 0, 0, 33, 2],
+    [7, 0, 0, 35, 1], // 54: [[7, [7, 7]]]
 ];
 
-const CHILDREN: [u32; 12] = [5, 6, 8, 9, 10, 11, 13, 15, 16, 18, 19, 20];
+const CHILDREN: [u32; 36] = [
+    5,
+    6,
+    8,
+    9,
+    10,
+    11,
+    13,
+    15,
+    16,
+    18,
+    19,
+    20,
+    27,
+    26,
+    28,
+    31,
+    32,
+    30,
+    33,
+    36,
+    39,
+    35,
+    37,
+    38,
+    40,
+    45,
+    46,
+    42,
+    43,
+    44,
+    47,
+    50,
+    51,
+    49,
+    52,
+    53,
+];
 
 const NUMBERS: [u64; 2] = [0, 7];
 
 const NAMES: [u32; 8] = [0, 1, 1, 5, 6, 4, 10, 1];
 
-const STRINGS: [u8; 1] = *b"a";
+const STRINGS: [u8; 2] = *b"ab";
 
 const TEXT: [u8; 11] = *b"xinputdata_";
 
 // Operation, scoping, the three roots (first, second, key), version, the number of a bound name or 0.
-const CASES: [[u32; 7]; 39] = [
+const CASES: [[u32; 7]; 57] = [
     [1, 1, 2, 0, 0, 1, 0], // a pattern
     [1, 1, 2, 0, 0, 0, 0],
     [1, 1, 2, 0, 0, 2, 0],
@@ -89,20 +155,38 @@ const CASES: [[u32; 7]; 39] = [
     [6, 1, 2, 0, 0, 1, 0], // a parameter
     [6, 2, 2, 0, 0, 1, 2],
     [6, 1, 2, 0, 0, 1, 2],
+    [2, 1, 29, 34, 0, 0, 0], // := looks past an unknown item by scoping 3 and 4
+    [2, 2, 29, 34, 0, 0, 0],
+    [2, 3, 29, 34, 0, 0, 0],
+    [2, 4, 29, 34, 0, 0, 0],
+    [2, 3, 29, 34, 0, 1, 0],
+    [3, 1, 29, 34, 0, 0, 0], // and =
+    [3, 3, 29, 34, 0, 0, 0],
+    [3, 3, 34, 29, 0, 0, 0],
+    [4, 1, 29, 54, 0, 0, 0], // and some-in
+    [4, 3, 29, 54, 0, 0, 0],
+    [2, 1, 41, 48, 0, 0, 0], // the first field as written, and the first key
+    [2, 3, 41, 48, 0, 0, 0],
+    [1, 3, 2, 0, 0, 1, 2], // other operations: 3 as 1, 4 as 2
+    [1, 4, 2, 0, 0, 1, 2],
+    [5, 4, 2, 0, 0, 1, 2],
+    [6, 3, 2, 0, 0, 1, 2],
+    [6, 4, 2, 0, 0, 1, 2],
+    [6, 4, 2, 0, 0, 0, 2],
 ];
 
 fn node_word(i: usize) -> u32
-    requires { ⌜ i < 125 ⌝ }
+    requires { ⌜ i < 270 ⌝ }
 {
     NODES[i / 5][i % 5]
 }
 
-fn nodes() -> [u32; 125]
-    ensures { λ r. ⌜ 125 ≡ length r ⌝ }
+fn nodes() -> [u32; 270]
+    ensures { λ r. ⌜ 270 ≡ length r ⌝ }
 {
-    let mut words = [0u32; 125];
+    let mut words = [0u32; 270];
     let mut i: usize = 0;
-    while i < 125 {
+    while i < 270 {
         words[i] = node_word(i);
         i += 1;
     }
@@ -161,7 +245,7 @@ fn run(case: [u32; 7]) {
 
 fn main() {
     let mut i: usize = 0;
-    while i < 39 {
+    while i < 57 {
         run(CASES[i]);
         i += 1;
     }

@@ -1,10 +1,15 @@
 //! Answers and their printed form.
 
+use super::careful::Present;
 use std::fmt;
 
 pub struct Answer {
     /// None where the sheet could not be read.
     pub operation: Option<u32>,
+    /// Whether scoping 3 or 4 was asked for, with any operation.
+    pub careful: bool,
+    /// The present reading's answer, where the careful one refuses by structure.
+    pub present: Option<Present>,
     pub outcome: Outcome,
 }
 

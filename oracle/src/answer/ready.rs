@@ -49,7 +49,7 @@ impl Ready {
         Ok(Self {
             operation: sheet.operation,
             scoping: match sheet.scoping {
-                1 => ScopingMode::RespectParent,
+                1 | 3 => ScopingMode::RespectParent,
                 _ => ScopingMode::AllowShadowing,
             },
             first: expr(FIRST, sheet.first)?,

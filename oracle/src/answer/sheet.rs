@@ -14,6 +14,13 @@ pub struct Sheet<'a> {
     pub tables: Tables<'a>,
 }
 
+impl Sheet<'_> {
+    /// Document 02: scoping 3 and 4 act as 1 and 2 but for the reading.
+    pub fn is_careful(&self) -> bool {
+        self.scoping > 2
+    }
+}
+
 const COLUMN: usize = 6;
 const NUMBER_COLUMN: usize = 20;
 const UNREADABLE: u32 = 7;
@@ -33,7 +40,7 @@ pub fn read(bytes: &[u8]) -> Result<Sheet<'_>, Refusal> {
 
 fn read_rest(mut reader: Reader<'_>, counts: [u32; 6]) -> Option<Sheet<'_>> {
     let [operation, scheduler, scoping, first, second, key] = reader.line()?;
-    let listed = (1..=6).contains(&operation) && scheduler <= 1 && (1..=2).contains(&scoping);
+    let listed = (1..=6).contains(&operation) && scheduler <= 1 && (1..=4).contains(&scoping);
     let [nodes, children, numbers, names, strings, text] = counts.map(|count| count as usize);
     let tables = Tables {
         nodes: reader.lines(nodes, Reader::node)?,
@@ -209,7 +216,9 @@ mod tests {
         assert_eq!(with("     5     0     1", "     7     0     1"), UNREADABLE);
         assert_eq!(with("     5     0     1", "     5     2     1"), UNREADABLE);
         assert_eq!(with("     5     0     1", "     5     0     0"), UNREADABLE);
-        assert_eq!(with("     5     0     1", "     5     0     3"), UNREADABLE);
+        assert_eq!(with("     5     0     1", "     5     0     3"), 0);
+        assert_eq!(with("     5     0     1", "     5     0     4"), 0);
+        assert_eq!(with("     5     0     1", "     5     0     5"), UNREADABLE);
         assert_eq!(with("     1     1     0\n[", "     1     1    31\n["), 0);
         assert_eq!(with("     1     1     0\n[", "     1     1    32\n["), UNREADABLE);
     }

@@ -1,4 +1,4 @@
-//! Prints the Rust's listing of the sheet on standard input.
+//! Prints the oracle's listing of the sheet on standard input.
 
 use oracle::answer::answer;
 use std::io::{self, Read};

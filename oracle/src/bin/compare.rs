@@ -50,7 +50,7 @@ fn main() -> ExitCode {
 fn report(comparison: &Comparison, compared: bool) -> ExitCode {
     print!("{}", comparison.tally);
     if !compared {
-        println!("{} sheets answered by the Rust, none compared", comparison.sheets);
+        println!("{} sheets answered by the oracle, none compared", comparison.sheets);
         return ExitCode::SUCCESS;
     }
     let folder = Path::new("target/differences");

@@ -1,4 +1,4 @@
-//! Writes a list of the Rust's answers to standard output, chosen from the sheets of compare.
+//! Writes a list of the oracle's answers to standard output, chosen from the sheets of compare.
 
 use oracle::selection::select;
 use std::io::{self, BufWriter, Write};

@@ -12,7 +12,7 @@ fn main() -> ExitCode {
         let verdict = if listing == trial.expected { "ok    " } else { "FAILED" };
         println!("{verdict} {}", trial.name);
         if listing != trial.expected {
-            println!("expected:\n{}the Rust:\n{listing}", trial.expected);
+            println!("expected:\n{}the oracle:\n{listing}", trial.expected);
             failed += 1;
         }
     }

@@ -127,7 +127,7 @@ pub fn with_odd_words(random: &mut Random, mut draft: Draft) -> Vec<u8> {
     match random.below(5) {
         0 => draft.operation = *random.pick(&[0, 7, 8, 999_999]),
         1 => draft.scheduler = *random.pick(&[1, 2, 3]),
-        2 => draft.scoping = *random.pick(&[0, 2, 3, 4]),
+        2 => draft.scoping = *random.pick(&[0, 2, 4, 5, 6]),
         3 if !draft.names.is_empty() => {
             let place = random.below(draft.names.len());
             draft.names[place][2] = *random.pick(&[31, 32, 33, 64, 255]);

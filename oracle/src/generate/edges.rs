@@ -22,7 +22,7 @@ pub fn at_a_limit(random: &mut Random) -> Draft {
 fn any_operation(random: &mut Random, mut draft: Draft) -> Draft {
     let root = draft.roots[0];
     draft.operation = 1 + random.below(6) as u32;
-    draft.scoping = 1 + random.below(2) as u32;
+    draft.scoping = 1 + random.below(4) as u32;
     draft.roots = [root, root, *random.pick(&[0, root])];
     draft.names.iter_mut().for_each(|name| name[2] = random.below(4) as u32);
     draft
@@ -45,7 +45,7 @@ pub fn deep(random: &mut Random) -> Draft {
 
 /// Pairs whose plan has about as many entries as the buffer, or many more.
 pub fn many_entries(random: &mut Random) -> Draft {
-    match random.below(4) {
+    let draft = match random.below(4) {
         0 => limits::pairs(26, 57),
         1 => limits::pairs(5, 305),
         2 => {
@@ -53,5 +53,6 @@ pub fn many_entries(random: &mut Random) -> Draft {
             limits::pairs(times, 1532 / times + random.below(4) - 3)
         }
         _ => limits::pairs(2 + random.below(60), 2 + random.below(250)),
-    }
+    };
+    Draft { scoping: 1 + random.below(4) as u32, ..draft }
 }

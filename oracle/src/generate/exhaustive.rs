@@ -1,6 +1,7 @@
 //! All small patterns over two names, `_` and two literals, under all scopes over those names.
 
 use super::random::Random;
+use super::structures;
 use crate::sheets::{encode, Operation, Rule, Tree};
 use std::sync::OnceLock;
 
@@ -18,7 +19,7 @@ const SINGLES: [(Operation, bool); 5] = [
 const DOUBLES: [Operation; 3] = [Operation::ColonEquals, Operation::Equals, Operation::SomeIn];
 
 /// Every pattern of at most 4 nodes, and every two of at most 2, under all marks and both scheduler
-/// values; every two of at most 3 under three marks a name.
+/// values; every two of at most 3 under three marks a name; then all small structures.
 pub fn for_each_sheet(mut visit: impl FnMut(&[u8])) {
     let all_marks: Vec<u32> = (0..32).collect();
     let mut under = |rule: &Rule, marks: &[u32]| {
@@ -39,6 +40,7 @@ pub fn for_each_sheet(mut visit: impl FnMut(&[u8])) {
         under(&Rule { scheduler: true, ..rule }, &all_marks);
     }
     two_sided(3).for_each(|rule| under(&rule, &FEW_MARKS));
+    structures::for_each_rule(|rule| visit(&encode(rule).bytes()));
 }
 
 fn two_sided(size: usize) -> impl Iterator<Item = Rule> {
@@ -84,8 +86,8 @@ pub fn any(random: &mut Random) -> Vec<u8> {
         rule.key = random.chance(50).then(|| random.pick(patterns).clone());
     }
     let scope = NAMES.map(|name| (name.to_string(), random.below(32) as u32));
-    let scheduler = random.chance(50);
-    encode(&Rule { shadowing, scheduler, scope: scope.into(), ..rule }).bytes()
+    let (scheduler, careful) = (random.chance(50), random.chance(40));
+    encode(&Rule { shadowing, careful, scheduler, scope: scope.into(), ..rule }).bytes()
 }
 
 /// The patterns of at most `size` nodes.

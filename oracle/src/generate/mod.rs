@@ -1,5 +1,6 @@
 //! The seeded generator of sheets.
 
+mod apart;
 pub(crate) mod damage;
 pub(crate) mod disguise;
 mod edges;
@@ -9,6 +10,7 @@ mod mutate;
 mod palette;
 mod random;
 mod rules;
+mod structures;
 
 use crate::sheets::draft::Draft;
 use crate::sheets::encode;

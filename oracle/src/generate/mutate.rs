@@ -82,7 +82,7 @@ fn change_fields(random: &mut Random, palette: &Palette, fields: &mut Vec<(Tree,
 }
 
 /// A key of equal text, where there is one.
-fn respelled(key: &Tree) -> Tree {
+pub fn respelled(key: &Tree) -> Tree {
     match key {
         Tree::Number(number) => Tree::String(number.to_string()),
         Tree::Bool(value) => Tree::String(value.to_string()),

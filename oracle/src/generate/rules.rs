@@ -1,5 +1,6 @@
 //! Random rules of the six operations.
 
+use super::apart::apart;
 use super::grow::{after_matches, grow, mirror, twins};
 use super::mutate::{mutate, reshape};
 use super::palette::Palette;
@@ -18,6 +19,7 @@ pub fn rule(random: &mut Random) -> Rule {
     };
     rule.scheduler = random.chance(50);
     rule.shadowing = random.chance(50);
+    rule.careful = random.chance(40);
     if rule.second.is_none() && random.chance(15) {
         // Roots that the operation does not use.
         rule.second = Some(grow(random, &palette, 1));
@@ -40,8 +42,17 @@ fn pattern(random: &mut Random, palette: &Palette) -> Tree {
     }
 }
 
+/// Sides on which the readings of the structure check differ.
+fn apart_sides(random: &mut Random, palette: &Palette) -> (Tree, Tree) {
+    let depth = random.weighted(&[40, 45, 15]);
+    apart(random, palette, depth)
+}
+
 /// A pattern and a value that it nearly takes apart.
 fn near_sides(random: &mut Random, palette: &Palette) -> (Tree, Tree) {
+    if random.chance(35) {
+        return apart_sides(random, palette);
+    }
     let left = pattern(random, palette);
     let right = near(random, palette, &left);
     match random.weighted(&[50, 25, 25]) {
@@ -79,7 +90,7 @@ fn colon_equals(random: &mut Random, palette: &Palette) -> Rule {
 }
 
 fn equals(random: &mut Random, palette: &Palette) -> Rule {
-    let (mut left, mut right) = match random.weighted(&[65, 20, 10, 5]) {
+    let (mut left, mut right) = match random.weighted(&[55, 30, 10, 5]) {
         0 => {
             let depth = random.weighted(&[10, 40, 40, 10]);
             twins(random, palette, depth)
@@ -103,12 +114,20 @@ fn equals(random: &mut Random, palette: &Palette) -> Rule {
 }
 
 fn some_in(random: &mut Random, palette: &Palette) -> Rule {
-    let value = pattern(random, palette);
-    let collection = if random.chance(75) {
-        let count = random.weighted(&[5, 45, 30, 20]);
-        Tree::Array((0..count).map(|_| near(random, palette, &value)).collect())
-    } else {
-        grow(random, palette, 2)
+    let (value, collection) = match random.weighted(&[55, 25, 20]) {
+        0 => {
+            let value = pattern(random, palette);
+            let count = random.weighted(&[5, 45, 30, 20]);
+            let items = (0..count).map(|_| near(random, palette, &value)).collect();
+            (value, Tree::Array(items))
+        }
+        1 => {
+            let (value, item) = apart_sides(random, palette);
+            let mut items = vec![item; 1 + random.weighted(&[50, 30, 20])];
+            items[1..].iter_mut().for_each(|item| reshape(random, palette, item));
+            (value, Tree::Array(items))
+        }
+        _ => (pattern(random, palette), grow(random, palette, 2)),
     };
     let key = random.chance(40).then(|| grow(random, palette, 1));
     Rule { key, ..Rule::two_sided(Operation::SomeIn, value, collection) }

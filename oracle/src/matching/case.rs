@@ -74,7 +74,7 @@ impl Case {
     /// Whether a name is unbound, by its number; `_` is not asked for.
     pub fn is_unbound(&self, name: u32) -> bool {
         let marks = self.marks.get(name as usize - 1).copied().unwrap_or(0);
-        is_unbound(marks.into(), self.scheduler == 1, self.scoping == 2)
+        is_unbound(marks.into(), self.scheduler == 1, matches!(self.scoping, 2 | 4))
     }
 }
 

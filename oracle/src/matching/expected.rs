@@ -100,9 +100,9 @@ fn checked_plan(case: &Case) -> Result<Vec<u32>, u32> {
     }
 }
 
-/// A scheduler and a scoping that document 01 lists.
+/// A scheduler and a scoping that documents 01 and 02 list.
 fn is_listed(case: &Case) -> bool {
-    case.scheduler <= 1 && (1..=2).contains(&case.scoping)
+    case.scheduler <= 1 && (1..=4).contains(&case.scoping)
 }
 
 /// No marks above 31 among those that count.
@@ -156,9 +156,9 @@ mod tests {
         case.marks[x as usize - 1] = 1;
         case.room = 0;
         case.values.clear();
-        case.scoping = 3;
+        case.scoping = 5;
         assert_eq!(number(&case), 7);
-        case.scoping = 1;
+        case.scoping = 3;
         case.marks.resize(MARKS, 0);
         case.marks[MARKS - 1] = 32;
         assert_eq!(number(&case), 2);

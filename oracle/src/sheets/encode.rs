@@ -8,7 +8,7 @@ pub fn encode(rule: &Rule) -> Draft {
         draft: Draft {
             operation: rule.operation as u32,
             scheduler: rule.scheduler.into(),
-            scoping: if rule.shadowing { 2 } else { 1 },
+            scoping: 1 + u32::from(rule.shadowing) + 2 * u32::from(rule.careful),
             ..Draft::default()
         },
         names: Vec::new(),

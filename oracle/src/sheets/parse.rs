@@ -1,5 +1,5 @@
 //! Rules written by hand, for the trials: `[x, 1] = [1, x]`, `some k, v in xs`, `index [x, x]`,
-//! `shadowing parameter x`, `scheduler index x`.
+//! `shadowing parameter x`, `scheduler index x`, `careful [x, [y]] := [1, []]`.
 
 use super::tree::{Operation, Rule, Tree};
 
@@ -7,6 +7,9 @@ use super::tree::{Operation, Rule, Tree};
 pub fn rule(text: &str) -> Rule {
     if let Some(text) = text.strip_prefix("scheduler ") {
         return Rule { scheduler: true, ..rule(text) };
+    }
+    if let Some(text) = text.strip_prefix("careful ") {
+        return Rule { careful: true, ..rule(text) };
     }
     if let Some(text) = text.strip_prefix("shadowing ") {
         return Rule { shadowing: true, ..rule(text) };

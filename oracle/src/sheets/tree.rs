@@ -65,12 +65,14 @@ pub struct Rule {
     pub key: Option<Tree>,
     pub scheduler: bool,
     pub shadowing: bool,
+    /// The careful reading: scoping 3 and 4 for 1 and 2.
+    pub careful: bool,
     /// Names with their marks; one that is not listed has none.
     pub scope: Vec<(String, u32)>,
 }
 
 impl Rule {
-    /// Under RespectParent, with no name marked.
+    /// Under RespectParent in the present reading, with no name marked.
     pub fn new(operation: Operation, first: Tree) -> Self {
         Self {
             operation,
@@ -79,6 +81,7 @@ impl Rule {
             key: None,
             scheduler: false,
             shadowing: false,
+            careful: false,
             scope: Vec::new(),
         }
     }

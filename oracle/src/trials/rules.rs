@@ -128,6 +128,73 @@ const NUMBERS: &[Row] = &[
     ("[x, -9223372036854775808] = [18446744073709551615, y]", &[], "0 4 0 4, 7 4 1 0 0, 1 1 0 0 1, 7 2 1 0 0, 1 5 0 0 1"),
 ];
 
+/// Document 02, slip 10: the careful reading, by scoping 3 and, with shadowing, 4.
+#[rustfmt::skip]
+const CAREFUL: &[Row] = &[
+    ("careful [x, [y]] := [1, [1, 2]]", &[], "13 8 1 2"),
+    ("careful shadowing [x, [y]] := [1, [1, 2]]", &[], "13 8 1 2"),
+    ("careful [x, [y]] = [1, [1, 2]]", &[], "13 8 1 2"),
+    ("careful [1, [1, 2]] = [x, [y]]", &[], "13 4 1 2"),
+    ("careful [x, {\"a\": y}] := [1, {\"b\": 2}]", &[], "14 9 4 0"),
+    ("careful [_, [1]] := [1, [1, 2]]", &[], "13 8 1 2"),
+    // What has no mismatch is planned as in the present reading.
+    ("careful [x, [y]] := [1, [2]]", &[], "0 1 0 4, 5 4 2 0 0, 1 1 0 0 1, 5 3 1 0 2, 1 2 0 0 1"),
+    ("careful [x, {}] := [1, {\"a\": 1}]", &[], "0 1 0 3, 5 3 2 0 0, 1 1 0 0 1, 6 2 0 0 2"),
+    ("careful [x, [y]] := [1, {\"a\": 1}]", &[], "0 1 0 4, 5 4 2 0 0, 1 1 0 0 1, 5 3 1 0 2, 1 2 0 0 1"),
+    // The first mismatch met, a nested one before those behind it.
+    ("careful [[x, [y]], [z]] := [[1, []], [1, 2]]", &[], "13 9 1 0"),
+    ("careful [x, [y], [z]] := [1, 2, [1, 2]]", &[], "13 11 1 2"),
+    // Unknown by a computed field, by computed fields alone, by a field without a partner.
+    (r#"careful [{"a": [], k: x}, [y]] := [{"a": []}, [1, 2]]"#, &[], "13 14 1 2"),
+    ("careful [{k: x}, [y]] := [{}, [1, 2]]", &[], "13 10 1 2"),
+    (r#"careful [{1: x}, [y]] := [{"1": 2}, [1, 2]]"#, &[], "13 12 1 2"),
+    (r#"careful {k: x, "a": [y]} := {"a": [1, 2]}"#, &[], "13 10 1 2"),
+    // A computed key of the value is passed over, a computed field of the pattern looks at nothing.
+    (r#"careful {"a": [x]} := {k: 1, "a": [1, 2]}"#, &[], "13 10 1 2"),
+    (r#"careful {k: [x], "a": y} := {"a": 1}"#, &[], "0 1 0 4, 6 6 2 0 0, 1 5 0 4 2, 5 3 1 1 1, 1 2 0 0 1"),
+    // Fields in plan order, which is key order: the present reading says 13 11 1 2 of the first.
+    (r#"careful {"b": [x], "a": [y]} := {"b": [1, 2], "a": [1, 2, 3]}"#, &[], "13 16 1 3"),
+    (r#"careful {"a": [x], "b": [y]} := {"b": [1, 2], "a": [1, 2, 3]}"#, &[], "13 16 1 3"),
+    (r#"careful {"a": x, "b": [y]} := {"a": 1, "b": [1, 2]}"#, &[], "13 12 1 2"),
+    // The last field of a pattern's key, with every value field of an equal key.
+    (r#"careful {"a": [x], "a": [y, z]} := {"a": [1]}"#, &[], "13 11 2 1"),
+    (r#"careful {"a": [x], "a": [y, z]} := {"a": [1, 2]}"#, &[],
+        "0 1 0 4, 6 8 1 0 0, 5 7 2 4 2, 1 5 0 0 1, 1 6 0 0 2"),
+    (r#"careful {1: [a], "1": [b]} := {"1": [1, 2], "1": [3]}"#, &[], "13 11 1 2"),
+    (r#"careful {1: [a], "1": [b]} := {"1": [3], "1": [1, 2]}"#, &[], "13 14 1 2"),
+    (r#"careful {1: [a], "1": [b]} := {"1": [1, 2], 1: [1, 2, 3]}"#, &[], "13 16 1 3"),
+    // Partners are equal as keys, not as texts.
+    (r#"careful {1: [x]} := {"1": [1, 2]}"#, &[], "0 1 0 3, 6 4 1 0 0, 5 3 1 1 1, 1 2 0 0 1"),
+    (r#"careful {`a`: [x]} := {"a": [1, 2]}"#, &[], "13 8 1 2"),
+    // Some-in: nothing is refused where an item fits, else the first mismatch.
+    ("careful some [x, [y]] in [[1, [1, 2]]]", &[], "13 8 1 2"),
+    ("careful some [x, [y]] in [[1, [1, 2]], [1, []], []]", &[], "13 8 1 2"),
+    ("careful some [x, [y]] in [[1, [1, 2]], [1, [2]]]", &[], "0 0 0 4, 5 4 2 0 0, 1 1 0 0 1, 5 3 1 0 2, 1 2 0 0 1"),
+    ("careful some [x, [y]] in [[1, [1, 2]], f()]", &[], "0 0 0 4, 5 4 2 0 0, 1 1 0 0 1, 5 3 1 0 2, 1 2 0 0 1"),
+    ("careful some [x, [y]] in []", &[], "0 0 0 4, 5 4 2 0 0, 1 1 0 0 1, 5 3 1 0 2, 1 2 0 0 1"),
+    ("careful some k, [x, [y]] in [[1, [1, 2]]]", &[("x", BOUND)], "17 1 0 0"),
+    // Refusals that come before.
+    ("careful [x, [y]] := [1, [1, 2]]", &[("x", SAME_SCOPE)], "17 1 0 0"),
+    ("careful [1, [2]] := [1, [1, 2]]", &[], "11 4 0 0"),
+    (r#"careful [x, [y]] := {"a": 1}"#, &[], "18 4 0 0"),
+    (r#"careful {"a": [1, 2]} = [x, [y]]"#, &[], "18 9 0 0"),
+    // Pairs, checks and wildcards have no structure check.
+    ("careful [x, [y], 1] = [1, [1, 2], z]", &[], "12 3 1 2"),
+    ("careful [x, 1] = [1, x]", &[], "0 4 0 4, 7 4 1 0 0, 1 1 0 0 1, 7 5 1 0 0, 3 2 0 0 1"),
+    ("careful [1, [1]] = [1, [1, 2]]", &[], "0 5 0 0"),
+    ("careful _ = [1, y]", &[], "0 6 1 0"),
+    // The other operations read 3 as 1 and 4 as 2.
+    ("careful pattern x", &[("x", BOUND)], "0 0 0 1, 3 1 0 0 0"),
+    ("careful shadowing pattern x", &[("x", BOUND)], "0 0 0 1, 1 1 0 0 0"),
+    ("careful index x", &[("x", BOUND)], "0 0 0 1, 3 1 0 0 0"),
+    ("careful shadowing index x", &[("x", BOUND)], "0 0 0 1, 3 1 0 0 0"),
+    ("careful parameter {x}", &[("x", BOUND)], "0 0 0 1, 3 2 0 0 0"),
+    ("careful shadowing parameter {x}", &[("x", BOUND)], "17 1 0 0"),
+    // They read nothing else of it.
+    ("careful shadowing some x in xs", &[("x", BOUND)], "17 1 0 0"),
+    ("careful shadowing x = 1", &[("x", BOUND)], "0 5 0 0"),
+];
+
 /// Smallest inputs where the Rust and the Rego reference differ, beside those above.
 #[rustfmt::skip]
 const DIFFERENCES: &[Row] = &[
@@ -145,7 +212,7 @@ const DIFFERENCES: &[Row] = &[
 ];
 
 pub fn trials() -> impl Iterator<Item = Trial> {
-    [ON_TRIAL, SENTENCES, NUMBERS, DIFFERENCES].into_iter().flatten().map(of_row)
+    [ON_TRIAL, SENTENCES, NUMBERS, CAREFUL, DIFFERENCES].into_iter().flatten().map(of_row)
 }
 
 fn of_row((text, scope, expected): &Row) -> Trial {

@@ -26,6 +26,7 @@ use Rattle.planner.proofs.buffer.ReadBack.{read-words}
 use Rattle.planner.proofs.laws.Operations.{root-node}
 use Rattle.checks.specs.declared.LiteralStructureCheck.{LiteralStructureCheck}
 use Rattle.checks.specs.declared.LiteralStructureCheck.the-variants.{Match, Unknown, ArrayMismatch, ObjectMismatch}
+use Rattle.checks.specs.declared.Reading.{Reading}
 use Rattle.checks.specs.Structure.{structure}
 use Rattle.checks.specs.Refusals.{unlessMismatch}
 use Rattle.assignment.specs.Pairs.{shapeOf}
@@ -37,8 +38,8 @@ use Rattle.assignment.specs.Assignment.{opposed, bindSide, bySides, side
 use Rattle.assignment.specs.PairsDemand.{AnswerPromise, PairsDemand}
 
 module _ (T : Tables) (s : Scope) where
-  bind-keeps : (form binding value : ℕ) (es : List Entry) → (form ≡ 4 → ⊥) → Keeps T s (bindSide T form binding value es)
-  bind-keeps form binding value es other = go (opposed (shapeOf (expr T binding)) (shapeOf (expr T value))) (structure (expr T value) (expr T binding))
+  bind-keeps : (form binding value : ℕ) (reading : Reading) (es : List Entry) → (form ≡ 4 → ⊥) → Keeps T s (bindSide T form binding value reading es)
+  bind-keeps form binding value reading es other = go (opposed (shapeOf (expr T binding)) (shapeOf (expr T value))) (structure reading (expr T value) (expr T binding))
     where
       go : (b : Bool) (c : LiteralStructureCheck) → Keeps T s (require (not b) (incompatibleDestructuringPatterns binding) (unlessMismatch c (planned form 0 es)))
       go true c = tt
@@ -48,16 +49,16 @@ module _ (T : Tables) (s : Scope) where
       go false (ObjectMismatch v p) = tt
 
   module _ (left right : ℕ) (p : simple (expr T left) ≡ true) (q : simple (expr T right) ≡ true) where
-    sides-keep : (w : WellFormed T) → Node T left → Node T right → (b c : Bool) (ls rs : List Entry) → Keeps T s (bySides b c T s left right ls rs)
-    sides-keep w l r true true ls rs = pairs-keep T s w left right l r p q
-    sides-keep w l r true false ls rs = bind-keeps 2 left right ls (λ e. omega arith)
-    sides-keep w l r false true ls rs = bind-keeps 3 right left rs (λ e. omega arith)
-    sides-keep w l r false false ls rs = λ e. absurd (omega arith)
+    sides-keep : (reading : Reading) (w : WellFormed T) → Node T left → Node T right → (b c : Bool) (ls rs : List Entry) → Keeps T s (bySides b c T s left right reading ls rs)
+    sides-keep reading w l r true true ls rs = pairs-keep T s w left right l r p q
+    sides-keep reading w l r true false ls rs = bind-keeps 2 left right reading ls (λ e. omega arith)
+    sides-keep reading w l r false true ls rs = bind-keeps 3 right left reading rs (λ e. omega arith)
+    sides-keep reading w l r false false ls rs = λ e. absurd (omega arith)
 
-    outcome-keeps : Keeps T s (assignmentOutcome T s Eq left right)
-    outcome-keeps = go (checked T s) refl
+    outcome-keeps : (reading : Reading) → Keeps T s (assignmentOutcome T s Eq left right reading)
+    outcome-keeps reading = go (checked T s) refl
       where
-        in-table : checked T s ≡ Refusal.passed → (b : Bool) → allNodes T (left ∷ (right ∷ [])) ≡ b → (c : Bool) → Keeps T s (require b rootOutside (cond c (equalsSides T s left right) (planned 6 (sideOf T left right) [])))
+        in-table : checked T s ≡ Refusal.passed → (b : Bool) → allNodes T (left ∷ (right ∷ [])) ≡ b → (c : Bool) → Keeps T s (require b rootOutside (cond c (equalsSides T s left right reading) (planned 6 (sideOf T left right) [])))
         in-table ok false i c = tt
         in-table ok true i false = λ e. absurd (omega arith)
         in-table ok true i true =
@@ -65,10 +66,10 @@ module _ (T : Tables) (s : Scope) where
             let d = and-true (isNode T right) true (b .1) in
             let ls = entries (planOf T s RespectParent left) top in
             let rs = entries (planOf T s RespectParent right) top in
-            sides-keep (sound-table T s ok .wellFormed) (root-node T left refl (ap not (b .0))) (root-node T right refl (ap not (d .0)))
+            sides-keep reading (sound-table T s ok .wellFormed) (root-node T left refl (ap not (b .0))) (root-node T right refl (ap not (d .0)))
             (bindsAny ls) (bindsAny rs) ls rs
 
-        go : (c : Tested) → checked T s ≡ c → Keeps T s (tableFirst c (require (allNodes T (left ∷ (right ∷ []))) rootOutside (equalsPlanned T s left right)))
+        go : (c : Tested) → checked T s ≡ c → Keeps T s (tableFirst c (require (allNodes T (left ∷ (right ∷ []))) rootOutside (equalsPlanned T s left right reading)))
         go Refusal.passed ok = in-table ok (allNodes T (left ∷ (right ∷ []))) refl (eqb (sideOf T left right) 0)
         go (Refusal.refused r) e = tt
 
@@ -87,8 +88,8 @@ module _ (T : Tables) (s : Scope) where
 
     pub answer-promise : AnswerPromise T s left right
     answer-promise = record {
-      entries = λ side es e. (rw e at outcome-keeps) refl;
-      buffer = λ before after side count r. buffer-keeps (assignmentOutcome T s Eq left right) outcome-keeps before after side count r;
+      entries = λ reading side es e. (rw e at (outcome-keeps reading)) refl;
+      buffer = λ reading before after side count r. buffer-keeps (assignmentOutcome T s Eq left right reading) (outcome-keeps reading) before after side count r;
     }
 
 pub pairs-demand : PairsDemand

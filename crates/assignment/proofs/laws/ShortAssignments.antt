@@ -20,6 +20,7 @@ use Rattle.planner.specs.Short.{ShortEntry, Every, ShortOutcome}
 use Rattle.planner.proofs.laws.Operations.{root-node}
 use Rattle.planner.proofs.laws.ShortPlans.{SmallTree}
 use Rattle.planner.proofs.laws.ShortOutcomes.{short, refusal-short, planned-short, require-short, checked-short, root-small, entries-few, entries-short}
+use Rattle.checks.specs.declared.Reading.{Reading}
 use Rattle.checks.specs.Structure.{structure}
 use Rattle.checks.specs.Refusals.{unlessMismatch}
 use Rattle.checks.proofs.ShortChecks.{mismatch-short, structure-short}
@@ -52,15 +53,15 @@ first-short nodes s (e ∷ es) p = go (boundHere nodes s (e .kind) (e .node)) (f
     go true r = p .0 .front .two
     go false r = r
 
-module _ (T : Tables) (s : Scope) where
-  bind-short : (form binding value : ℕ) (es : List Entry) → form ≤ 6 → binding ≤ 512 → SmallTree (expr T binding) → SmallTree (expr T value) → length es ≤ 512 → Every ShortEntry es → ShortOutcome (bindSide T form binding value es)
+module _ (T : Tables) (s : Scope) (reading : Reading) where
+  bind-short : (form binding value : ℕ) (es : List Entry) → form ≤ 6 → binding ≤ 512 → SmallTree (expr T binding) → SmallTree (expr T value) → length es ≤ 512 → Every ShortEntry es → ShortOutcome (bindSide T form binding value reading es)
   bind-short form binding value es f low small other few each =
-      let c = structure (expr T value) (expr T binding) in
+      let c = structure reading (expr T value) (expr T binding) in
       require-short (not (opposed (shapeOf (expr T binding)) (shapeOf (expr T value)))) (incompatibleDestructuringPatterns binding) (unlessMismatch c (planned form 0 es)) (refusal-short (omega arith) low)
-      (λ t. mismatch-short c (planned form 0 es) (structure-short (expr T value) (expr T binding) other small) (planned-short form 0 es f (omega arith) (omega arith) each))
+      (λ t. mismatch-short c (planned form 0 es) (structure-short reading (expr T value) (expr T binding) other small) (planned-short form 0 es f (omega arith) (omega arith) each))
 
   module _ (w : WellFormed T) (left right : ℕ) (l : isNode T left ≡ true) (r : isNode T right ≡ true) where
-    colon-short : ShortOutcome (colonEqualsPlanned T s left right)
+    colon-short : ShortOutcome (colonEqualsPlanned T s left right reading)
     colon-short =
         let small = root-small T w left l in
         let es = entries (planOf T s AllowShadowing left) top in
@@ -71,7 +72,7 @@ module _ (T : Tables) (s : Scope) where
         (let f = first-short (T .nodes) s es each in short (omega arith) f (omega arith) (omega arith))
         (λ u. bind-short 1 left right es (omega arith) low small (root-small T w right r) (entries-few T s AllowShadowing left small) each))
 
-    sides-short : (a b : Bool) → ShortOutcome (bySides a b T s left right (entries (planOf T s RespectParent left) top) (entries (planOf T s RespectParent right) top))
+    sides-short : (a b : Bool) → ShortOutcome (bySides a b T s left right reading (entries (planOf T s RespectParent left) top) (entries (planOf T s RespectParent right) top))
     sides-short true true = pairs-short (isUnbound s RespectParent) (expr T right) (expr T left) [] (root-small T w right r) (root-small T w left l)
     sides-short false false = planned-short 5 0 [] (omega arith) (omega arith) (omega arith) tt
     sides-short true false =
@@ -81,18 +82,18 @@ module _ (T : Tables) (s : Scope) where
         bind-short 3 right left (entries (planOf T s RespectParent right) top) (omega arith) (root-low T w right r) (root-small T w right r) (root-small T w left l)
         (entries-few T s RespectParent right (root-small T w right r)) (entries-short T s RespectParent right (root-small T w right r))
 
-    equals-short : ShortOutcome (equalsPlanned T s left right)
+    equals-short : ShortOutcome (equalsPlanned T s left right reading)
     equals-short = go (eqb (sideOf T left right) 0)
       where
-        go : (b : Bool) → ShortOutcome (cond b (equalsSides T s left right) (planned 6 (sideOf T left right) []))
+        go : (b : Bool) → ShortOutcome (cond b (equalsSides T s left right reading) (planned 6 (sideOf T left right) []))
         go true = sides-short (bindsAny (entries (planOf T s RespectParent left) top)) (bindsAny (entries (planOf T s RespectParent right) top))
         go false = planned-short 6 (sideOf T left right) [] (omega arith) (side-low (isUnderscore (expr T left)) (isUnderscore (expr T right))) (omega arith) tt
 
-    operator-short : (op : AssignOp) → ShortOutcome (byOperator op T s left right)
+    operator-short : (op : AssignOp) → ShortOutcome (byOperator op T s left right reading)
     operator-short ColEq = colon-short
     operator-short Eq = equals-short
 
-pub assignment-short : (T : Tables) (s : Scope) (op : AssignOp) (left right : ℕ) → ShortOutcome (assignmentOutcome T s op left right)
-assignment-short T s op left right =
-    checked-short T s (left ∷ (right ∷ [])) (byOperator op T s left right)
-    (λ w both. let b = and-true (isNode T left) _ both in operator-short T s w left right (b .0) (and-true (isNode T right) _ (b .1) .0) op)
+pub assignment-short : (T : Tables) (s : Scope) (op : AssignOp) (left right : ℕ) (reading : Reading) → ShortOutcome (assignmentOutcome T s op left right reading)
+assignment-short T s op left right reading =
+    checked-short T s (left ∷ (right ∷ [])) (byOperator op T s left right reading)
+    (λ w both. let b = and-true (isNode T left) _ both in operator-short T s reading w left right (b .0) (and-true (isNode T right) _ (b .1) .0) op)

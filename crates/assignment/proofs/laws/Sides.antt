@@ -37,6 +37,7 @@ use Rattle.assignment.proofs.preview.Previews.{previewed-entries, previ
 use Rattle.assignment.specs.declared.AssignOp.{AssignOp}
 use Rattle.assignment.specs.declared.AssignOp.the-variants.{ColEq, Eq}
 use Rattle.planner.specs.Entries.{readEntries}
+use Rattle.checks.specs.declared.Reading.{Reading}
 use Rattle.assignment.specs.Assignment.{bindSide, firstSameScope, colonEqualsFrom, colonEqualsPlanned, isUnderscore, wildcardSide, sideOf, pairsOutcome, equalsSides, equalsPlanned, byOperator, assignmentOutcome}
 use Rattle.assignment.specs.code.Binding.{BindAsks, underscoreAt, underscoreSide, RightBound}
 use Rattle.checks.proofs.Refused.{passes-undefined, refuses-defined}
@@ -52,20 +53,20 @@ none-delivered form side {before} e =
     leb-zero n = le-leb 0 n (omega arith)
 
 -- `:=` from the left side's entries
-module _ (T : Tables) (s : Scope) (left right : ℕ) (es : List Entry) {before later : List ℕ} {b : Bool} (of : b ≡ bindsAny es) where
-  pub colon-unbound : not b ≡ true → later ≡ replicate (length before) 0 → Answered (colonEqualsFrom T s left right es) before later (ColonEqualsRequiresBindableLeft left)
+module _ (T : Tables) (s : Scope) (left right : ℕ) (reading : Reading) (es : List Entry) {before later : List ℕ} {b : Bool} (of : b ≡ bindsAny es) where
+  pub colon-unbound : not b ≡ true → later ≡ replicate (length before) 0 → Answered (colonEqualsFrom T s left right reading es) before later (ColonEqualsRequiresBindableLeft left)
   colon-unbound n z = let p : bindsAny es ≡ false = sym of ∙ not-true b n in simp p (refuses (colonEqualsRequiresBindableLeft left) refl z)
 
   module _ (binds : not b ≡ false) {name : ℕ} (is : name ≡ firstSameScope (T .nodes) s es) where
-    pub colon-defined : (name ≡ 0 → ⊥) → later ≡ replicate (length before) 0 → Answered (colonEqualsFrom T s left right es) before later (VariableAlreadyDefined name)
+    pub colon-defined : (name ≡ 0 → ⊥) → later ≡ replicate (length before) 0 → Answered (colonEqualsFrom T s left right reading es) before later (VariableAlreadyDefined name)
     colon-defined d z =
         let p : bindsAny es ≡ true = sym of ∙ not-false b binds in
-        simp (p, sym is) (refuses-defined (bindSide T 1 left right es) d z)
+        simp (p, sym is) (refuses-defined (bindSide T 1 left right reading es) d z)
 
-    pub colon-binds : {r : PlanAnswer} → name ≡ 0 → Answered (bindSide T 1 left right es) before later r → Answered (colonEqualsFrom T s left right es) before later r
+    pub colon-binds : {r : PlanAnswer} → name ≡ 0 → Answered (bindSide T 1 left right reading es) before later r → Answered (colonEqualsFrom T s left right reading es) before later r
     colon-binds e a =
         let p : bindsAny es ≡ true = sym of ∙ not-false b binds in
-        simp (p, sym is) (passes-undefined (bindSide T 1 left right es) e a)
+        simp (p, sym is) (passes-undefined (bindSide T 1 left right reading es) e a)
 
 -- a side's plan in a scratch
 module _ (T : Tables) (a b : ℕ) (g : GoodPair T a b) where
@@ -86,10 +87,10 @@ module _ (T : Tables) (a b : ℕ) (g : GoodPair T a b) where
         let long = wrote-long (p .wrote) in
         record { pair = g; read = record { few = p .few; held = omega arith } }
 
-    pub colon-planned : {plan later : List ℕ} {r : PlanAnswer} → Answered (colonEqualsFrom T s a b (readEntries scratch 0 count)) plan later r → Answered (colonEqualsPlanned T s a b) plan later r
-    colon-planned {plan} {later} {r} answer =
+    pub colon-planned : (reading : Reading) {plan later : List ℕ} {r : PlanAnswer} → Answered (colonEqualsFrom T s a b reading (readEntries scratch 0 count)) plan later r → Answered (colonEqualsPlanned T s a b reading) plan later r
+    colon-planned reading {plan} {later} {r} answer =
         let e = wrote-read (p .wrote) held in
-        subst (λ (es : List Entry). Answered (colonEqualsFrom T s a b es) plan later r) e answer
+        subst (λ (es : List Entry). Answered (colonEqualsFrom T s a b reading es) plan later r) e answer
 
 -- underscores, as the code tests them
 module _ (nodes names text : List ℕ) (n : ℕ) {kind : ℕ} (is-kind : kind ≡ kindOf nodes n) where
@@ -167,65 +168,65 @@ module _ (T : Tables) (s : Scope) (left right : ℕ) (g : GoodPair T left right)
     right-is : bindsAny (entries (planOf T s RespectParent right) top) ≡ other
     right-is = told-by (g .second) (told .right-told)
 
-    module _ {before later : List ℕ} {answer : PlanAnswer} where
-      pub equals-both : one ≡ true → other ≡ true → Answered (pairsOutcome T s left right) before later answer → Answered (equalsSides T s left right) before later answer
+    module _ (reading : Reading) {before later : List ℕ} {answer : PlanAnswer} where
+      pub equals-both : one ≡ true → other ≡ true → Answered (pairsOutcome T s left right) before later answer → Answered (equalsSides T s left right reading) before later answer
       equals-both p q a = simp (left-is ∙ p, right-is ∙ q) a
 
-      pub equals-left : one ≡ true → other ≡ false → Answered (bindSide T 2 left right (readEntries scratch 0 count)) before later answer → Answered (equalsSides T s left right) before later answer
+      pub equals-left : one ≡ true → other ≡ false → Answered (bindSide T 2 left right reading (readEntries scratch 0 count)) before later answer → Answered (equalsSides T s left right reading) before later answer
       equals-left p q a =
           let e = read-by (g .first) (told .left-seen) in
           simp (left-is ∙ p, right-is ∙ q) (rw e at a)
 
-      pub equals-right : one ≡ false → other ≡ true → Answered (bindSide T 3 right left (entries (plan (unboundIn states) (expr T right) []) top)) before later answer → Answered (equalsSides T s left right) before later answer
+      pub equals-right : one ≡ false → other ≡ true → Answered (bindSide T 3 right left reading (entries (plan (unboundIn states) (expr T right) []) top)) before later answer → Answered (equalsSides T s left right reading) before later answer
       equals-right p q a =
           let e = same (g .second) in
           simp (left-is ∙ p, right-is ∙ q) (rw e at a)
 
-      pub equals-none : one ≡ false → other ≡ false → Answered (planned 5 0 []) before later answer → Answered (equalsSides T s left right) before later answer
+      pub equals-none : one ≡ false → other ≡ false → Answered (planned 5 0 []) before later answer → Answered (equalsSides T s left right reading) before later answer
       equals-none p q a = simp (left-is ∙ p, right-is ∙ q) a
 
 -- the right side, planned anew
-pub bound-right : {T : Tables} {states : List ℕ} (left : ℕ) {right : ℕ} {start binders scratch : List ℕ} {count : ℕ} {b : Bool} → Previewed T states right 0 start binders scratch count b → {before later : List ℕ} {r : PlanAnswer}
-    → Answered (bindSide T 3 right left (readEntries scratch 0 count)) before later r → RightBound T states left right start binders scratch before later r
-bound-right left seen answer = record { answered = rw (previewed-entries seen) at answer; written = previewed-written seen }
+pub bound-right : {T : Tables} {states : List ℕ} (left : ℕ) {right : ℕ} (reading : Reading) {start binders scratch : List ℕ} {count : ℕ} {b : Bool} → Previewed T states right 0 start binders scratch count b → {before later : List ℕ} {r : PlanAnswer}
+    → Answered (bindSide T 3 right left reading (readEntries scratch 0 count)) before later r → RightBound T states left right reading start binders scratch before later r
+bound-right left reading seen answer = record { answered = rw (previewed-entries seen) at answer; written = previewed-written seen }
 
 -- the wildcard form, or the sides
-module _ (T : Tables) (s : Scope) (left right : ℕ) (g : GoodPair T left right) {side : ℕ} (is : side ≡ underscoreSide (T .nodes) (T .names) (T .text) left right) where
+module _ (T : Tables) (s : Scope) (left right : ℕ) (reading : Reading) (g : GoodPair T left right) {side : ℕ} (is : side ≡ underscoreSide (T .nodes) (T .names) (T .text) left right) where
   side-is : sideOf T left right ≡ side
   side-is = sym (is ∙ ap₂ wildcardSide (underscore-is T left (g .table) (g .first)) (underscore-is T right (g .table) (g .second)))
 
-  pub equals-wild : {before later : List ℕ} {r : PlanAnswer} → (side ≡ 0 → ⊥) → Answered (planned 6 side []) before later r → Answered (equalsPlanned T s left right) before later r
+  pub equals-wild : {before later : List ℕ} {r : PlanAnswer} → (side ≡ 0 → ⊥) → Answered (planned 6 side []) before later r → Answered (equalsPlanned T s left right reading) before later r
   equals-wild d a = let q = ne-eqb side 0 d in simp (side-is, q) a
 
-  pub equals-sides : {before later : List ℕ} {r : PlanAnswer} → side ≡ 0 → Answered (equalsSides T s left right) before later r → Answered (equalsPlanned T s left right) before later r
+  pub equals-sides : {before later : List ℕ} {r : PlanAnswer} → side ≡ 0 → Answered (equalsSides T s left right reading) before later r → Answered (equalsPlanned T s left right reading) before later r
   equals-sides e a = let q = side-is ∙ e in simp q a
 
 -- by the operator
-module _ (T : Tables) (s : Scope) (op : AssignOp) (left right : ℕ) {before later : List ℕ} {r : PlanAnswer} where
-  pub assigns-colon : op ≡ ColEq → Answered (colonEqualsPlanned T s left right) before later r → Answered (byOperator op T s left right) before later r
+module _ (T : Tables) (s : Scope) (op : AssignOp) (left right : ℕ) (reading : Reading) {before later : List ℕ} {r : PlanAnswer} where
+  pub assigns-colon : op ≡ ColEq → Answered (colonEqualsPlanned T s left right reading) before later r → Answered (byOperator op T s left right reading) before later r
   assigns-colon e a = simp e a
 
-  pub assigns-equals : op ≡ Eq → Answered (equalsPlanned T s left right) before later r → Answered (byOperator op T s left right) before later r
+  pub assigns-equals : op ≡ Eq → Answered (equalsPlanned T s left right reading) before later r → Answered (byOperator op T s left right reading) before later r
   assigns-equals e a = simp e a
 
 -- the table check and both roots
-module _ (T : Tables) (s : Scope) (op : AssignOp) (left right : ℕ) {c : TableAnswer} (is : TableAnswered T s c) (sound : c ≡ Sound) {before later : List ℕ} where
+module _ (T : Tables) (s : Scope) (op : AssignOp) (left right : ℕ) (reading : Reading) {c : TableAnswer} (is : TableAnswered T s c) (sound : c ≡ Sound) {before later : List ℕ} where
   module _ {l : Bool} (in-left : l ≡ isNode T left) where
-    pub left-outside : not l ≡ true → later ≡ replicate (length before) 0 → Answered (assignmentOutcome T s op left right) before later RootOutside
+    pub left-outside : not l ≡ true → later ≡ replicate (length before) 0 → Answered (assignmentOutcome T s op left right reading) before later RootOutside
     left-outside n z =
         let p : isNode T left ≡ false = sym in-left ∙ not-true l n in
-        roots-refuse T s (check-passes T s is sound) (left ∷ (right ∷ [])) (byOperator op T s left right) (rw p) z
+        roots-refuse T s (check-passes T s is sound) (left ∷ (right ∷ [])) (byOperator op T s left right reading) (rw p) z
 
     module _ (at-left : not l ≡ false) {r : Bool} (in-right : r ≡ isNode T right) where
-      pub right-outside : not r ≡ true → later ≡ replicate (length before) 0 → Answered (assignmentOutcome T s op left right) before later RootOutside
+      pub right-outside : not r ≡ true → later ≡ replicate (length before) 0 → Answered (assignmentOutcome T s op left right reading) before later RootOutside
       right-outside n z =
           let p : isNode T left ≡ true = sym in-left ∙ not-false l at-left in
           let o : isNode T right ≡ false = sym in-right ∙ not-true r n in
-          roots-refuse T s (check-passes T s is sound) (left ∷ (right ∷ [])) (byOperator op T s left right) (rw (p, o)) z
+          roots-refuse T s (check-passes T s is sound) (left ∷ (right ∷ [])) (byOperator op T s left right reading) (rw (p, o)) z
 
       module _ (at-right : not r ≡ false) {answer : PlanAnswer} where
-        pub both-inside : Answered (byOperator op T s left right) before later answer → Answered (assignmentOutcome T s op left right) before later answer
+        pub both-inside : Answered (byOperator op T s left right reading) before later answer → Answered (assignmentOutcome T s op left right reading) before later answer
         both-inside a =
             let p : isNode T left ≡ true = sym in-left ∙ not-false l at-left in
             let o : isNode T right ≡ true = sym in-right ∙ not-false r at-right in
-            roots-pass T s (check-passes T s is sound) (left ∷ (right ∷ [])) (byOperator op T s left right) (rw (p, o)) a
+            roots-pass T s (check-passes T s is sound) (left ∷ (right ∷ [])) (byOperator op T s left right reading) (rw (p, o)) a

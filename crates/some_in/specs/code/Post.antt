@@ -11,6 +11,7 @@ use Rattle.planner.specs.Layout.{Entry, top, entries}
 use Rattle.planner.specs.Entries.{Wrote}
 use Rattle.planner.specs.Operations.{planOf, planned, validated, Answered}
 use Rattle.checks.specs.declared.LiteralStructureCheck.{LiteralStructureCheck}
+use Rattle.checks.specs.declared.Reading.{Reading}
 use Rattle.checks.specs.Refusals.{unlessMismatch}
 use Rattle.planner.specs.code.Post.{GoodPair}
 use Rattle.some_in.specs.SomeIn.{valuePlanned}
@@ -44,8 +45,8 @@ pub record ValueAsks (T : Tables) (value collection at : ℕ) : Type 0 where
 pub record SomeInClosed (form : ℕ) (c : LiteralStructureCheck) (end : ℕ) (mid later : List ℕ) (r : PlanAnswer) : Type 0 where
   pub told : (before : List ℕ) (es : List Entry) → Wrote before 0 es mid end → Answered (unlessMismatch c (planned form 0 es)) before later r
 
-pub record ValueAnswered (T : Tables) (s : Scope) (value collection form at : ℕ) (mid later : List ℕ) (r : PlanAnswer) : Type 0 where
-  pub told : (before : List ℕ) (keys : List Entry) → Wrote before 0 keys mid at → Answered (valuePlanned T s value collection form keys) before later r
+pub record ValueAnswered (T : Tables) (s : Scope) (value collection form : ℕ) (reading : Reading) (at : ℕ) (mid later : List ℕ) (r : PlanAnswer) : Type 0 where
+  pub told : (before : List ℕ) (keys : List Entry) → Wrote before 0 keys mid at → Answered (valuePlanned T s value collection form reading keys) before later r
 
 pub record KeyAsks (T : Tables) (value collection key : ℕ) : Type 0 where
   pub pair : GoodPair T value collection

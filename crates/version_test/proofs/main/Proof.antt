@@ -4,10 +4,10 @@ use Rattle.version_test.proofs.main.Statement.{statement}
 use Rattle.version_test.proofs.main.Tie as tie
 
 abbrev Inv-loop : tie.InvT-loop
-Inv-loop i₀ i = i ≤ 39
+Inv-loop i₀ i = i ≤ 57
 
 abbrev μ-loop : tie.MeasureT-loop
-μ-loop i₀ i = 39 - i
+μ-loop i₀ i = 57 - i
 
 pub main-spec : {M : Type 1} → statement M
 main-spec =

@@ -6,10 +6,10 @@ use Rattle.version_test.proofs.nodes.Statement.{statement}
 use Rattle.version_test.proofs.nodes.Tie as tie
 
 abbrev Inv-loop : tie.InvT-loop
-Inv-loop words₀ i₀ words i = (i ≤ 125) × (125 ≡ length words)
+Inv-loop words₀ i₀ words i = (i ≤ 270) × (270 ≡ length words)
 
 abbrev μ-loop : tie.MeasureT-loop
-μ-loop words₀ i₀ words i = 125 - i
+μ-loop words₀ i₀ words i = 270 - i
 
 pub nodes-spec : {M : Type 1} → statement M
 nodes-spec =

@@ -104,7 +104,7 @@ impl Fault {
                 case.marks[length - 1] = *random.pick(&[31, 32, 64, 255]);
             }
             Numbers if random.chance(50) => case.scheduler = *random.pick(&[1, 2, u32::MAX]),
-            Numbers => case.scoping = *random.pick(&[0, 2, 3, u32::MAX]),
+            Numbers => case.scoping = *random.pick(&[0, 2, 5, u32::MAX]),
             Tables => damage::break_tables(random, &mut case.draft),
             EqualNames => damage::repeat_name(random, &mut case.draft),
             _ => {}

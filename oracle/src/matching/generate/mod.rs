@@ -34,8 +34,17 @@ struct Parts {
     shadowing: bool,
 }
 
-/// The case of a number; a seed and a number give the same case everywhere.
+/// The case of a number; a seed and a number give the same case everywhere. Scoping 3 and 4 stand
+/// for 1 and 2 in a quarter of them, which is all the same to a run.
 pub fn case(seed: u64, number: u64) -> Case {
+    let mut case = drawn(seed, number);
+    if (1..=2).contains(&case.scoping) && Random::of_case(!seed, number).chance(25) {
+        case.scoping += 2;
+    }
+    case
+}
+
+fn drawn(seed: u64, number: u64) -> Case {
     let random = &mut Random::of_case(seed, number);
     loop {
         let origin = match random.weighted(&[50, 15, 15, 5, 15]) {

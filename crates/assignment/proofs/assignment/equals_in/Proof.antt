@@ -40,7 +40,7 @@ same-length-4 : tie.Need-same-length-4
 same-length-4 c = search needs
 
 returns-2 : tie.Need-returns-2
-returns-2 c = (equals-left _ _ _ _ (c .before .before .before .before .before .before .before .before .before .before .before .before .before .before .before .before .before .before .before .before .before .before .pre .0) (search needs) (c .before .before .before .before .before .before .before .before .before .preview-sides .ensures) (search needs) (search needs) (c .before .before .bind-side .ensures), tt)
+returns-2 c = (equals-left _ _ _ _ (c .before .before .before .before .before .before .before .before .before .before .before .before .before .before .before .before .before .before .before .before .before .before .pre .0) (search needs) (c .before .before .before .before .before .before .before .before .before .preview-sides .ensures) _ (search needs) (search needs) (c .before .before .bind-side .ensures), tt)
 
 bind-right-requires : tie.Need-bind-right-requires
 bind-right-requires c κs = (search (ask-sides, needs), search (roomy-kept, needs))

@@ -1,7 +1,9 @@
 use Prim.Native.Nat.{_-_, _*_, ℕ, _<_}
 use Rattle.table.specs.Tables.{tables}
-use Rattle.checks.proofs.Checks.{kinds-differ, kinds-plain, ask-objects, arrays-mismatch, ask-items, arrays-done, CheckingItems, items-start, items-pattern-fits, items-value-fits, items-next, items-pair, items-below, items-on, items-stop, items-done, objects-empty, objects-unknown, ask-fields, objects-fields, objects-differ, CheckingFields, fields-start, fields-field, fields-on, fields-stop, fields-unknown, fields-match, field-double, field-place, field-next, ask-partner, field-alone, field-pair, field-below, field-done, object-falls, items-fall, fields-fall, field-falls, item-falls, child-falls}
+use Rattle.checks.proofs.Checks.{kinds-differ, kinds-plain, ask-objects, arrays-mismatch, ask-items, arrays-done, CheckingItems, items-start, items-pattern-fits, items-value-fits, items-next, items-pair, items-below, items-on, items-stop, items-done, objects-empty, objects-unknown, ask-fields, objects-fields, objects-differ, object-falls, items-fall, fields-fall, field-falls, item-falls, child-falls}
+use Rattle.checks.proofs.ObjectFields.{CheckingFields, fields-start, fields-ask, fields-next, fields-on, fields-stop, fields-done, field-double, field-place, field-next, ask-partner, passed, ask-slot, field-pair, field-below, one-taken}
 use borrow.Author.Needs.{needs}
+use Prim.Native.Nat.{ℕ, _<_}
 use borrow.Fn.Kinds.{In}
 use borrow.Fn.PlainCycle.{Measures, is, falls, and}
 use Rattle.checks.proofs.inner.check_field.Reads as check-field
@@ -19,7 +21,13 @@ use Rattle.checks.proofs.inner.+check_field+check_fields+check_items+ch
 use Rattle.checks.proofs.inner.check_structure.Reads as check-structure
 use Rattle.checks.proofs.inner.check_structure.Kinds as check-structure-kinds
 use Rattle.checks.proofs.inner.+check_field+check_fields+check_items+check_object+check_structure.Lts-check_structure as check-structure-lts
-use Rattle.checks.proofs.inner.partner_of.Reads as partner-of-reads
+use Rattle.checks.proofs.joining.is_settled.Reads as is-settled-reads
+use Rattle.checks.proofs.joining.join.Reads as join-reads
+use Rattle.checks.proofs.joining.no_field_yet.Reads as no-field-yet-reads
+use Rattle.checks.proofs.joining.with_field.Reads as with-field-reads
+use Rattle.checks.proofs.partners.each_paired.Reads as each-paired-reads
+use Rattle.checks.proofs.partners.partner_place.Reads as partner-place-reads
+use Rattle.checks.proofs.partners.pattern_at.Reads as pattern-at-reads
 use Rattle.checks.proofs.texts.compare_object_keys.Reads as compare-object-keys-reads
 use Rattle.table.proofs.reading.child_at.Reads as child-at-reads
 use Rattle.table.proofs.reading.count_of.Reads as count-of-reads
@@ -104,19 +112,19 @@ check-structure-below t =
     check-structure.Pre
 
 abbrev check-field-calls : ℕ → check-field-lts.Claims
-check-field-calls t = (first-of-reads.Asked, first-of-reads.Learnt, child-at-reads.Asked, child-at-reads.Learnt, partner-of-reads.Asked, partner-of-reads.Learnt, check-structure-below t, check-structure.Post)
+check-field-calls t = (first-of-reads.Asked, first-of-reads.Learnt, child-at-reads.Asked, child-at-reads.Learnt, partner-place-reads.Asked, partner-place-reads.Learnt, pattern-at-reads.Asked, pattern-at-reads.Learnt, check-structure-below t, check-structure.Post, with-field-reads.Asked, with-field-reads.Learnt)
 
 abbrev check-fields-calls : ℕ → check-fields-lts.Claims
-check-fields-calls t = (count-of-reads.Asked, count-of-reads.Learnt, check-field-below t, check-field.Post)
+check-fields-calls t = (count-of-reads.Asked, count-of-reads.Learnt, each-paired-reads.Asked, each-paired-reads.Learnt, no-field-yet-reads.Asked, no-field-yet-reads.Learnt, check-field-below t, check-field.Post)
 
 abbrev check-items-calls : ℕ → check-items-lts.Claims
-check-items-calls t = (child-at-reads.Asked, child-at-reads.Learnt, check-structure-below t, check-structure.Post)
-
-abbrev check-structure-calls : ℕ → check-structure-lts.Claims
-check-structure-calls t = (kind-of-reads.Asked, kind-of-reads.Learnt, count-of-reads.Asked, count-of-reads.Learnt, first-of-reads.Asked, first-of-reads.Learnt, check-items-below t, check-items.Post, check-object-below t, check-object.Post)
+check-items-calls t = (child-at-reads.Asked, child-at-reads.Learnt, check-structure-below t, check-structure.Post, join-reads.Asked, join-reads.Learnt, is-settled-reads.Asked, is-settled-reads.Learnt)
 
 abbrev check-object-calls : ℕ → check-object-lts.Claims
 check-object-calls t = (compare-object-keys-reads.Asked, compare-object-keys-reads.Learnt, check-fields-below t, check-fields.Post)
+
+abbrev check-structure-calls : ℕ → check-structure-lts.Claims
+check-structure-calls t = (kind-of-reads.Asked, kind-of-reads.Learnt, count-of-reads.Asked, count-of-reads.Learnt, first-of-reads.Asked, first-of-reads.Learnt, check-items-below t, check-items.Post, check-object-below t, check-object.Post)
 
 check-field-first-of-requires : (t : ℕ) → check-field-lts.Need-first-of-requires (check-field-calls t) (check-field-at t) check-field.Post
 check-field-first-of-requires t c κs = search needs
@@ -133,11 +141,14 @@ check-field-add-place t c = search (field-place, needs)
 check-field-child-at-requires : (t : ℕ) → check-field-lts.Need-child-at-requires (check-field-calls t) (check-field-at t) check-field.Post
 check-field-child-at-requires t c κs = search needs
 
-check-field-partner-of-requires : (t : ℕ) → check-field-lts.Need-partner-of-requires (check-field-calls t) (check-field-at t) check-field.Post
-check-field-partner-of-requires t c κs = search (ask-partner, needs)
+check-field-partner-place-requires : (t : ℕ) → check-field-lts.Need-partner-place-requires (check-field-calls t) (check-field-at t) check-field.Post
+check-field-partner-place-requires t c κs = search (ask-partner, needs)
 
 check-field-returns : (t : ℕ) → check-field-lts.Need-returns (check-field-calls t) (check-field-at t) check-field.Post
-check-field-returns t c = (search (field-alone, needs), (tt, tt))
+check-field-returns t c = (search (passed, needs), (tt, tt))
+
+check-field-pattern-at-requires : (t : ℕ) → check-field-lts.Need-pattern-at-requires (check-field-calls t) (check-field-at t) check-field.Post
+check-field-pattern-at-requires t c κs = search (ask-slot, needs)
 
 check-field-add-child-at : (t : ℕ) → check-field-lts.Need-add-child-at (check-field-calls t) (check-field-at t) check-field.Post
 check-field-add-child-at t c = search (field-next, needs)
@@ -147,21 +158,24 @@ check-field-child-at-requires-2 t c κs = search needs
 
 check-field-check-structure-requires : (t : ℕ) → check-field-lts.Need-check-structure-requires (check-field-calls t) (check-field-at t) check-field.Post
 check-field-check-structure-requires t c κs =
-    let lent = c .before .before in
-    let words = lent .before .before .before .before in
-    let start = words .before .before .before .before .before .before .before in (
-      child-falls (field-below (start .pre .1) (words .first-of .ensures) (lent .before .before .before .child-at .ensures) (lent .before .before .partner-of .ensures) (lent .before .if1 .left) (lent .child-at2 .ensures)) (start .pre .0),
-      field-pair (start .pre .1) (words .first-of .ensures) (lent .before .before .before .child-at .ensures) (lent .before .before .partner-of .ensures) (lent .before .if1 .left) (lent .child-at2 .ensures),
+    let start = c .before .before .before .before .before .before .before .before .before .before .before .before .before .before .before in (
+      child-falls (field-below (start .pre .1) (c .before .before .before .before .before .before .before .before .first-of .ensures) (c .before .before .before .before .before .before .before .child-at .ensures) (c .before .before .before .before .before .before .partner-place .ensures) (c .before .before .before .before .if1 .left) (c .before .before .before .pattern-at .ensures) (c .before .before .child-at2 .ensures)) (start .pre .0),
+      field-pair (start .pre .1) (c .before .before .before .before .before .before .before .before .first-of .ensures) (c .before .before .before .before .before .before .before .child-at .ensures) (c .before .before .before .before .before .before .partner-place .ensures) (c .before .before .before .before .if1 .left) (c .before .before .before .pattern-at .ensures) (c .before .before .child-at2 .ensures),
     )
 
+check-field-with-field-requires : (t : ℕ) → check-field-lts.Need-with-field-requires (check-field-calls t) (check-field-at t) check-field.Post
+check-field-with-field-requires t c κs = search needs
+
 check-field-returns-2 : (t : ℕ) → check-field-lts.Need-returns-2 (check-field-calls t) (check-field-at t) check-field.Post
-check-field-returns-2 t c = (search (field-done, needs), (tt, tt))
+check-field-returns-2 t c =
+    let start = c .before .before .before .before .before .before .before .before .before .before .before .before .before .before .before .before .before in
+    (one-taken (start .pre .1) (c .before .before .before .before .before .before .before .before .before .before .first-of .ensures) (c .before .before .before .before .before .before .before .before .before .child-at .ensures) (c .before .before .before .before .before .before .before .before .partner-place .ensures) (c .before .before .before .before .before .before .if1 .left) (c .before .before .before .before .before .pattern-at .ensures) (c .before .before .before .before .child-at2 .ensures) (c .before .check-structure .ensures .0) (c .with-field .ensures), (tt, tt))
 
 abbrev check-fields-Inv-loop : check-fields-lts.InvT-loop
-check-fields-Inv-loop nodes children numbers names strings text pattern value order literals total keys₀ others₀ count i₀ keys others i = CheckingFields (tables nodes children numbers names strings text) pattern value order literals total count i
+check-fields-Inv-loop nodes children numbers names strings text pattern value order literals total reading keys₀ others₀ count paired so-far₀ i₀ keys others so-far i = CheckingFields reading (tables nodes children numbers names strings text) pattern value order literals total count so-far i
 
 abbrev check-fields-μ-loop : check-fields-lts.MeasureT-loop
-check-fields-μ-loop nodes children numbers names strings text pattern value order literals total keys₀ others₀ count i₀ keys others i = count - i
+check-fields-μ-loop nodes children numbers names strings text pattern value order literals total reading keys₀ others₀ count paired so-far₀ i₀ keys others so-far i = count - i
 
 check-fields-count-of-requires : (t : ℕ) → check-fields-lts.Need-count-of-requires (check-fields-calls t) (check-fields-at t) check-fields.Post check-fields-Inv-loop check-fields-μ-loop
 check-fields-count-of-requires t c κs = search needs
@@ -169,22 +183,23 @@ check-fields-count-of-requires t c κs = search needs
 check-fields-cast-count : (t : ℕ) → check-fields-lts.Need-cast-count (check-fields-calls t) (check-fields-at t) check-fields.Post check-fields-Inv-loop check-fields-μ-loop
 check-fields-cast-count t c = search needs
 
+check-fields-each-paired-requires : (t : ℕ) → check-fields-lts.Need-each-paired-requires (check-fields-calls t) (check-fields-at t) check-fields.Post check-fields-Inv-loop check-fields-μ-loop
+check-fields-each-paired-requires t c κs = search needs
+
+check-fields-no-field-yet-requires : (t : ℕ) → check-fields-lts.Need-no-field-yet-requires (check-fields-calls t) (check-fields-at t) check-fields.Post check-fields-Inv-loop check-fields-μ-loop
+check-fields-no-field-yet-requires t c κs = search needs
+
 check-fields-loop-holds : (t : ℕ) → check-fields-lts.Need-loop-holds (check-fields-calls t) (check-fields-at t) check-fields.Post check-fields-Inv-loop check-fields-μ-loop
-check-fields-loop-holds t c = search (fields-start, needs)
+check-fields-loop-holds t c = fields-start (c .before .before .before .before .before .before .before .before .before .before .pre .1) _ (c .before .before .before .count-of .ensures) (c .before .each-paired .ensures .0) (c .no-field-yet .ensures)
 
 check-fields-check-field-requires : (t : ℕ) → check-fields-lts.Need-check-field-requires (check-fields-calls t) (check-fields-at t) check-fields.Post check-fields-Inv-loop check-fields-μ-loop
-check-fields-check-field-requires t c κs =
-    let lent = c .before .before in
-    (search (field-falls, needs), fields-field (lent .before .loop .inv) (lent .loop-test .taken))
-
-check-fields-enum-told : (t : ℕ) → check-fields-lts.Need-enum-told (check-fields-calls t) (check-fields-at t) check-fields.Post check-fields-Inv-loop check-fields-μ-loop
-check-fields-enum-told t c = search needs
+check-fields-check-field-requires t c κs = (search (field-falls, needs), fields-ask (c .before .before .before .loop .inv) (c .before .before .loop-test .taken))
 
 check-fields-returns : (t : ℕ) → check-fields-lts.Need-returns (check-fields-calls t) (check-fields-at t) check-fields.Post check-fields-Inv-loop check-fields-μ-loop
 check-fields-returns t c = (search (fields-stop, needs), (tt, tt))
 
 check-fields-add-i : (t : ℕ) → check-fields-lts.Need-add-i (check-fields-calls t) (check-fields-at t) check-fields.Post check-fields-Inv-loop check-fields-μ-loop
-check-fields-add-i t c = search needs
+check-fields-add-i t c = search (fields-next, needs)
 
 check-fields-loop-less : (t : ℕ) → check-fields-lts.Need-loop-less (check-fields-calls t) (check-fields-at t) check-fields.Post check-fields-Inv-loop check-fields-μ-loop
 check-fields-loop-less t c = search needs
@@ -193,16 +208,13 @@ check-fields-loop-again : (t : ℕ) → check-fields-lts.Need-loop-again (check-
 check-fields-loop-again t c = search (fields-on, needs)
 
 check-fields-returns-2 : (t : ℕ) → check-fields-lts.Need-returns-2 (check-fields-calls t) (check-fields-at t) check-fields.Post check-fields-Inv-loop check-fields-μ-loop
-check-fields-returns-2 t c = (search (fields-unknown, needs), (tt, tt))
-
-check-fields-returns-3 : (t : ℕ) → check-fields-lts.Need-returns-3 (check-fields-calls t) (check-fields-at t) check-fields.Post check-fields-Inv-loop check-fields-μ-loop
-check-fields-returns-3 t c = (search (fields-match, needs), (tt, tt))
+check-fields-returns-2 t c = (search (fields-done, needs), (tt, tt))
 
 abbrev check-items-Inv-loop : check-items-lts.InvT-loop
-check-items-Inv-loop nodes children numbers names strings text value at place left keys₀ others₀ i₀ keys others i = CheckingItems (tables nodes children numbers names strings text) value at place left i
+check-items-Inv-loop nodes children numbers names strings text value at place left reading keys₀ others₀ so-far₀ i₀ keys others so-far i = CheckingItems reading (tables nodes children numbers names strings text) value at place left so-far i
 
 abbrev check-items-μ-loop : check-items-lts.MeasureT-loop
-check-items-μ-loop nodes children numbers names strings text value at place left keys₀ others₀ i₀ keys others i = left - i
+check-items-μ-loop nodes children numbers names strings text value at place left reading keys₀ others₀ so-far₀ i₀ keys others so-far i = left - i
 
 check-items-loop-holds : (t : ℕ) → check-items-lts.Need-loop-holds (check-items-calls t) (check-items-at t) check-items.Post check-items-Inv-loop check-items-μ-loop
 check-items-loop-holds t c = search (items-start, needs)
@@ -222,8 +234,11 @@ check-items-child-at-requires-2 t c κs = search needs
 check-items-check-structure-requires : (t : ℕ) → check-items-lts.Need-check-structure-requires (check-items-calls t) (check-items-at t) check-items.Post check-items-Inv-loop check-items-μ-loop
 check-items-check-structure-requires t c κs = (search (item-falls, items-below, needs), search (items-pair, needs))
 
-check-items-enum-told : (t : ℕ) → check-items-lts.Need-enum-told (check-items-calls t) (check-items-at t) check-items.Post check-items-Inv-loop check-items-μ-loop
-check-items-enum-told t c = search needs
+check-items-join-requires : (t : ℕ) → check-items-lts.Need-join-requires (check-items-calls t) (check-items-at t) check-items.Post check-items-Inv-loop check-items-μ-loop
+check-items-join-requires t c κs = search needs
+
+check-items-is-settled-requires : (t : ℕ) → check-items-lts.Need-is-settled-requires (check-items-calls t) (check-items-at t) check-items.Post check-items-Inv-loop check-items-μ-loop
+check-items-is-settled-requires t c κs = search needs
 
 check-items-returns : (t : ℕ) → check-items-lts.Need-returns (check-items-calls t) (check-items-at t) check-items.Post check-items-Inv-loop check-items-μ-loop
 check-items-returns t c = (search (items-stop, needs), (tt, tt))
@@ -235,10 +250,41 @@ check-items-loop-less : (t : ℕ) → check-items-lts.Need-loop-less (check-item
 check-items-loop-less t c = search needs
 
 check-items-loop-again : (t : ℕ) → check-items-lts.Need-loop-again (check-items-calls t) (check-items-at t) check-items.Post check-items-Inv-loop check-items-μ-loop
-check-items-loop-again t c = search (items-on, needs)
+check-items-loop-again t c = items-on (c .before .before .before .before .before .before .before .before .before .loop .inv) (c .before .before .before .before .before .before .before .before .loop-test .taken) (c .before .before .before .before .before .before .before .child-at .ensures) (c .before .before .before .before .before .before .child-at2 .ensures) (c .before .before .before .check-structure .ensures .0) (c .before .before .join .ensures) (c .before .is-settled .ensures) (c .if1 .left)
 
 check-items-returns-2 : (t : ℕ) → check-items-lts.Need-returns-2 (check-items-calls t) (check-items-at t) check-items.Post check-items-Inv-loop check-items-μ-loop
 check-items-returns-2 t c = (search (items-done, needs), (tt, tt))
+
+check-object-compare-object-keys-requires :
+    (t : ℕ) → check-object-lts.Need-compare-object-keys-requires (
+      compare-object-keys-reads.Asked,
+      compare-object-keys-reads.Learnt,
+      check-fields-below t,
+      check-fields.Post,
+    ) (check-object-at t) check-object.Post
+check-object-compare-object-keys-requires t c κs = search needs
+
+check-object-returns : (t : ℕ) → check-object-lts.Need-returns (check-object-calls t) (check-object-at t) check-object.Post
+check-object-returns t c = (search (objects-empty, needs), (tt, tt))
+
+check-object-returns-2 : (t : ℕ) → check-object-lts.Need-returns-2 (check-object-calls t) (check-object-at t) check-object.Post
+check-object-returns-2 t c = (search (objects-unknown, needs), (tt, tt))
+
+check-object-returns-3 : (t : ℕ) → check-object-lts.Need-returns-3 (check-object-calls t) (check-object-at t) check-object.Post
+check-object-returns-3 t c = (search (objects-differ, needs), (tt, tt))
+
+check-object-check-fields-requires : (t : ℕ) → check-object-lts.Need-check-fields-requires (check-object-calls t) (check-object-at t) check-object.Post
+check-object-check-fields-requires t c κs =
+    let compared = c .before .before .before .before .before .before .before .before .before in
+    let start = compared .before .before .before .before .before .before .before .before .before .before in
+    (search (fields-fall, needs), ask-fields (start .pre .1) (compared .compare-object-keys .ensures .0))
+
+check-object-returns-4 : (t : ℕ) → check-object-lts.Need-returns-4 (check-object-calls t) (check-object-at t) check-object.Post
+check-object-returns-4 t c =
+    let tests = c .before .before .before .before in
+    let compared = tests .before .before .before .before .before .before in
+    let start = compared .before .before .before .before .before .before .before .before .before .before in
+    (objects-fields _ (start .pre .1) (compared .compare-object-keys .ensures .0) (tests .before .before .if2 .left) (tests .if3 .left) (c .check-fields .ensures .0), (tt, tt))
 
 check-structure-kind-of-requires : (t : ℕ) → check-structure-lts.Need-kind-of-requires (check-structure-calls t) (check-structure-at t) check-structure.Post
 check-structure-kind-of-requires t c κs = search needs
@@ -288,42 +334,13 @@ check-structure-returns-3 : (t : ℕ) → check-structure-lts.Need-returns-3 (ch
 check-structure-returns-3 t c = (search (arrays-done, needs), (tt, tt))
 
 check-structure-check-object-requires : (t : ℕ) → check-structure-lts.Need-check-object-requires (check-structure-calls t) (check-structure-at t) check-structure.Post
-check-structure-check-object-requires t c κs =
-    let lent = c .before .before in
-    let kinds = lent .before .before .before in
-    let start = kinds .before .before .before .before .before .before .before .before in
-    (search (object-falls, needs), ask-objects (start .pre .1) (kinds .before .kind-of .ensures) (kinds .kind-of2 .ensures) (lent .before .before .if1 .left) (lent .if4 .taken))
+check-structure-check-object-requires t c κs = (search (object-falls, needs), search (ask-objects, needs))
 
 check-structure-returns-4 : (t : ℕ) → check-structure-lts.Need-returns-4 (check-structure-calls t) (check-structure-at t) check-structure.Post
 check-structure-returns-4 t c = (search needs, (tt, tt))
 
 check-structure-returns-5 : (t : ℕ) → check-structure-lts.Need-returns-5 (check-structure-calls t) (check-structure-at t) check-structure.Post
 check-structure-returns-5 t c = (search (kinds-plain, needs), (tt, tt))
-
-check-object-compare-object-keys-requires : (t : ℕ) → check-object-lts.Need-compare-object-keys-requires (check-object-calls t) (check-object-at t) check-object.Post
-check-object-compare-object-keys-requires t c κs = search needs
-
-check-object-returns : (t : ℕ) → check-object-lts.Need-returns (check-object-calls t) (check-object-at t) check-object.Post
-check-object-returns t c = (search (objects-empty, needs), (tt, tt))
-
-check-object-returns-2 : (t : ℕ) → check-object-lts.Need-returns-2 (check-object-calls t) (check-object-at t) check-object.Post
-check-object-returns-2 t c = (search (objects-unknown, needs), (tt, tt))
-
-check-object-check-fields-requires : (t : ℕ) → check-object-lts.Need-check-fields-requires (check-object-calls t) (check-object-at t) check-object.Post
-check-object-check-fields-requires t c κs =
-    let compared = c .before .before .before .before .before .before .before .before in
-    let start = compared .before .before .before .before .before .before .before .before .before .before in
-    (search (fields-fall, needs), ask-fields (start .pre .1) (compared .compare-object-keys .ensures .0))
-
-check-object-returns-3 : (t : ℕ) → check-object-lts.Need-returns-3 (check-object-calls t) (check-object-at t) check-object.Post
-check-object-returns-3 t c =
-    let tests = c .before .before .before .before in
-    let compared = tests .before .before .before .before .before in
-    let start = compared .before .before .before .before .before .before .before .before .before .before in
-    (objects-fields (start .pre .1) (compared .compare-object-keys .ensures .0) (tests .before .if2 .left) (tests .if3 .taken) (c .check-fields .ensures .0), (tt, tt))
-
-check-object-returns-4 : (t : ℕ) → check-object-lts.Need-returns-4 (check-object-calls t) (check-object-at t) check-object.Post
-check-object-returns-4 t c = (search (objects-differ, needs), (tt, tt))
 
 pub +check-field+check-fields+check-items+check-object+check-structure-spec :
     {M : Type 1} → statement M
@@ -339,10 +356,14 @@ pub +check-field+check-fields+check-items+check-object+check-structure-spec :
       first-of-reads.Learnt,
       child-at-reads.Asked,
       child-at-reads.Learnt,
-      partner-of-reads.Asked,
-      partner-of-reads.Learnt,
+      partner-place-reads.Asked,
+      partner-place-reads.Learnt,
+      pattern-at-reads.Asked,
+      pattern-at-reads.Learnt,
       check-structure-below t,
       check-structure.Post,
+      with-field-reads.Asked,
+      with-field-reads.Learnt,
     )
     (check-field-at t)
     check-field.Post
@@ -351,15 +372,21 @@ pub +check-field+check-fields+check-items+check-object+check-structure-spec :
     (check-field-mul-place t)
     (check-field-add-place t)
     (check-field-child-at-requires t)
-    (check-field-partner-of-requires t)
+    (check-field-partner-place-requires t)
     (check-field-returns t)
+    (check-field-pattern-at-requires t)
     (check-field-add-child-at t)
     (check-field-child-at-requires-2 t)
     (check-field-check-structure-requires t)
+    (check-field-with-field-requires t)
     (check-field-returns-2 t))
     (λ t. check-fields-lts.spec (
       count-of-reads.Asked,
       count-of-reads.Learnt,
+      each-paired-reads.Asked,
+      each-paired-reads.Learnt,
+      no-field-yet-reads.Asked,
+      no-field-yet-reads.Learnt,
       check-field-below t,
       check-field.Post,
     )
@@ -369,20 +396,24 @@ pub +check-field+check-fields+check-items+check-object+check-structure-spec :
     check-fields-μ-loop
     (check-fields-count-of-requires t)
     (check-fields-cast-count t)
+    (check-fields-each-paired-requires t)
+    (check-fields-no-field-yet-requires t)
     (check-fields-loop-holds t)
     (check-fields-check-field-requires t)
-    (check-fields-enum-told t)
     (check-fields-returns t)
     (check-fields-add-i t)
     (check-fields-loop-less t)
     (check-fields-loop-again t)
-    (check-fields-returns-2 t)
-    (check-fields-returns-3 t))
+    (check-fields-returns-2 t))
     (λ t. check-items-lts.spec (
       child-at-reads.Asked,
       child-at-reads.Learnt,
       check-structure-below t,
       check-structure.Post,
+      join-reads.Asked,
+      join-reads.Learnt,
+      is-settled-reads.Asked,
+      is-settled-reads.Learnt,
     )
     (check-items-at t)
     check-items.Post
@@ -394,7 +425,8 @@ pub +check-field+check-fields+check-items+check-object+check-structure-spec :
     (check-items-add-child-at-2 t)
     (check-items-child-at-requires-2 t)
     (check-items-check-structure-requires t)
-    (check-items-enum-told t)
+    (check-items-join-requires t)
+    (check-items-is-settled-requires t)
     (check-items-returns t)
     (check-items-add-i t)
     (check-items-loop-less t)
@@ -411,8 +443,8 @@ pub +check-field+check-fields+check-items+check-object+check-structure-spec :
     (check-object-compare-object-keys-requires t)
     (check-object-returns t)
     (check-object-returns-2 t)
-    (check-object-check-fields-requires t)
     (check-object-returns-3 t)
+    (check-object-check-fields-requires t)
     (check-object-returns-4 t))
     λ t. check-structure-lts.spec (
       kind-of-reads.Asked,

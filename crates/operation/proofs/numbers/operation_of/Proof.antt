@@ -13,6 +13,7 @@ returns-5 c = search (is-index, needs)
 pub operation-of-spec : {M : Type 1} → statement M
 operation-of-spec = tie.close (tie.spec
     (λ c κs. search needs)
+    (λ c κs. search needs)
     (λ c. search (is-pattern, needs))
     (λ c. search (is-colon-equals, needs))
     (λ c. search (is-equals, needs))

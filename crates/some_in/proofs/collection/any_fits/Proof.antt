@@ -6,14 +6,14 @@ use Rattle.some_in.proofs.collection.any_fits.Tie as tie
 use Rattle.some_in.proofs.collection.any_fits.Reads as reads
 use Rattle.some_in.proofs.collection.any_fits.Lts as lts
 use Rattle.checks.proofs.inner.check_literal_structure.Reads as check-literal-structure-reads
-use Rattle.some_in.proofs.collection.is_mismatch.Reads as is-mismatch-reads
+use Rattle.checks.proofs.is_mismatch.Reads as is-mismatch-reads
 use Rattle.table.proofs.reading.child_at.Reads as child-at-reads
 
 abbrev Inv-loop : tie.InvT-loop
-Inv-loop nodes children numbers names strings text pattern at left place₀ more₀ place more = Looking (tables nodes children numbers names strings text) pattern at left place more
+Inv-loop nodes children numbers names strings text pattern at left reading place₀ more₀ place more = Looking reading (tables nodes children numbers names strings text) pattern at left place more
 
 abbrev μ-loop : tie.MeasureT-loop
-μ-loop nodes children numbers names strings text pattern at left place₀ more₀ place more = more
+μ-loop nodes children numbers names strings text pattern at left reading place₀ more₀ place more = more
 
 loop-holds : tie.Need-loop-holds Inv-loop μ-loop
 loop-holds c = search (looking-start, needs)

@@ -1,0 +1,82 @@
+use Prim.Native.Nat.{_-_}
+use Rattle.table.specs.Tables.{tables}
+use Rattle.checks.proofs.ObjectFields.{Marking, marking-start, marking-double, marking-place, marking-next, marking-ask, marking-on, marking-ends}
+use borrow.Author.Needs.{needs}
+use Rattle.checks.proofs.partners.mark_partners.Statement.{statement}
+use Rattle.checks.proofs.partners.mark_partners.Tie as tie
+use Rattle.checks.proofs.partners.mark_partners.Reads as reads
+use Rattle.checks.proofs.partners.mark_partners.Lts as lts
+use Rattle.checks.proofs.partners.mark.Reads as mark-reads
+use Rattle.checks.proofs.partners.partner_place.Reads as partner-place-reads
+use Rattle.table.proofs.reading.child_at.Reads as child-at-reads
+use Rattle.table.proofs.reading.count_of.Reads as count-of-reads
+use Rattle.table.proofs.reading.first_of.Reads as first-of-reads
+
+abbrev Inv-loop : tie.InvT-loop
+Inv-loop nodes children numbers names strings text pattern value order literals total marks₀ first count i₀ marks i = Marking (tables nodes children numbers names strings text) pattern value order literals total first count marks i
+
+abbrev μ-loop : tie.MeasureT-loop
+μ-loop nodes children numbers names strings text pattern value order literals total marks₀ first count i₀ marks i = count - i
+
+first-of-requires : tie.Need-first-of-requires Inv-loop μ-loop
+first-of-requires c κs = search needs
+
+cast-first : tie.Need-cast-first Inv-loop μ-loop
+cast-first c = search needs
+
+count-of-requires : tie.Need-count-of-requires Inv-loop μ-loop
+count-of-requires c κs = search needs
+
+cast-count : tie.Need-cast-count Inv-loop μ-loop
+cast-count c = search needs
+
+loop-holds : tie.Need-loop-holds Inv-loop μ-loop
+loop-holds c = search (marking-start, needs)
+
+mul-child-at : tie.Need-mul-child-at Inv-loop μ-loop
+mul-child-at c = search (marking-double, needs)
+
+add-child-at : tie.Need-add-child-at Inv-loop μ-loop
+add-child-at c = search (marking-place, needs)
+
+child-at-requires : tie.Need-child-at-requires Inv-loop μ-loop
+child-at-requires c κs = search needs
+
+partner-place-requires : tie.Need-partner-place-requires Inv-loop μ-loop
+partner-place-requires c κs = search (marking-ask, needs)
+
+mark-requires : tie.Need-mark-requires Inv-loop μ-loop
+mark-requires c κs = search needs
+
+add-i : tie.Need-add-i Inv-loop μ-loop
+add-i c = search (marking-next, needs)
+
+loop-less : tie.Need-loop-less Inv-loop μ-loop
+loop-less c = search needs
+
+loop-again : tie.Need-loop-again Inv-loop μ-loop
+loop-again c = search (marking-on, needs)
+
+returns : tie.Need-returns Inv-loop μ-loop
+returns c = search (marking-ends, needs)
+
+pub mark-partners-spec : {M : Type 1} → statement M
+mark-partners-spec =
+    tie.close
+    (tie.spec
+    Inv-loop
+    μ-loop
+    first-of-requires
+    cast-first
+    count-of-requires
+    cast-count
+    loop-holds
+    mul-child-at
+    add-child-at
+    child-at-requires
+    partner-place-requires
+    mark-requires
+    add-i
+    loop-less
+    loop-again
+    returns)
