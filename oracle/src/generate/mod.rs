@@ -10,7 +10,7 @@ mod mutate;
 mod palette;
 mod random;
 mod rules;
-mod structures;
+pub(crate) mod structures;
 
 use crate::sheets::draft::Draft;
 use crate::sheets::encode;

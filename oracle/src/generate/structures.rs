@@ -59,7 +59,7 @@ fn by_size(leaf: Tree) -> Vec<Vec<Tree>> {
 }
 
 /// The lists of trees that have `size` nodes together.
-fn lists(sizes: &[Vec<Tree>], size: usize) -> Vec<Vec<Tree>> {
+pub(crate) fn lists(sizes: &[Vec<Tree>], size: usize) -> Vec<Vec<Tree>> {
     if size == 0 {
         return vec![Vec::new()];
     }

@@ -1,6 +1,7 @@
 //! All small simple patterns on all small values.
 
 use super::case::{Case, Origin};
+use crate::generate::structures::lists;
 use crate::sheets::draft::FIRST;
 use crate::sheets::{encode, Operation, Rule, Tree};
 
@@ -57,21 +58,6 @@ fn trees(leaves: &[Tree]) -> Vec<Tree> {
         sizes.push(trees);
     }
     sizes.concat()
-}
-
-/// The lists of trees that have `size` nodes together.
-fn lists(sizes: &[Vec<Tree>], size: usize) -> Vec<Vec<Tree>> {
-    if size == 0 {
-        return vec![Vec::new()];
-    }
-    let mut all = Vec::new();
-    for first in 1..=size {
-        let rests = lists(sizes, size - first);
-        for tree in &sizes[first] {
-            all.extend(rests.iter().map(|rest| [std::slice::from_ref(tree), rest].concat()));
-        }
-    }
-    all
 }
 
 fn objects(values: &[Tree]) -> Vec<Tree> {
