@@ -1,9 +1,12 @@
 //! The published Rust planner behind the sheets of document 01, and what is compared with it.
 
 pub mod answer;
+#[cfg(run_linked)]
+mod c_calls;
 pub mod comparison;
 pub mod generate;
 pub mod matching;
+pub mod refusals;
 pub mod reporting;
 pub mod selection;
 pub mod sheets;

@@ -28,7 +28,7 @@ after-more less e = never cc
 after-more same e = never cc
 after-more more e = refl
 
-after-trans : (t u v : List ℕ) → after t u ≡ false → after u v ≡ false → after t v ≡ false
+pub after-trans : (t u v : List ℕ) → after t u ≡ false → after u v ≡ false → after t v ≡ false
 after-trans t u v a b = go (bytesOrder t u) refl (bytesOrder u v) refl
   where
     go : (x : Order) → bytesOrder t u ≡ x → (y : Order) → bytesOrder u v ≡ y → after t v ≡ false

@@ -42,7 +42,7 @@ unfolding planKeys plan keysOf
 plan-keys unbound done seen = refl
 plan-keys unbound (field k v fs) seen = ap (addKey (literalKey k)) (plan-keys unbound fs (after unbound v seen))
 
-fill-keys : (ρ : ℕ → Value) (fs : Fields) (b : BlanksFields fs) → keysᵛ (fillFields ρ fs b) ≡ keysOf fs
+pub fill-keys : (ρ : ℕ → Value) (fs : Fields) (b : BlanksFields fs) → keysᵛ (fillFields ρ fs b) ≡ keysOf fs
 unfolding keysᵛ fill keysOf
 fill-keys ρ done b = refl
 fill-keys ρ (field k v fs) b = go (literalKey k) (fill-keys ρ fs (b .1))
@@ -136,7 +136,7 @@ module _ (unbound : ℕ → Bool) (Ok : ℕ → Type 0) where
         (λ env′ s′. goodFields fs gs (after unbound v seen) env′ (and-right (simple v) (simpleFields fs) p′) q (λ x r. ok′ x (or-right (mentions x v) (mentionsFields x fs) r)) s′))
 
 -- a field that fits, and its rest
-field-parts : (κ : Option Literal) → T (isLiteral κ) → (u : Value) (us gs : ValueFields) → T (sameFields (filledField κ u us) gs) → (w : Value) × (underKey κ gs ≡ some w) × Same u w × T (sameFields us gs)
+pub field-parts : (κ : Option Literal) → T (isLiteral κ) → (u : Value) (us gs : ValueFields) → T (sameFields (filledField κ u us) gs) → (w : Value) × (underKey κ gs ≡ some w) × Same u w × T (sameFields us gs)
 unfolding same
 field-parts none i u us gs t = absurd i
 field-parts (some l) i u us gs t = go (under l gs) (and-left (holds (λ w. same u w) (under l gs)) (sameFields us gs) t)

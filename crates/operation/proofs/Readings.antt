@@ -100,7 +100,7 @@ module _ (T : Tables) (s : Scope) where
       go false = λ t. t
 
 -- some-in: where no item fits each is a mismatch
-none-fit : (m rest : Bool) → (not m || rest) ≡ false → (m ≡ true) × (rest ≡ false)
+pub none-fit : (m rest : Bool) → (not m || rest) ≡ false → (m ≡ true) × (rest ≡ false)
 none-fit true rest e = (refl, e)
 none-fit false rest e = absurd (false≢true (sym e))
 

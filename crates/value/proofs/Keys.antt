@@ -74,12 +74,12 @@ within← [] ls f = tt
 within← (k ∷ ks) ls f = both (hasKey k ls) (within ks ls) (f k (or-left (sameKey k k) (hasKey k ks) (key-refl k))) (within← ks ls (λ j h. f j (or-right (sameKey j k) (hasKey j ks) h)))
 
 -- Counting keys: if differing keys are all among others, and the others are no more, the sets are the same.
-abbrev keep : Bool → Literal → List Literal → List Literal → List Literal
+abbrev pub keep : Bool → Literal → List Literal → List Literal → List Literal
 keep true l rest further = rest
 keep false l rest further = l ∷ further
 
 -- without the first k
-without : Literal → List Literal → List Literal
+unfoldable pub without : Literal → List Literal → List Literal
 without k [] = []
 without k (l ∷ ls) = keep (sameKey k l) l ls (without k ls)
 
@@ -92,7 +92,7 @@ shorter k (l ∷ ls) t = go (sameKey k l) (λ h. shorter k ls h) t
     go true f h = refl
     go false f h = ap suc (f h)
 
-has-without : (k j : Literal) (ls : List Literal) → ¬ T (sameKey j k) → T (hasKey j ls) → T (hasKey j (without k ls))
+pub has-without : (k j : Literal) (ls : List Literal) → ¬ T (sameKey j k) → T (hasKey j ls) → T (hasKey j (without k ls))
 unfolding hasKey without
 has-without k j [] n t = t
 has-without k j (l ∷ ls) n t = go (sameKey k l) refl (λ h. has-without k j ls n h)

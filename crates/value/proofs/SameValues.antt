@@ -66,7 +66,7 @@ items-even g ch at (suc k) from (suc m) t =
     (and-right (same (valueOf (g (childAt ch at))) (valueOf (g (childAt ch from)))) (sameItems (valuesOf (items g ch (at + 1) k)) (valuesOf (items g ch (from + 1) m))) t))
 
 -- equal fields have their keys in the other object
-under-has : (f : Value → Bool) (k : Literal) (gs : ValueFields) → True (holds f (under k gs)) → True (hasKey k (keysᵛ gs))
+pub under-has : (f : Value → Bool) (k : Literal) (gs : ValueFields) → True (holds f (under k gs)) → True (hasKey k (keysᵛ gs))
 unfolding under hasKey keysᵛ
 under-has f k doneᵛ t = absurd t
 under-has f k (fieldᵛ l w gs) t = go (sameKey k l) (λ h. under-has f k gs h) t

@@ -40,22 +40,34 @@ impl<'a> Blanks<'a> {
         Self { pattern, known, unknown, underscores }
     }
 
-    /// What makes the two equal is at each place equal to a part of the value, so all parts are tried,
-    /// and one value that is no part.
+    /// What makes the two equal is at each place equal to a part of the value, so all parts are
+    /// tried, and one value that is no part.
     pub fn fillings(&self, value: &Rc<Value>) -> Vec<Filling> {
         let mut candidates = parts(value);
-        candidates.push(Rc::new(Value::Literal(Literal::String(b"no part".to_vec()))));
-        let mut choice = vec![0; self.unknown.len() + self.underscores];
-        let mut found = Vec::new();
-        loop {
+        candidates.push(no_part());
+        let found = self.instances(&candidates).filter(|(_, filled)| equal(filled, value));
+        found.map(|(filling, _)| filling).collect()
+    }
+
+    /// All ways to fill from candidates, each with the filled pattern.
+    pub fn instances<'b>(
+        &'b self,
+        candidates: &'b [Rc<Value>],
+    ) -> impl Iterator<Item = (Filling, Rc<Value>)> + 'b {
+        let next = |choice: &Vec<usize>| {
+            let mut next = choice.clone();
+            advance(&mut next, candidates.len()).then_some(next)
+        };
+        std::iter::successors(Some(vec![0; self.count()]), next).map(|choice| {
             let filling: Filling = choice.iter().map(|&place| candidates[place].clone()).collect();
-            if equal(&self.filled(&filling), value) {
-                found.push(filling);
-            }
-            if !advance(&mut choice, candidates.len()) {
-                return found;
-            }
-        }
+            let filled = self.filled(&filling);
+            (filling, filled)
+        })
+    }
+
+    /// The number of places to fill.
+    pub fn count(&self) -> usize {
+        self.unknown.len() + self.underscores
     }
 
     fn filled(&self, filling: &Filling) -> Rc<Value> {
@@ -92,6 +104,11 @@ impl<'a> Blanks<'a> {
         let place = self.unknown.iter().position(|unknown| *unknown == name);
         place.map_or_else(|| self.known[&name].clone(), |place| filling[place].clone())
     }
+}
+
+/// A value that stands in no generated table.
+pub fn no_part() -> Rc<Value> {
+    Rc::new(Value::Literal(Literal::String(b"no part".to_vec())))
 }
 
 /// The next choice of digits below `base`, the first counting fastest; false after the last.

@@ -15,14 +15,14 @@ pub enum Literal {
 pub enum Value {
     Literal(Literal),
     Array(Vec<Rc<Value>>),
-    /// No key stands twice.
+    /// No key stands twice, but in the sides of src/refusals.
     Object(Vec<(Literal, Rc<Value>)>),
 }
 
 type Fields = [(Literal, Rc<Value>)];
 
 /// Literals by the order of keys, arrays by length and items, objects by key sets and the value
-/// under each key.
+/// under each key. Where keys repeat, the first value under a key of the other counts.
 pub fn equal(one: &Value, other: &Value) -> bool {
     match (one, other) {
         (Value::Literal(one), Value::Literal(other)) => one == other,

@@ -36,7 +36,7 @@ present-equations = record {
 }
 
 -- a mismatch among the items is refused, and nothing else
-unfoldable anyMismatch : List LiteralStructureCheck → Bool
+unfoldable pub anyMismatch : List LiteralStructureCheck → Bool
 anyMismatch [] = false
 anyMismatch (c ∷ cs) = isMismatch c || anyMismatch cs
 
@@ -44,7 +44,7 @@ settled : (b : Bool) → isMismatch (cond b Unknown Match) ≡ false
 settled true = refl
 settled false = refl
 
-joined-mismatch : (cs : List LiteralStructureCheck) → isMismatch (joined Careful cs) ≡ anyMismatch cs
+pub joined-mismatch : (cs : List LiteralStructureCheck) → isMismatch (joined Careful cs) ≡ anyMismatch cs
 unfolding joined firstMismatchOr anyMismatch
 joined-mismatch cs = first-or cs (cond (anyUnknown cs) Unknown Match) (settled (anyUnknown cs))
   where
@@ -76,7 +76,7 @@ part-mismatch Unknown d m = absurd (false≢true m)
 part-mismatch (ArrayMismatch value expected actual) d m = inl m
 part-mismatch (ObjectMismatch value pattern) d m = inl m
 
-last-mismatch : (c : LiteralStructureCheck) (b : Bool) → isMismatch (andThen c (cond b Match Unknown)) ≡ true → isMismatch c ≡ true
+pub last-mismatch : (c : LiteralStructureCheck) (b : Bool) → isMismatch (andThen c (cond b Match Unknown)) ≡ true → isMismatch c ≡ true
 last-mismatch c true t = ⊎-elim (λ h. h) (λ h. absurd (false≢true h)) (part-mismatch c Match t)
 last-mismatch c false t = ⊎-elim (λ h. h) (λ h. absurd (false≢true h)) (part-mismatch c Unknown t)
 
@@ -98,10 +98,10 @@ object-again n m fs order c d f = go (isEmpty (order .literals)) (isEmpty (order
     go false b false t = refl
 
 -- the fields of two objects
-abbrev fieldsMismatch : List (Slot Expr) → List ValueField → Bool
+abbrev pub fieldsMismatch : List (Slot Expr) → List ValueField → Bool
 fieldsMismatch ss vs = anyMismatch (orderedChecks ss vs)
 
-fields-step : (s : Slot Expr) (ss : List (Slot Expr)) (vs : List ValueField) → fieldsMismatch (s ∷ ss) vs ≡ (anyMismatch (partners s vs) || fieldsMismatch ss vs)
+pub fields-step : (s : Slot Expr) (ss : List (Slot Expr)) (vs : List ValueField) → fieldsMismatch (s ∷ ss) vs ≡ (anyMismatch (partners s vs) || fieldsMismatch ss vs)
 unfolding orderedChecks
 fields-step s ss vs = any-append (orUnknown (partners s vs)) (orderedChecks ss vs) ∙ ap (λ (b : Bool). b || fieldsMismatch ss vs) (any-or-unknown (partners s vs))
 

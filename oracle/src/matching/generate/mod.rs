@@ -1,7 +1,7 @@
 //! The seeded generator of runs: a small simple pattern, a value made from it, a scope and a list.
 
 mod faults;
-mod trees;
+pub(crate) mod trees;
 
 use super::case::{is_unbound, Case, Origin};
 use super::reading::value_at;

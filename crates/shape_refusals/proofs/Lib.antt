@@ -1,0 +1,9 @@
+pub mod Plain
+pub mod Texts
+pub mod Slots
+pub mod Checks
+pub mod Pairs
+pub mod Outcomes
+pub mod Promise
+pub mod Counterexample
+pub mod Examples

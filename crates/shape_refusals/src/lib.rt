@@ -1,0 +1,1 @@
+// What a shape refusal means, as laws alone: no function. The promise is in specs/ShapeRefusals.
