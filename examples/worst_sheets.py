@@ -8,9 +8,9 @@ from pathlib import Path
 
 sys.path.insert(0, str(Path(__file__).resolve().parent.parent / "tools"))
 
-from refusals import LIMITS
-from rule_text import Operation, read_rule
-from sheet import Scope, Sheet, sheet_of
+from rules.tables.sheet import Scope, Sheet, sheet_of
+from rules.text.rule_text import Operation, read_rule
+from rules.words.refusals import LIMITS
 
 # The planner takes 32 levels: 30 around an array or object and its items.
 AROUND = 30

@@ -12,6 +12,7 @@ SCRIPT = pathlib.Path(__file__).resolve().parent.parent.parent / "test"
 GREEN = "echo proving; echo '3 passed, 0 failed'"
 RED = "echo '2 passed, 1 failed'; exit 1"
 COMPARED = "compared 20000 with target/staticlib/libsheet.a"
+CHECKED = "checked by target/tools/libteluddru.so: tools/trials.rules"
 MEASURED = "stack measured with target/examples/prefix/lib/libteluddru.a"
 UNITTEST = """\
 import os, unittest
@@ -20,7 +21,8 @@ class Stub(unittest.TestCase):
         for name in ("PLANSHEET", "TELUDDRU_SHARED"):
             self.assertEqual(os.path.basename(os.environ.get(name, "")), {planners!r}.get(name, ""))
 """
-PLANNERS = {"PLANSHEET": "plansheet", "TELUDDRU_SHARED": "libteluddru.so"}
+PLANNERS = {"TELUDDRU_SHARED": "libteluddru.so"}
+VARIABLES = ("PLANSHEET", "TELUDDRU_SHARED", "REGORUS_SOURCE")
 
 
 class Gate(unittest.TestCase):
@@ -37,6 +39,7 @@ class Gate(unittest.TestCase):
         self.write("gate/test_gate.py", UNITTEST.format(planners={}))
         self.write("tools/test_tools.py", UNITTEST.format(planners=PLANNERS))
         self.command("tools/build_library", "echo library built")
+        self.command("tools/plan_rule", 'echo "checked by $2: $4"')
         self.command("examples/run", "echo example run")
         self.command("examples/stack", 'echo "stack measured with $TELUDDRU_LIBRARY"')
         self.command("oracle/compare", 'echo "compared $1 with $PLAN_SHEET_LIBRARY"')
@@ -59,7 +62,7 @@ class Gate(unittest.TestCase):
     def gate(self):
         """The exit status and the lines of output."""
         path = f"{self.outside / 'bin'}:/usr/bin:/bin"
-        names = {name: value for name, value in os.environ.items() if name not in (*PLANNERS, "REGORUS_SOURCE")}
+        names = {name: value for name, value in os.environ.items() if name not in VARIABLES}
         run = subprocess.run(
             [self.root / "test"], env=names | {"PATH": path}, stdout=subprocess.PIPE, stderr=subprocess.DEVNULL
         )
@@ -69,7 +72,7 @@ class Gate(unittest.TestCase):
         self.sources()
         status, lines = self.gate()
         self.assertEqual((status, lines[-1]), (0, "3 passed, 0 failed"))
-        for line in ("proving", "mistakes read", "library built", "example run", MEASURED, COMPARED):
+        for line in ("proving", "mistakes read", "library built", CHECKED, "example run", MEASURED, COMPARED):
             self.assertIn(line, lines)
         self.assertFalse([line for line in lines if line.startswith(("failed", "not run"))])
 
@@ -85,6 +88,7 @@ class Gate(unittest.TestCase):
             "gate/mistakes.py": "raise SystemExit(1)",
             "gate/test_gate.py": UNITTEST.format(planners=PLANNERS),
             "tools/build_library": "#!/bin/sh\nexit 1\n",
+            "tools/plan_rule": "#!/bin/sh\nexit 1\n",
             "tools/test_tools.py": UNITTEST.format(planners={}),
             "examples/run": "#!/bin/sh\nexit 3\n",
             "examples/stack": "#!/bin/sh\nexit 1\n",

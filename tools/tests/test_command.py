@@ -1,49 +1,24 @@
-"""Runs the command; what needs a planner is skipped where none is built or named by a variable."""
+"""Runs the command."""
 
-import io
 import os
 import subprocess
 import sys
-import tempfile
 import unittest
-from collections.abc import Iterator
-from contextlib import contextmanager
-from pathlib import Path
 from typing import BinaryIO
 from unittest import mock
 
-from command import BUILT, BUILT_LIBRARY, PLANNED_WITHOUT, main
-from tests.test_sheet import EXAMPLE
-
-COMMAND = Path(__file__).parent.parent / "plan_rule"
-PLANSHEET = Path(os.environ.get("PLANSHEET") or BUILT)
-SKIPPED = not os.environ.get("PLANSHEET") and not BUILT.exists()
-NO_PLANNER = f"there is no {PLANSHEET} (`rt check plansheet` builds it)"
-LIBRARY = Path(os.environ.get("TELUDDRU_SHARED") or BUILT_LIBRARY)
-NO_LIBRARY = f"there is no {LIBRARY} (tools/build_library builds it)"
-LIBRARY_SKIPPED = not os.environ.get("TELUDDRU_SHARED") and not BUILT_LIBRARY.exists()
-
-
-def setUpModule() -> None:
-    if SKIPPED:
-        print(f"\n{NO_PLANNER}: the tests with the planner are skipped", file=sys.stderr)
-    if LIBRARY_SKIPPED:
-        print(f"\n{NO_LIBRARY}: the tests of Rego v1 are skipped", file=sys.stderr)
-
-
-def stream(content: bytes = b"") -> io.TextIOWrapper:
-    return io.TextIOWrapper(io.BytesIO(content), encoding="utf-8", write_through=True)
-
-
-def run(*arguments: str, text: bytes = b"") -> tuple[int | str | None, str, str]:
-    """Exit status, output and errors of the command in this process."""
-    output, errors = stream(), stream()
-    with mock.patch.multiple(sys, stdin=stream(text), stdout=output, stderr=errors):
-        try:
-            status: int | str | None = main(list(arguments))
-        except SystemExit as end:
-            status = end.code
-    return status, written(output), written(errors)
+from rules.command import PLANNED_WITHOUT, standard_input
+from rules.no_answer import NoAnswer
+from tests.planners import (
+    COMMAND,
+    LIBRARY,
+    PLANSHEET,
+    planner_of_answers,
+    run,
+    with_library,
+    with_plansheet,
+)
+from tests.tables.test_sheet import EXAMPLE
 
 
 def script_run(
@@ -56,22 +31,6 @@ def script_run(
     path = {"PATH": os.environ["PATH"]}
     command = [sys.executable, COMMAND, *arguments]
     return subprocess.run(command, stdout=stdout, stderr=stderr, env=path | environment)
-
-
-def written(text: io.TextIOWrapper) -> str:
-    text.seek(0)
-    return text.read()
-
-
-@contextmanager
-def planner_of_answers(present: str, careful: str) -> Iterator[str]:
-    """A planner that has one line for scoping 1 and 2, and one for 3 and 4."""
-    with tempfile.TemporaryDirectory() as folder:
-        planner = Path(folder) / "planner"
-        chosen = f'case $(sed -n 2p) in ?????????????????[12]*) echo "{present}";;'
-        planner.write_text(f'#!/bin/sh\n{chosen} *) echo "{careful}";; esac\n')
-        planner.chmod(0o755)
-        yield str(planner)
 
 
 def careful_lines(present: str, careful: str, rule: str) -> list[str]:
@@ -105,11 +64,11 @@ class WithoutPlanner(unittest.TestCase):
         self.assertEqual(status, 2)
         self.assertIn("rt check plansheet", error)
 
-    def test_rego_v1(self) -> None:
-        status, _, error = run("--rego", "v1", "--library", "/nowhere/libteluddru.so", "x")
+    def test_library_and_version(self) -> None:
+        status, _, error = run("--library", "/nowhere/libteluddru.so", "x")
         self.assertEqual(status, 2)
         self.assertIn("tools/build_library", error)
-        status, _, error = run("--rego", "v1", "--library", "/bin/cat", "x")
+        status, _, error = run("--library", "/bin/cat", "x")
         self.assertEqual((status, error[:26]), (2, "/bin/cat can't be called: "))
         self.assertEqual(run("--sheet", "--rego", "v1", "x")[0], 2)
         self.assertEqual(run("--sheet", "--rego", "v0", "x")[0], 0)
@@ -138,6 +97,18 @@ class WithoutPlanner(unittest.TestCase):
             self.assertEqual((status, printed), (2, ""))
             self.assertEqual(error, f"{planner} doesn't know --careful: build it anew\n")
             self.assertEqual(run("--plansheet", planner, "x := 1")[0], 1)
+
+    def test_planner_that_does_not_run(self) -> None:
+        status, _, error = run("--plansheet", str(COMMAND.parent), "x")
+        self.assertEqual(status, 2)
+        self.assertIn("did not run", error)
+
+    def test_input_that_cannot_be_read(self) -> None:
+        unreadable = mock.Mock()
+        unreadable.buffer.read.side_effect = OSError(5, "Input/output error")
+        with mock.patch.object(sys, "stdin", unreadable):
+            with self.assertRaisesRegex(NoAnswer, "can't be read: Input/output error"):
+                standard_input()
 
     def test_planner_without_an_answer(self) -> None:
         status, _, error = run("--plansheet", "/bin/cat", "x")
@@ -194,17 +165,20 @@ class WithoutPlanner(unittest.TestCase):
         self.assertEqual(run()[0], 2)
 
 
-@unittest.skipIf(SKIPPED, NO_PLANNER)
-class WithPlanner(unittest.TestCase):
-    def plan(self, *arguments: str) -> tuple[int | str | None, list[str]]:
-        status, words, error = run("--plansheet", str(PLANSHEET), *arguments)
+class Planned:
+    """Plans that both planners have to give."""
+
+    planner: tuple[str, ...] = ()
+
+    def plan(self, *arguments: str) -> tuple[int, list[str]]:
+        status, words, error = run(*self.planner, *arguments)
         self.assertEqual(error, "")
         return status, words.splitlines()
 
     def test_flush_sides(self) -> None:
         status, lines = self.plan("[w, w] = [18, 16]")
         self.assertEqual(status, 0)
-        self.assertEqual(lines[4:], ["     2    bind w", "     5    compare w"])
+        self.assertEqual(lines[4:6], ["     2    bind w", "     5    compare w"])
 
     def test_scope(self) -> None:
         self.assertEqual(self.plan("x := 1", "--bound", "x")[0], 0)
@@ -277,9 +251,28 @@ class WithPlanner(unittest.TestCase):
                 self.assertEqual(self.plan(*rule, "--careful"), self.plan(*rule))
 
 
-@unittest.skipIf(LIBRARY_SKIPPED, NO_LIBRARY)
+@with_library
+class ByLibrary(Planned, unittest.TestCase):
+    pass
+
+
+@with_plansheet
+class ByPlansheet(Planned, unittest.TestCase):
+    planner = ("--plansheet", str(PLANSHEET))
+
+
+@with_library
+class Hints(unittest.TestCase):
+    def test_of_the_rule_alone(self) -> None:
+        """The value that a rule is run on is no comparison of the rule."""
+        hint = "hint: `==` compares and binds nothing; to match both sides, write: x = 1\n"
+        self.assertEqual(run("x == 1", "--on", "1")[2], hint)
+        self.assertEqual(run("[x == 1]", "--on", "x == 1")[2], "")
+
+
+@with_library
 class RegoV1(unittest.TestCase):
-    def plan(self, *arguments: str) -> tuple[int | str | None, list[str]]:
+    def plan(self, *arguments: str) -> tuple[int, list[str]]:
         status, words, error = run("--rego", "v1", "--library", str(LIBRARY), *arguments)
         self.assertEqual(error, "")
         return status, words.splitlines()
@@ -304,7 +297,7 @@ class RegoV1(unittest.TestCase):
 
     def test_planned_as_by_v0(self) -> None:
         lines = self.plan("[w, w] = [18, 16]")[1]
-        self.assertEqual(lines[4:], ["     2    bind w", "     5    compare w"])
+        self.assertEqual(lines[4:6], ["     2    bind w", "     5    compare w"])
         for text in ("{input}", "{input: x}", "f(input)", "x := input", "some x in input"):
             self.assertEqual(self.plan(text)[0], 0)
         self.assertEqual(self.plan("input = 1", "--bound", "input")[0], 0)

@@ -1,0 +1,186 @@
+"""What a line of a file of rules expects, and whether an answer is that."""
+
+from collections.abc import Mapping
+from dataclasses import dataclass, field, replace
+
+from rules.answer import Answer
+from rules.run.values import are_equal, no_value
+from rules.run.verdict import Match, NoMatch, Verdict
+from rules.tables.listing import Plan, Refusal
+from rules.tables.places import node_text
+from rules.tables.sheet import Scope, Sheet, Writer, sheet_of
+from rules.text.rule_text import Operation, Reader, Rule, read_expression
+from rules.text.source import decoded
+from rules.text.tokens import RuleTextError, TokenKind
+from rules.words.plans import FORMS, form_of
+from rules.words.refusals import MEANINGS
+
+OF_RUNS = range(20, 24)
+
+FORM_NAMES = [form.full_name() for forms in FORMS.values() for form in forms.values()]
+EXPECTED = (
+    f"what may be expected: planned, {', '.join(FORM_NAMES)},"
+    " refused NUMBER, match, match NAME=VALUE, .. or no match"
+)
+
+
+@dataclass(frozen=True)
+class Planned:
+    """Planned in a form, or in any."""
+
+    form: str | None = None
+
+
+@dataclass(frozen=True)
+class Refused:
+    """Refused by the planner or by the run, at a place with this text if one is said."""
+
+    number: int
+    at: bytes | None = None
+
+
+@dataclass(frozen=True)
+class Matched:
+    """A match that gives these names values equal to these; of other names nothing is said."""
+
+    values: Mapping[bytes, bytes] = field(default_factory=dict)
+
+
+@dataclass(frozen=True)
+class NotMatched:
+    """No match."""
+
+
+Expected = Planned | Refused | Matched | NotMatched
+
+
+def asks_for_run(expected: Expected) -> bool:
+    match expected:
+        case Refused(number):
+            return number in OF_RUNS
+        case _:
+            return isinstance(expected, Matched | NotMatched)
+
+
+def read_expected(text: bytes) -> Expected:
+    """What stands behind `=>`, up to the options."""
+    words = text.split()
+    said = b" ".join(words).decode(errors="replace")
+    if said == "planned":
+        return Planned()
+    if said in FORM_NAMES:
+        return Planned(said)
+    if said == "no match":
+        return NotMatched()
+    match words[:1]:
+        case [b"refused"]:
+            return read_refused(text)
+        case [b"match"]:
+            return Matched(read_values(text))
+        case _:
+            raise RuleTextError(EXPECTED, 0, len(text))
+
+
+def read_refused(text: bytes) -> Refused:
+    """`refused NUMBER` or `refused NUMBER at TEXT`."""
+    words = text.split(maxsplit=3)
+    number = int(words[1]) if words[1:] and words[1].isdigit() else 0
+    if number not in MEANINGS:
+        numbers = ", ".join(map(str, sorted(MEANINGS)))
+        raise RuleTextError(f"the numbers of refusals are {numbers}", 0, len(text))
+    match words[2:]:
+        case []:
+            return Refused(number)
+        case [b"at", place]:
+            return Refused(number, place)
+        case _:
+            raise RuleTextError("behind the number may stand: at TEXT", 0, len(text))
+
+
+def read_values(text: bytes) -> dict[bytes, bytes]:
+    """The names and values of `match NAME=VALUE, ..`."""
+    reader = Reader(text)
+    reader.next()
+    values: dict[bytes, bytes] = {}
+    while reader.peek().kind is not TokenKind.END:
+        if values:
+            reader.expect(b",")
+        name = reader.peek()
+        if name.kind is not TokenKind.NAME or name.text in values:
+            raise reader.error("expected a name that has not stood before")
+        reader.next()
+        reader.expect(b"=")
+        values[name.text] = read_value(reader)
+    return values
+
+
+def read_value(reader: Reader) -> bytes:
+    """The text of a value."""
+    expression = reader.expression()
+    sheet = sheet_of(Rule(reader.text, Operation.PATTERN, expression), Scope())
+    fault = no_value(sheet, sheet.roots[0])
+    if fault:
+        _, start, end, *_ = sheet.node(fault.node)
+        raise RuleTextError(f"here stands {fault.what}, which no value has", start, end)
+    return reader.text[expression.start : expression.end]
+
+
+def looked_at(expected: Expected, answer: Answer) -> Plan | Verdict | Refusal:
+    """What is held against the expectation: the run's verdict, unless a plan is expected."""
+    if isinstance(expected, Planned) or answer.verdict is None:
+        return answer.outcome
+    return answer.verdict
+
+
+def agrees(expected: Expected, answer: Answer) -> bool:
+    match expected, looked_at(expected, answer):
+        case Planned(form), Plan() as plan:
+            return form in (None, form_of(answer.sheet, plan).full_name())
+        case Refused(number, at), Refusal() as refusal:
+            return number == refusal.number and is_at(at, answer.sheet, refusal.place)
+        case Matched(expected_values), Match(values):
+            return all(
+                name in values and is_equal(answer.sheet, values[name], value)
+                for name, value in expected_values.items()
+            )
+        case NotMatched(), NoMatch():
+            return True
+        case _:
+            return False
+
+
+def is_equal(sheet: Sheet, number: int, text: bytes) -> bool:
+    """A node's value is that of the text, which is laid out behind a copy of the sheet."""
+    both = replace(
+        sheet,
+        nodes=sheet.nodes.copy(),
+        children=sheet.children.copy(),
+        numbers=sheet.numbers.copy(),
+        strings=sheet.strings.copy(),
+        parts=sheet.parts.copy(),
+    )
+    Writer(both).value(text, read_expression(text))
+    return are_equal(both, number, both.value)
+
+
+def is_at(text: bytes | None, sheet: Sheet, place: int) -> bool:
+    """The place has this text; any will do where none is said."""
+    if text is None or place == 0:
+        return text is None
+    _, start, end, *_ = sheet.node(place)
+    return sheet.text[start:end] == text
+
+
+def found_in_words(expected: Expected, answer: Answer) -> str:
+    """The answer, as a line would expect it."""
+    match looked_at(expected, answer):
+        case Plan() as plan:
+            return form_of(answer.sheet, plan).full_name()
+        case Match(values):
+            said = (f"{decoded(name)}={node_text(answer.sheet, values[name])}" for name in values)
+            return f"match {', '.join(said)}".rstrip()
+        case Refusal(number, place):
+            at = f" at {node_text(answer.sheet, place)}" if place else ""
+            return f"refused {number}{at}"
+        case _:
+            return "no match"

@@ -1,0 +1,125 @@
+"""Which places of a rule's text the page marks, and the text with these marks as HTML."""
+
+import re
+from collections.abc import Iterable, Iterator
+from html import escape
+from typing import NamedTuple
+
+from rules.answer import Answer
+from rules.run.verdict import NoMatch
+from rules.tables.listing import Entry, EntryKind, Plan, Refusal
+from rules.tables.sheet import Sheet
+from rules.text.rule_text import Kind
+from rules.text.source import decoded, shown
+from rules.words.refusals import places_of
+
+BOUND = "bound"
+COMPARED = "compared"
+IGNORED = "ignored"
+PLACE = "place"
+MISS = "miss"
+
+# What each mark says.
+LEGEND = {
+    BOUND: "a name that is given a value",
+    COMPARED: "a name or expression that is compared with its value",
+    IGNORED: "a place that is ignored",
+    PLACE: "the place of a refusal or a note",
+    MISS: "the first miss of a run",
+}
+OF_ENTRIES = {
+    EntryKind.BIND: BOUND,
+    EntryKind.IGNORE: IGNORED,
+    EntryKind.COMPARE_EXPRESSION: COMPARED,
+}
+EQUALITY_CHECK = 5
+WILDCARD = 6
+# Text that may run from right to left, up to the end of its string.
+FOREIGN = re.compile(r'[^\x00-\x7f](?:[^"`]*[^\x00-\x7f])?')
+
+
+class Mark(NamedTuple):
+    start: int
+    end: int
+    kind: str
+
+
+def html_of(text: bytes) -> str:
+    """Text as it stands, each part in another script kept from turning what is around it."""
+    visible = escape(shown(decoded(text)), quote=False)
+    return FOREIGN.sub(lambda found: f"<bdi>{found.group()}</bdi>", visible)
+
+
+def marked_html(text: bytes, marks: Iterable[Mark], start: int = 0) -> str:
+    """A part of a text that begins at the start, with the marks that are in it."""
+    pieces: list[str] = []
+    place = 0
+    for mark in sorted(apart(marks)):
+        first, last = mark.start - start, mark.end - start
+        if place <= first and last <= len(text):
+            pieces += [html_of(text[place:first]), element(text[first:last] or b" ", mark.kind)]
+            place = last
+    return "".join(pieces) + html_of(text[place:])
+
+
+def element(text: bytes, kind: str) -> str:
+    spoken = f'<span class="spoken"> ({kind}) </span>'
+    return f'<span class="{kind}" title="{LEGEND[kind]}">{html_of(text)}{spoken}</span>'
+
+
+def apart(marks: Iterable[Mark]) -> list[Mark]:
+    """The marks without those that overlap one before them."""
+    kept: list[Mark] = []
+    for mark in marks:
+        if all(mark.end <= other.start or other.end <= mark.start for other in kept):
+            kept.append(mark)
+    return kept
+
+
+def marks_of(answer: Answer) -> Iterator[Mark]:
+    """Of the answer's whole text, in the order of their weight."""
+    for last in (answer.verdict, answer.outcome):
+        match last:
+            case NoMatch(miss):
+                yield mark_of(answer.sheet, miss.node, MISS)
+            case Refusal():
+                places = places_of(answer.sheet, last)
+                yield from (mark_of(answer.sheet, node, PLACE) for node, _ in places)
+            case Plan():
+                yield from marks_of_plan(answer.sheet, last)
+
+
+def mark_of(sheet: Sheet, number: int, kind: str) -> Mark:
+    node = sheet.node(number)
+    return Mark(node.start, node.end, kind)
+
+
+def marks_of_plan(sheet: Sheet, plan: Plan) -> Iterator[Mark]:
+    for entry in plan.entries:
+        if entry.kind in OF_ENTRIES:
+            yield mark_of(sheet, entry.node, OF_ENTRIES[entry.kind])
+    for entry, below in zip(plan.entries, plan.entries[1:]):
+        if is_comparison(entry, below):
+            yield from names_in(sheet, entry.node)
+    first, second, _ = sheet.roots
+    if plan.form == EQUALITY_CHECK:
+        yield from names_in(sheet, first)
+        yield from names_in(sheet, second)
+    if plan.form == WILDCARD:
+        sides = ((first, 1), (second, 2))
+        yield from (mark_of(sheet, root, IGNORED) for root, side in sides if plan.side & side)
+
+
+def is_comparison(entry: Entry, below: Entry) -> bool:
+    """A pair in which neither side binds: its value side is compared too."""
+    return entry.kind is EntryKind.PAIR and below.kind is EntryKind.COMPARE_EXPRESSION
+
+
+def names_in(sheet: Sheet, number: int) -> Iterator[Mark]:
+    """The names at and below a node, and the other expressions there, as compared."""
+    kind = sheet.node(number).kind
+    if kind in (Kind.NAME, Kind.OTHER):
+        yield mark_of(sheet, number, COMPARED)
+    if kind in (Kind.ARRAY, Kind.SET, Kind.OBJECT):
+        for item in sheet.items_of(number):
+            yield from names_in(sheet, item)

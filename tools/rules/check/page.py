@@ -1,0 +1,64 @@
+"""A file of rules and its answers as a page for a browser: one file, no script, no network."""
+
+from collections.abc import Mapping, Sequence
+from html import escape
+from pathlib import Path
+
+from rules.check.cards import rule_card, unreadable_card
+from rules.check.checking import Checked, Result
+from rules.check.lines import Unreadable
+from rules.check.marks import LEGEND
+from rules.check.report import tally_of
+from rules.text.source import shown
+from rules.words.notes import Note
+
+STYLE = Path(__file__).with_name("page.css")
+PAGE = """\
+<!DOCTYPE html>
+<html lang="en">
+<head>
+<meta charset="utf-8">
+<meta name="viewport" content="width=device-width, initial-scale=1">
+<title>{name}: {tally}</title>
+<style>
+{style}</style>
+</head>
+<body>
+<header>
+<h1>{name}</h1>
+<p class="tally">{tally}</p>
+<ul class="legend">
+{legend}</ul>
+</header>
+<main>
+{sections}</main>
+</body>
+</html>
+"""
+LEGEND_ITEM = '<li><span class="{kind}">{kind}</span> {says}</li>\n'
+SECTION = "<section>\n<h2>{heading}</h2>\n{cards}</section>\n"
+
+
+def page_of(name: str, results: Sequence[Result], notes: Mapping[int, Sequence[Note]]) -> str:
+    """The page; `notes` has those of the rules by their lines."""
+    checked = [result for result in results if isinstance(result, Checked)]
+    cards: dict[bool, list[str]] = {False: [], True: []}
+    for result in checked:
+        cards[result.agrees].append(rule_card(result, notes[result.line.number]))
+    unreadable = [unreadable_card(line) for line in results if isinstance(line, Unreadable)]
+    sections = [
+        section("What differs", cards[False]),
+        section("What can\u2019t be read", unreadable),
+        section("As expected", cards[True]),
+    ]
+    return PAGE.format(
+        name=escape(shown(name)),
+        tally=tally_of(results).in_words(),
+        style=STYLE.read_text(),
+        legend="".join(LEGEND_ITEM.format(kind=kind, says=LEGEND[kind]) for kind in LEGEND),
+        sections="".join(sections),
+    )
+
+
+def section(heading: str, cards: Sequence[str]) -> str:
+    return SECTION.format(heading=heading, cards="".join(cards)) if cards else ""

@@ -1,0 +1,260 @@
+"""The options of plan_rule, and the question that they ask."""
+
+import argparse
+import os
+from functools import cache
+from pathlib import Path
+from typing import NoReturn
+
+from rules.answer import Planner
+from rules.no_answer import NoAnswer
+from rules.question import MOST_ENTRIES, OPERATIONS, SCOPINGS, VERSIONS, Question
+from rules.tables.library import Library
+from rules.tables.plansheet import Plansheet
+from rules.tables.sheet import BOUND, BOUND_HERE, GLOBAL, LOCAL, UNBOUND
+from rules.text.source import shown
+
+MARKS = {
+    "bound": BOUND,
+    "bound_here": BOUND | BOUND_HERE,
+    "unbound": UNBOUND,
+    "local": LOCAL,
+    "global": GLOBAL,
+}
+MEANINGS = {
+    "bound": "have a value",
+    "bound_here": "have a value from this very scope",
+    "unbound": "are declared to have none yet",
+    "local": "are local; unbound under --scheduler",
+    "global": "are global: known unless unbound",
+}
+# More than any plan needs.
+LARGEST_BUFFER = 2**18
+BUILT_LIBRARY = Path(__file__).resolve().parents[2] / "target" / "tools" / "libteluddru.so"
+
+DESCRIPTION = """\
+Plans a line of rule text and says the plan, or why there is none, in words; runs
+it on a value.
+"""
+
+EPILOG = """\
+rule text:
+  LEFT = RIGHT    LEFT := RIGHT    some VALUE in XS    some KEY, VALUE in XS
+  or one expression: a pattern, or what --as says.
+
+expressions:
+  name  _  12  -3  "text"  `raw text`  true  false  null  [a, b]  {a, b}  set()
+  {"k": v}  {}
+  Numbers are whole, from -9223372036854775808 to 18446744073709551615; strings
+  have JSON's escapes; {} is the empty object.
+  All others are taken whole, as compared but never taken apart:
+  calls f(x), references a.b[c], operators (+ - * / % & | == != < <= > >= in), a
+  minus before other than a number, comprehensions, all in parentheses, (x) too.
+  Inside the brackets of these, text need only be balanced, and names there are
+  not the planner's. Calls and references are written without blanks.
+  # starts a comment, up to the line's end; lines of comment alone may stand
+  before and after the rule. A rule that begins with - stands behind --, all
+  options before it: plan_rule --bound x -- '-1=x'
+
+values:
+  literals, arrays, and objects with literal keys that differ. --on and --given
+  take them as text.
+
+scope:
+  NAMES are parted by commas; each option may stand more than once, and the
+  marks of a name add up. A name without marks is unbound.
+
+files of rules:
+  RULE => EXPECTED [OPTIONS], a rule a line. EXPECTED: planned, bind left, pairs,
+  refused 13, match, match w=18, no match, .. A line that begins with -- has
+  options for those that follow; tools/README.md has all of it.
+
+exit status:
+  0 planned, matched, or nothing differs; 1 refused, no match, or something
+  differs; 2 no answer (rule text, usage, no library, a line that can't be read,
+  output that can't be written)
+"""
+
+
+class LineParser(argparse.ArgumentParser):
+    """A parser that says what is wrong and doesn't end the program."""
+
+    def error(self, message: str) -> NoReturn:
+        raise NoAnswer(message)
+
+
+def question_from(arguments: list[str], rule: bytes) -> Question:
+    """The question of a rule with options in a list."""
+    return question_of(line_parser().parse_args(arguments), rule)
+
+
+@cache
+def line_parser() -> argparse.ArgumentParser:
+    parser = LineParser(add_help=False, allow_abbrev=False)
+    add_question_options(parser)
+    return parser
+
+
+def question_of(options: argparse.Namespace, rule: bytes) -> Question:
+    marks: dict[bytes, int] = {}
+    named: dict[bytes, str] = {}
+    for option, mark in MARKS.items():
+        for name in listed_names(options, option):
+            marks[name] = marks.get(name, 0) | mark
+            named.setdefault(name, "--" + option.replace("_", "-"))
+    return Question(
+        rule,
+        options.operation,
+        marks,
+        named,
+        options.scheduler,
+        options.scoping,
+        options.careful,
+        options.rego,
+        None if options.on is None else os.fsencode(options.on),
+        given_values(options.given),
+        options.run,
+        options.entries,
+    )
+
+
+def listed_names(options: argparse.Namespace, option: str) -> list[bytes]:
+    lists = vars(options)[option]
+    return [os.fsencode(name.strip()) for names in lists for name in names.split(",")]
+
+
+def given_values(arguments: list[str]) -> dict[bytes, bytes]:
+    values: dict[bytes, bytes] = {}
+    for argument in arguments:
+        text, sign, value = argument.partition("=")
+        name = os.fsencode(text.strip())
+        if not sign:
+            raise NoAnswer(f"--given: NAME=VALUE is asked for, found `{shown(argument)}`")
+        if name in values:
+            raise NoAnswer(f"--given: `{shown(text.strip())}` is given twice")
+        values[name] = os.fsencode(value)
+    return values
+
+
+def command_parser() -> argparse.ArgumentParser:
+    parser = argparse.ArgumentParser(
+        prog="plan_rule",
+        description=DESCRIPTION,
+        epilog=EPILOG,
+        formatter_class=argparse.RawDescriptionHelpFormatter,
+        allow_abbrev=False,
+    )
+    parser.add_argument(
+        "rule", metavar="RULE", nargs="?", help="rule text; - reads it from standard input"
+    )
+    add_check_options(parser)
+    add_question_options(parser)
+    printed = parser.add_mutually_exclusive_group()
+    printed.add_argument("--json", action="store_true", help="print the answer as a JSON object")
+    printed.add_argument(
+        "--sheet", action="store_true", help="print the sheet; no planner is needed"
+    )
+    add_planner_options(parser)
+    return parser
+
+
+def add_check_options(parser: argparse.ArgumentParser) -> None:
+    parser.add_argument(
+        "--check",
+        metavar="FILE",
+        help="check a file of rules, which says what is expected of each, and tell what differs;"
+        " - is standard input",
+    )
+    parser.add_argument("--html", metavar="FILE", help="with --check: write a page for a browser")
+
+
+def add_question_options(parser: argparse.ArgumentParser) -> None:
+    """What a rule of a file may have too."""
+    parser.add_argument(
+        "--as", dest="operation", choices=OPERATIONS, help="what a pattern alone is (pattern)"
+    )
+    add_scope_options(parser)
+    parser.add_argument(
+        "--careful",
+        action="store_true",
+        help="check structure behind parts that can't be judged too; of :=, = and some-in only,"
+        " others are planned as without it",
+    )
+    parser.add_argument(
+        "--rego",
+        choices=VERSIONS,
+        default="v0",
+        help="the Rego that the rule is written for (v0); v1 reserves input and data",
+    )
+    parser.add_argument(
+        "--entries",
+        metavar="N",
+        type=buffer_size,
+        default=MOST_ENTRIES,
+        help=f"plan into a buffer of so many entries ({MOST_ENTRIES})",
+    )
+    add_run_options(parser)
+
+
+def add_scope_options(parser: argparse.ArgumentParser) -> None:
+    for name, meaning in MEANINGS.items():
+        parser.add_argument(
+            "--" + name.replace("_", "-"),
+            metavar="NAMES",
+            action="append",
+            default=[],
+            help=f"these names {meaning}",
+        )
+    parser.add_argument("--scheduler", action="store_true", help="the scope is a scheduler's")
+    parser.add_argument(
+        "--scoping",
+        choices=SCOPINGS,
+        default="respect",
+        help="respect the parent's names or shadow them (respect); of patterns and parameters only",
+    )
+
+
+def add_run_options(parser: argparse.ArgumentParser) -> None:
+    parser.add_argument(
+        "--on", metavar="VALUE", help="run the pattern, parameter or index on this value"
+    )
+    parser.add_argument(
+        "--run", action="store_true", help="run one side of = or := on the other, a value"
+    )
+    parser.add_argument(
+        "--given",
+        metavar="NAME=VALUE",
+        action="append",
+        default=[],
+        help="the name has this value; it is bound unless another option names it",
+    )
+
+
+def add_planner_options(parser: argparse.ArgumentParser) -> None:
+    planners = parser.add_mutually_exclusive_group()
+    planners.add_argument(
+        "--library",
+        metavar="PATH",
+        help="plan and run by this shared library (the variable TELUDDRU_SHARED, or"
+        " target/tools/libteluddru.so, which tools/build_library makes)",
+    )
+    planners.add_argument(
+        "--plansheet",
+        metavar="PATH",
+        help="plan by this program over sheets, and run nothing (the variable PLANSHEET)",
+    )
+
+
+def buffer_size(text: str) -> int:
+    if not text.isdecimal() or not text.isascii() or len(text) > 6 or int(text) > LARGEST_BUFFER:
+        raise argparse.ArgumentTypeError(f"a number from 0 to {LARGEST_BUFFER} is asked for")
+    return int(text)
+
+
+def planner_of(options: argparse.Namespace) -> Planner:
+    """The planner that an option names, or else a variable, or the library as it is built."""
+    by_variable = os.environ.get("PLANSHEET")
+    if options.plansheet or (by_variable and not options.library):
+        return Plansheet(Path(options.plansheet or by_variable))
+    shared = options.library or os.environ.get("TELUDDRU_SHARED")
+    return Library(Path(shared or BUILT_LIBRARY))

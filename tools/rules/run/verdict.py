@@ -1,0 +1,131 @@
+"""A run's verdict: that of the proved code, held against the tool's own carrying out."""
+
+from dataclasses import dataclass
+from typing import NamedTuple
+
+from rules.no_answer import NoAnswer
+from rules.run.carrying_out import CarryingOut, Miss
+from rules.run.values import Fault, names_below, no_value, not_simple
+from rules.tables.library import NO_MATCH, Library, Ran
+from rules.tables.listing import RunRefusal
+from rules.tables.sheet import Sheet
+from rules.text.source import decoded
+
+PLAN_TOO_LARGE = 6
+NOT_SIMPLE = 21
+NOT_A_VALUE = 22
+NO_VALUE_OF_NAME = 23
+MATCHED = 0
+
+
+class Task(NamedTuple):
+    """What is run on what."""
+
+    pattern: int
+    value: int
+    scoping: int
+
+
+@dataclass(frozen=True)
+class Match:
+    """The node of each planned name's value."""
+
+    values: dict[bytes, int]
+
+
+@dataclass(frozen=True)
+class NoMatch:
+    miss: Miss
+
+
+Verdict = Match | NoMatch | RunRefusal
+
+
+def verdict_of(sheet: Sheet, task: Task, library: Library, entries: int) -> Verdict:
+    listed = [sheet.given.get(name, 0) for name in sheet.names]
+    ran = library.run(sheet, *task, listed, entries)
+    read = read_verdict(sheet, task, ran)
+    proved = ran.answer[0], ran.values
+    if proved != numbers_of(sheet, read, listed):
+        raise disagreement(sheet, proved, numbers_of(sheet, read, listed))
+    return read
+
+
+def read_verdict(sheet: Sheet, task: Task, ran: Ran) -> Verdict:
+    """The tool's own: what stands in the way of a run, or its plan carried out."""
+    in_the_way = run_refusal(sheet, task)
+    if in_the_way:
+        return in_the_way
+    number, _, needed, _ = ran.answer
+    if number == PLAN_TOO_LARGE:
+        return RunRefusal(number, 0, (needed, 0))
+    if not ran.entries:
+        raise NoAnswer(
+            "the tool's reading disagrees with the proved run, which answers"
+            f" {told(sheet, number, ran.values)}; the tool finds nothing in the way of a run"
+        )
+    carrying_out = CarryingOut(sheet, ran.entries)
+    miss = carrying_out.miss(0, task.value)
+    return NoMatch(miss) if miss else Match(carrying_out.values)
+
+
+def run_refusal(sheet: Sheet, task: Task) -> RunRefusal | None:
+    """21, 22 or 23 with its place, if any."""
+    fault = not_simple(sheet, task.pattern)
+    if fault:
+        return refused(NOT_SIMPLE, fault)
+    fault = no_value(sheet, task.value) or given_fault(sheet)
+    if fault:
+        return refused(NOT_A_VALUE, fault)
+    name = name_without_value(sheet, task)
+    return refused(NO_VALUE_OF_NAME, Fault(name, "the name")) if name else None
+
+
+def given_fault(sheet: Sheet) -> Fault | None:
+    """The first place of the given values that is none."""
+    for name, node in sheet.given.items():
+        fault = no_value(sheet, node)
+        if fault:
+            return Fault(fault.node, f"{fault.what}, in the value given to `{decoded(name)}`")
+    return None
+
+
+def refused(number: int, fault: Fault) -> RunRefusal:
+    return RunRefusal(number, fault.node, (0, 0), fault.what)
+
+
+def name_without_value(sheet: Sheet, task: Task) -> int:
+    """The first known name of the pattern that has no value, or 0."""
+    for node in names_below(sheet, task.pattern):
+        name = sheet.name_of(node)
+        if name not in sheet.given and sheet.scope.is_known(name, task.scoping):
+            return node
+    return 0
+
+
+def numbers_of(sheet: Sheet, verdict: Verdict, listed: list[int]) -> tuple[int, list[int]]:
+    """The number and the values by name number that a verdict stands for."""
+    match verdict:
+        case Match(values):
+            names = zip(sheet.names, listed)
+            return MATCHED, [values.get(name, before) for name, before in names]
+        case NoMatch():
+            return NO_MATCH, listed
+        case _:
+            return verdict.number, listed
+
+
+def disagreement(
+    sheet: Sheet, proved: tuple[int, list[int]], read: tuple[int, list[int]]
+) -> NoAnswer:
+    return NoAnswer(
+        f"the tool's reading disagrees with the proved run, which answers {told(sheet, *proved)};"
+        f" the tool reads {told(sheet, *read)}"
+    )
+
+
+def told(sheet: Sheet, number: int, values: list[int]) -> str:
+    """A verdict's number and the nodes of the values that names have."""
+    words = {MATCHED: "match", NO_MATCH: "no match"}.get(number, f"refusal {number}")
+    nodes = [f"`{decoded(name)}` at node {node}" for name, node in zip(sheet.names, values) if node]
+    return f"{words} with {', '.join(nodes) or 'no values'}"

@@ -1,0 +1,137 @@
+"""Plans and runs by the C calls over tables, in the library that tools/build_library makes."""
+
+import ctypes
+from array import array
+from itertools import chain
+from pathlib import Path
+from typing import NamedTuple
+
+from rules.no_answer import NoAnswer
+from rules.tables.listing import (
+    ENTRY_COLUMNS,
+    HEAD_COLUMNS,
+    Entry,
+    ListingError,
+    Plan,
+    Refusal,
+    read_answer,
+    read_entries,
+)
+from rules.tables.sheet import Sheet
+
+WORD = "I"
+LONG = "Q"
+BYTE = "B"
+LENT = [ctypes.c_void_p, ctypes.c_size_t]
+TABLES = 7
+NO_MATCH = 100
+# A range that is empty has an address too.
+NOTHING = array(LONG, [0])
+
+
+class Ran(NamedTuple):
+    """A run's answer, the plan that was carried out, and the values by name number afterwards."""
+
+    answer: list[int]
+    entries: list[Entry]
+    values: list[int]
+
+
+class Library:
+    """The loaded calls, with buffers that are used again for every question."""
+
+    runs = True
+
+    def __init__(self, path: Path) -> None:
+        if not path.exists():
+            raise NoAnswer(
+                f"there is no {path}: build it with tools/build_library, or name another with"
+                " --library or the variable TELUDDRU_SHARED"
+            )
+        self.path = path
+        try:
+            calls = ctypes.CDLL(str(path.resolve()))
+            self.plan_call = called(calls.teluddru_plan, 7, 2)
+            self.run_call = called(calls.teluddru_run, 4, 3)
+        except (OSError, AttributeError) as error:
+            raise NoAnswer(f"{path} can't be called: {error}") from None
+        self.entries = array(WORD)
+        self.answer = array(WORD, [0] * HEAD_COLUMNS)
+        self.tables: Tables | None = None
+
+    def plan(self, sheet: Sheet, version: int, entries: int) -> Plan | Refusal:
+        plan = self.space(entries)
+        numbers = (*sheet.asked(), version)
+        self.plan_call(*self.lend(sheet), *numbers, *plan, *address(self.answer))
+        head = self.answer.tolist()
+        try:
+            return read_answer(head, self.rows(head[3] if head[0] == 0 else 0), len(sheet.nodes))
+        except ListingError as error:
+            raise NoAnswer(f"the plan of {self.path} can't be read: {error}") from None
+
+    def run(
+        self, sheet: Sheet, pattern: int, value: int, scoping: int, listed: list[int], entries: int
+    ) -> Ran:
+        """Runs a pattern on a value; `listed` has the node of each name's value, or 0."""
+        values = array(WORD, listed)
+        lent = (*self.lend(sheet), sheet.scope.scheduler, scoping, pattern, value)
+        self.run_call(*lent, *address(values), *self.space(entries), *address(self.answer))
+        head = self.answer.tolist()
+        found = self.rows(self.planned(entries)) if head[0] in (0, NO_MATCH) else []
+        try:
+            return Ran(head, read_entries(found, len(sheet.nodes)), values.tolist())
+        except ListingError as error:
+            raise NoAnswer(f"the run's plan of {self.path} can't be read: {error}") from None
+
+    def lend(self, sheet: Sheet) -> list[int]:
+        if self.tables is None or self.tables.sheet is not sheet:
+            self.tables = Tables(sheet)
+        return self.tables.lent
+
+    def space(self, entries: int) -> tuple[int, int]:
+        """The plan buffer, with space for so many entries."""
+        words = entries * ENTRY_COLUMNS
+        if len(self.entries) < words:
+            self.entries = array(WORD, bytes(words * self.entries.itemsize))
+        return address(self.entries)[0], words
+
+    def planned(self, space: int) -> int:
+        """How many entries a run has planned: no kind is 0, and behind a plan are zeros."""
+        kinds = self.entries[: space * ENTRY_COLUMNS : ENTRY_COLUMNS]
+        return kinds.index(0) if 0 in kinds else len(kinds)
+
+    def rows(self, entries: int) -> list[list[int]]:
+        words = self.entries[: entries * ENTRY_COLUMNS].tolist()
+        places = range(0, len(words), ENTRY_COLUMNS)
+        return [words[place : place + ENTRY_COLUMNS] for place in places]
+
+
+class Tables:
+    """The six tables of a sheet and its marks, each as an address and a length."""
+
+    def __init__(self, sheet: Sheet) -> None:
+        names = list(sheet.names.values())
+        signed = ((int(number < 0), abs(number)) for number in sheet.numbers)
+        self.sheet = sheet
+        self.kept = [
+            array(WORD, chain.from_iterable(sheet.nodes)),
+            array(WORD, sheet.children),
+            array(LONG, chain.from_iterable(signed)),
+            array(WORD, chain.from_iterable(name[:2] for name in names)),
+            array(BYTE, sheet.strings),
+            array(BYTE, sheet.text),
+            array(BYTE, [name.marks for name in names]),
+        ]
+        self.lent = list(chain.from_iterable(map(address, self.kept)))
+
+
+def called(call: ctypes._CFuncPtr, numbers: int, written: int) -> ctypes._CFuncPtr:
+    """A call of the tables, so many numbers and so many ranges that are written."""
+    call.argtypes = LENT * TABLES + [ctypes.c_uint32] * numbers + LENT * written
+    call.restype = ctypes.c_uint32
+    return call
+
+
+def address(words: "array[int]") -> tuple[int, int]:
+    place, length = words.buffer_info()
+    return (place, length) if length else (NOTHING.buffer_info()[0], 0)

@@ -1,0 +1,162 @@
+"""An answer as an object for JSON; tools/README.md, "Machine-readable", says its fields."""
+
+from rules.answer import Answer
+from rules.run.carrying_out import Miss
+from rules.run.values import fields_of, key_text, literal_of
+from rules.run.verdict import Match, NoMatch
+from rules.tables.listing import Entry, EntryKind, Plan, Refusal
+from rules.tables.sheet import Sheet
+from rules.text.rule_text import Kind, Operation
+from rules.text.source import column, decoded
+from rules.words.notes import Note
+from rules.words.plans import form_of
+from rules.words.refusals import meaning_of
+
+Object = dict[str, object]
+
+OPERATIONS = {
+    Operation.PATTERN: "pattern",
+    Operation.COLON_EQUALS: ":=",
+    Operation.EQUALS: "=",
+    Operation.SOME_IN: "some-in",
+    Operation.INDEX: "index",
+    Operation.PARAMETER: "parameter",
+}
+# Document 02, request 1.
+KINDS = {
+    EntryKind.BIND: "bind",
+    EntryKind.IGNORE: "ignore",
+    EntryKind.COMPARE_EXPRESSION: "expression",
+    EntryKind.COMPARE_LITERAL: "literal",
+    EntryKind.ARRAY: "array",
+    EntryKind.OBJECT: "object",
+    EntryKind.PAIR: "pair",
+}
+
+
+class NoJson(Exception):
+    """A value that JSON can't say: two keys of one object have equal text."""
+
+
+def answer_object(answer: Answer, notes: list[Note], careful_alone: bool) -> Object:
+    sheet = answer.sheet
+    head = {
+        "text": decoded(sheet.parts[0].text),
+        "operation": OPERATIONS[sheet.operation],
+        "version": answer.question.rego,
+    }
+    if isinstance(answer.outcome, Refusal):
+        return {**head, **refusal_object(sheet, answer.outcome), "careful_alone": careful_alone}
+    told = [{"words": note.words, **place_object(sheet, note.start, note.end)} for note in notes]
+    return {
+        **head,
+        **plan_object(sheet, answer.outcome),
+        "run": run_object(answer),
+        "notes": told,
+    }
+
+
+def plan_object(sheet: Sheet, plan: Plan) -> Object:
+    form = form_of(sheet, plan)
+    return {
+        "answer": "planned",
+        "form": form.name,
+        "side": form.side or None,
+        "entries": [entry_object(sheet, entry) for entry in plan.entries],
+    }
+
+
+def entry_object(sheet: Sheet, entry: Entry) -> Object:
+    return {
+        "kind": KINDS[entry.kind],
+        **node_object(sheet, entry.node),
+        "depth": entry.depth,
+        "key": node_or_none(sheet, entry.key),
+        "position": entry.position,
+    }
+
+
+def refusal_object(sheet: Sheet, refusal: Refusal) -> Object:
+    meaning = meaning_of(refusal)
+    pattern = refusal.counts[0] if meaning.node_in_first_count else 0
+    return {
+        "answer": "refused",
+        "number": refusal.number,
+        "name": meaning.title,
+        "place": node_or_none(sheet, refusal.place),
+        "pattern_place": node_or_none(sheet, pattern),
+        "counts": [0, 0] if pattern else list(refusal.counts),
+    }
+
+
+def run_object(answer: Answer) -> Object | None:
+    if answer.task is None:
+        return None
+    sheet = answer.sheet
+    on = {"on": node_object(sheet, answer.task.value)}
+    match answer.verdict:
+        case Match(values):
+            names = {decoded(name): value_object(sheet, node) for name, node in values.items()}
+            return {**on, "answer": "match", "names": names}
+        case NoMatch(miss):
+            return {**on, "answer": "no match", "miss": miss_object(sheet, miss)}
+        case refusal:
+            return {**on, **refusal_object(sheet, refusal)}
+
+
+def miss_object(sheet: Sheet, miss: Miss) -> Object:
+    return {"words": miss.words, **node_object(sheet, miss.node)}
+
+
+def value_object(sheet: Sheet, node: int) -> Object:
+    """The text of a value, its place, and the value itself where JSON can say it."""
+    try:
+        return {**node_object(sheet, node), "value": json_value(sheet, node)}
+    except NoJson:
+        return node_object(sheet, node)
+
+
+def json_value(sheet: Sheet, number: int) -> object:
+    kind = sheet.node(number).kind
+    if kind is Kind.ARRAY:
+        return [json_value(sheet, item) for item in sheet.items_of(number)]
+    if kind is Kind.OBJECT:
+        return json_object(sheet, number)
+    literal = literal_of(sheet, number)
+    match literal.kind:
+        case Kind.STRING:
+            return key_text(literal)
+        case Kind.BOOL:
+            return literal.value == 1
+        case _:
+            return literal.value
+
+
+def json_object(sheet: Sheet, number: int) -> Object:
+    fields = fields_of(sheet, number)
+    found = {key_text(key): json_value(sheet, value) for key, value in fields.items()}
+    if len(found) < len(fields):
+        raise NoJson
+    return found
+
+
+def node_or_none(sheet: Sheet, number: int) -> Object | None:
+    return node_object(sheet, number) if number else None
+
+
+def node_object(sheet: Sheet, number: int) -> Object:
+    node = sheet.node(number)
+    return place_object(sheet, node.start, node.end)
+
+
+def place_object(sheet: Sheet, start: int, end: int) -> Object:
+    """A place in its part: bytes from 0, the column in characters from 1."""
+    part = sheet.part_of(start)
+    start, end = start - part.start, end - part.start
+    return {
+        "part": f"{part.what} {decoded(part.name)}".rstrip(),
+        "start": start,
+        "end": end,
+        "column": column(part.text, start),
+        "text": decoded(part.text[start:end]),
+    }
