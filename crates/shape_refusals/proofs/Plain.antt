@@ -1,11 +1,11 @@
 -- Keys of differing text differ, so what is plain is simple.
 use Prim.Native.Nat.{ℕ}
 use mathlib.Core.Path.{_≡_, refl, ap}
-use mathlib.Core.Bool.{Bool, true, false, _&&_, not}
+use mathlib.Core.Bool.{_&&_, not}
 use mathlib.Core.List.{List, [], _∷_, map}
 use mathlib.Core.Option.{Option}
 use mathlib.Core.Option as Option
-use lib.Dec.{T, T-not}
+use lib.Dec.{T, T-not, not-T}
 use Rattle.literal.specs.Literal.{Literal}
 use Rattle.literal.specs.Text.{keyText}
 use Rattle.table.specs.Names.{sameBytes}
@@ -27,11 +27,6 @@ written-texts (field k v fs) = go (literalKey k) (written-texts fs)
     go Option.none h = h
     go (Option.some l) h = ap (λ (ts : List (List ℕ)). keyText l ∷ ts) h
 
--- what is not true
-pub not-true-is : (b : Bool) → ¬ T b → T (not b)
-not-true-is true n = n tt
-not-true-is false n = tt
-
 -- a key that is there has its text there
 has-text : (k : Literal) (ks : List Literal) → T (hasKey k ks) → T (hasText (keyText k) (map keyText ks))
 unfolding hasKey hasText
@@ -46,7 +41,7 @@ unfolding differing differingTexts
 texts-differ [] t = t
 texts-differ (k ∷ ks) t =
     both (not (hasKey k ks)) (differing ks)
-    (not-true-is (hasKey k ks) (λ h. T-not (hasText (keyText k) (map keyText ks)) (and-left (not (hasText (keyText k) (map keyText ks))) (differingTexts (map keyText ks)) t) (has-text k ks h)))
+    (not-T (hasKey k ks) (λ h. T-not (hasText (keyText k) (map keyText ks)) (and-left (not (hasText (keyText k) (map keyText ks))) (differingTexts (map keyText ks)) t) (has-text k ks h)))
     (texts-differ ks (and-right (not (hasText (keyText k) (map keyText ks))) (differingTexts (map keyText ks)) t))
 
 mutual

@@ -3,7 +3,7 @@ use Prim.Native.Nat.{ℕ}
 use mathlib.Core.Path.{_≡_, refl, sym, ap, _∙_}
 use mathlib.Core.Bool.{Bool, true, false, cond, _||_, not, false≢true}
 use mathlib.Core.List.{List, [], _∷_, map}
-use lib.Dec.{T, T-not}
+use lib.Dec.{T, T-not, not-T}
 use Rattle.literal.specs.Literal.{Literal}
 use Rattle.literal.specs.Order.{Order, less, same, more, opposite, bytesOrder, told}
 use Rattle.literal.specs.Text.{keyText}
@@ -15,7 +15,6 @@ use Rattle.checks.specs.code.Texts.{isGreater}
 use Rattle.checks.proofs.TextOrder.{after, after-trans}
 use Rattle.value.specs.Value.{within}
 use Rattle.value.proofs.Keys.{and-left, and-right, both, or-left, or-right, or-elim, true-is, key→, within→, within←, keep, without, has-without}
-use Rattle.shape_refusals.proofs.Plain.{not-true-is}
 
 -- insertion by one test
 insert-by : (t u : List ℕ) (us : List (List ℕ)) → insertText t (u ∷ us) ≡ cond (after t u) (u ∷ insertText t us) (t ∷ (u ∷ us))
@@ -128,7 +127,7 @@ without-differs k (l ∷ ls) d = let n = first-new l ls d in go (sameKey k l) (n
   where
     go : (b : Bool) → (T (hasKey l ls) → ⊥) → T (differing ls) → T (differing (without k ls)) → T (differing (keep b l ls (without k ls)))
     go true n r h = r
-    go false n r h = both (not (hasKey l (without k ls))) (differing (without k ls)) (not-true-is (hasKey l (without k ls)) (λ t. n (left-has k l ls t))) h
+    go false n r h = both (not (hasKey l (without k ls))) (differing (without k ls)) (not-T (hasKey l (without k ls)) (λ t. n (left-has k l ls t))) h
 
 -- k is gone
 without-none : (k : Literal) (ls : List Literal) → T (differing ls) → T (hasKey k (without k ls)) → ⊥
