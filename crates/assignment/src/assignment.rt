@@ -56,13 +56,13 @@ fn structurally_incompatible(nodes: &[u32], a: u32, b: u32) -> bool
 }
 
 // The binding side's plan, whose entries stand in the scratch, held against the value side (ensure_structural_compatibility, then ensure_literal_match).
-fn bind_side(
+fn bind_side<'a>(
     nodes: &[u32],
     children: &[u32],
     numbers: &[u64],
     names: &[u32],
-    strings: &[u8],
-    text: &[u8],
+    strings: &'a [u8],
+    text: &'a [u8],
     form: u32,
     binding: u32,
     value: u32,
@@ -124,13 +124,13 @@ fn deliver_none(plan: &mut [u32], form: u32, side: u32) -> PlanAnswer
 }
 
 // `:=`, the left side's plan standing in the scratch.
-fn colon_equals_from(
+fn colon_equals_from<'a>(
     nodes: &[u32],
     children: &[u32],
     numbers: &[u64],
     names: &[u32],
-    strings: &[u8],
-    text: &[u8],
+    strings: &'a [u8],
+    text: &'a [u8],
     scope: Scope,
     left: u32,
     right: u32,
@@ -169,13 +169,13 @@ fn colon_equals_from(
 }
 
 // `:=`, the left side planned into a scratch with space for an entry of each node.
-fn colon_equals_in(
+fn colon_equals_in<'a>(
     nodes: &[u32],
     children: &[u32],
     numbers: &[u64],
     names: &[u32],
-    strings: &[u8],
-    text: &[u8],
+    strings: &'a [u8],
+    text: &'a [u8],
     scope: Scope,
     left: u32,
     right: u32,
@@ -253,13 +253,13 @@ fn wildcard_side(nodes: &[u32], names: &[u32], text: &[u8], left: u32, right: u3
 }
 
 // `=`, the right side planned anew and held against the left.
-fn bind_right(
+fn bind_right<'a>(
     nodes: &[u32],
     children: &[u32],
     numbers: &[u64],
     names: &[u32],
-    strings: &[u8],
-    text: &[u8],
+    strings: &'a [u8],
+    text: &'a [u8],
     states: &[u8; 128],
     left: u32,
     right: u32,
@@ -302,13 +302,13 @@ fn bind_right(
 }
 
 // `=`, the sides planned into a scratch with space for an entry of each node.
-fn equals_in(
+fn equals_in<'a>(
     nodes: &[u32],
     children: &[u32],
     numbers: &[u64],
     names: &[u32],
-    strings: &[u8],
-    text: &[u8],
+    strings: &'a [u8],
+    text: &'a [u8],
     scope: Scope,
     left: u32,
     right: u32,
@@ -390,13 +390,13 @@ fn equals_in(
 }
 
 // `=`: the wildcard form, or the sides.
-fn plan_equals(
+fn plan_equals<'a>(
     nodes: &[u32],
     children: &[u32],
     numbers: &[u64],
     names: &[u32],
-    strings: &[u8],
-    text: &[u8],
+    strings: &'a [u8],
+    text: &'a [u8],
     scope: Scope,
     left: u32,
     right: u32,
@@ -428,13 +428,13 @@ fn plan_equals(
 }
 
 // By the operator, the sides planned into a scratch with space for an entry of each node.
-fn plan_assignment_in(
+fn plan_assignment_in<'a>(
     nodes: &[u32],
     children: &[u32],
     numbers: &[u64],
     names: &[u32],
-    strings: &[u8],
-    text: &[u8],
+    strings: &'a [u8],
+    text: &'a [u8],
     scope: Scope,
     op: AssignOp,
     left: u32,
@@ -479,13 +479,13 @@ fn plan_assignment_in(
 }
 
 // Few nodes have a small scratch, since clearing the larger takes longer than a small plan.
-fn plan_assignment(
+fn plan_assignment<'a>(
     nodes: &[u32],
     children: &[u32],
     numbers: &[u64],
     names: &[u32],
-    strings: &[u8],
-    text: &[u8],
+    strings: &'a [u8],
+    text: &'a [u8],
     scope: Scope,
     op: AssignOp,
     left: u32,
@@ -532,13 +532,13 @@ fn plan_assignment(
     )
 }
 
-pub fn create_assignment_binding_plan(
+pub fn create_assignment_binding_plan<'a>(
     nodes: &[u32],
     children: &[u32],
     numbers: &[u64],
     names: &[u32],
-    strings: &[u8],
-    text: &[u8],
+    strings: &'a [u8],
+    text: &'a [u8],
     scope: Scope,
     op: AssignOp,
     left: u32,

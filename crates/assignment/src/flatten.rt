@@ -64,13 +64,13 @@ fn bind_planned(
 }
 
 // A side that binds to the other, its plan still to be made.
-fn bind_unplanned(
+fn bind_unplanned<'a>(
     nodes: &[u32],
     children: &[u32],
     numbers: &[u64],
     names: &[u32],
-    strings: &[u8],
-    text: &[u8],
+    strings: &'a [u8],
+    text: &'a [u8],
     states: &mut [u8; 128],
     pattern: u32,
     value: u32,
@@ -99,13 +99,13 @@ fn bind_unplanned(
 }
 
 // Two sides in pairs, from entry `at` on.
-fn flatten(
+fn flatten<'a>(
     nodes: &[u32],
     children: &[u32],
     numbers: &[u64],
     names: &[u32],
-    strings: &[u8],
-    text: &[u8],
+    strings: &'a [u8],
+    text: &'a [u8],
     states: &mut [u8; 128],
     left: u32,
     right: u32,
@@ -193,13 +193,13 @@ fn flatten(
     }
 }
 
-fn flatten_arrays(
+fn flatten_arrays<'a>(
     nodes: &[u32],
     children: &[u32],
     numbers: &[u64],
     names: &[u32],
-    strings: &[u8],
-    text: &[u8],
+    strings: &'a [u8],
+    text: &'a [u8],
     states: &mut [u8; 128],
     left: u32,
     right: u32,
@@ -238,13 +238,13 @@ fn flatten_arrays(
 }
 
 // The items of two arrays, `count` of them from two child entries on.
-fn flatten_items(
+fn flatten_items<'a>(
     nodes: &[u32],
     children: &[u32],
     numbers: &[u64],
     names: &[u32],
-    strings: &[u8],
-    text: &[u8],
+    strings: &'a [u8],
+    text: &'a [u8],
     states: &mut [u8; 128],
     lefts: usize,
     parent: u32,
@@ -290,13 +290,13 @@ fn flatten_items(
     Flattened::Next { at: here }
 }
 
-fn flatten_objects(
+fn flatten_objects<'a>(
     nodes: &[u32],
     children: &[u32],
     numbers: &[u64],
     names: &[u32],
-    strings: &[u8],
-    text: &[u8],
+    strings: &'a [u8],
+    text: &'a [u8],
     states: &mut [u8; 128],
     left: u32,
     right: u32,
@@ -342,13 +342,13 @@ fn flatten_objects(
 }
 
 // The right object's fields as written, each with the left's value under its key.
-fn flatten_fields(
+fn flatten_fields<'a>(
     nodes: &[u32],
     children: &[u32],
     numbers: &[u64],
     names: &[u32],
-    strings: &[u8],
-    text: &[u8],
+    strings: &'a [u8],
+    text: &'a [u8],
     states: &mut [u8; 128],
     left: u32,
     right: u32,
@@ -403,13 +403,13 @@ fn flatten_fields(
 }
 
 // The pairs of two sides of a good table, in the lent buffer. The scratch has space for an entry of each node.
-pub(crate) fn flatten_assignment_pairs(
+pub(crate) fn flatten_assignment_pairs<'a>(
     nodes: &[u32],
     children: &[u32],
     numbers: &[u64],
     names: &[u32],
-    strings: &[u8],
-    text: &[u8],
+    strings: &'a [u8],
+    text: &'a [u8],
     scope: Scope,
     left: u32,
     right: u32,

@@ -121,13 +121,13 @@ fn judge_sides(
 }
 
 // What becomes of two nodes, by the names that are known. The left one's plan and binders stay.
-pub(crate) fn judge(
+pub(crate) fn judge<'a>(
     nodes: &[u32],
     children: &[u32],
     numbers: &[u64],
     names: &[u32],
-    strings: &[u8],
-    text: &[u8],
+    strings: &'a [u8],
+    text: &'a [u8],
     states: &[u8; 128],
     left: u32,
     right: u32,

@@ -44,13 +44,13 @@ pub(crate) fn literal_keys(nodes: &[u32], children: &[u32], node: u32) -> bool
 }
 
 // The node of an object's last value under a literal key, by binary search, or 0.
-fn find_value(
+fn find_value<'a>(
     nodes: &[u32],
     children: &[u32],
     numbers: &[u64],
     names: &[u32],
-    strings: &[u8],
-    text: &[u8],
+    strings: &'a [u8],
+    text: &'a [u8],
     object: u32,
     order: &[u8; 256],
     total: usize,
@@ -78,13 +78,13 @@ fn find_value(
 }
 
 // The first key, of `count` fields from child entry `from` on, that the object lacks, or 0.
-fn first_missing(
+fn first_missing<'a>(
     nodes: &[u32],
     children: &[u32],
     numbers: &[u64],
     names: &[u32],
-    strings: &[u8],
-    text: &[u8],
+    strings: &'a [u8],
+    text: &'a [u8],
     object: u32,
     order: &[u8; 256],
     total: usize,
@@ -121,13 +121,13 @@ fn first_missing(
 }
 
 // The left object's keys in order, if they are the right's.
-pub(crate) fn collect_object_pairs(
+pub(crate) fn collect_object_pairs<'a>(
     nodes: &[u32],
     children: &[u32],
     numbers: &[u64],
     names: &[u32],
-    strings: &[u8],
-    text: &[u8],
+    strings: &'a [u8],
+    text: &'a [u8],
     left: u32,
     right: u32,
     order: &mut [u8; 256],
@@ -179,13 +179,13 @@ pub(crate) fn collect_object_pairs(
 }
 
 // The value of the field at a child entry, and the left object's value under its key.
-pub(crate) fn field_sides(
+pub(crate) fn field_sides<'a>(
     nodes: &[u32],
     children: &[u32],
     numbers: &[u64],
     names: &[u32],
-    strings: &[u8],
-    text: &[u8],
+    strings: &'a [u8],
+    text: &'a [u8],
     left: u32,
     order: &[u8; 256],
     total: usize,

@@ -50,13 +50,13 @@ pub(crate) fn introduces_binding(scratch: &[u32], count: usize) -> bool
 }
 
 // The plan of a side by the states alone, in the scratch: at position 1 below a pair, else at 0.
-pub(crate) fn preview_binding_plan(
+pub(crate) fn preview_binding_plan<'a>(
     nodes: &[u32],
     children: &[u32],
     numbers: &[u64],
     names: &[u32],
-    strings: &[u8],
-    text: &[u8],
+    strings: &'a [u8],
+    text: &'a [u8],
     states: &[u8; 128],
     node: u32,
     position: u32,
@@ -87,13 +87,13 @@ pub(crate) fn preview_binding_plan(
 }
 
 // Neither side's preview sees the other's names. The left one's plan and binders stay.
-pub(crate) fn preview_sides(
+pub(crate) fn preview_sides<'a>(
     nodes: &[u32],
     children: &[u32],
     numbers: &[u64],
     names: &[u32],
-    strings: &[u8],
-    text: &[u8],
+    strings: &'a [u8],
+    text: &'a [u8],
     states: &[u8; 128],
     left: u32,
     right: u32,

@@ -71,13 +71,13 @@ fn conversion_number(made: ConversionAnswer) -> u32
 }
 
 // The number of the refusal that comes before the operation's own, or 0.
-pub(crate) fn refused_first(
+pub(crate) fn refused_first<'a>(
     nodes: &[u32],
     children: &[u32],
     numbers: &[u64],
     names: &[u32],
-    strings: &[u8],
-    text: &[u8],
+    strings: &'a [u8],
+    text: &'a [u8],
     made: ConversionAnswer,
     asked: OperationNumbers,
 ) -> u32

@@ -12,13 +12,13 @@ use planner::buffer::clear;
 
 // Plans the operation into the buffer, for a version of Rego: any but 1 is version 0. Roots that it doesn't use are ignored.
 #[no_mangle]
-pub extern "C" fn teluddru_plan(
+pub extern "C" fn teluddru_plan<'a>(
     nodes: &[u32],
     children: &[u32],
     numbers: &[u64],
     names: &[u32],
-    strings: &[u8],
-    text: &[u8],
+    strings: &'a [u8],
+    text: &'a [u8],
     marks: &[u8],
     operation: u32,
     scheduler: u32,

@@ -13,13 +13,13 @@ use report::names_report;
 
 // For each name 1 bound in the pattern's plan, 2 met but not bound there, else 0.
 #[no_mangle]
-pub extern "C" fn teluddru_names_report(
+pub extern "C" fn teluddru_names_report<'a>(
     nodes: &[u32],
     children: &[u32],
     numbers: &[u64],
     names: &[u32],
-    strings: &[u8],
-    text: &[u8],
+    strings: &'a [u8],
+    text: &'a [u8],
     marks: &[u8],
     scheduler: u32,
     scoping: u32,

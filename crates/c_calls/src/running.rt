@@ -13,13 +13,13 @@ use run::run;
 
 // Runs the pattern on the value. `values` has for each name number the node of its value, or 0.
 #[no_mangle]
-pub extern "C" fn teluddru_run(
+pub extern "C" fn teluddru_run<'a>(
     nodes: &[u32],
     children: &[u32],
     numbers: &[u64],
     names: &[u32],
-    strings: &[u8],
-    text: &[u8],
+    strings: &'a [u8],
+    text: &'a [u8],
     marks: &[u8],
     scheduler: u32,
     scoping: u32,

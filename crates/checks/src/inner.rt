@@ -23,13 +23,13 @@ use table::reading::first_of;
 use table::reading::kind_of;
 
 // A pattern against a value. The two arrays are for the objects' key nodes; all levels share them, which keeps the stack small.
-fn check_structure(
+fn check_structure<'a>(
     nodes: &[u32],
     children: &[u32],
     numbers: &[u64],
     names: &[u32],
-    strings: &[u8],
-    text: &[u8],
+    strings: &'a [u8],
+    text: &'a [u8],
     pattern: u32,
     value: u32,
     reading: Reading,
@@ -90,13 +90,13 @@ fn check_structure(
 }
 
 // Items of a pattern from child entry `at` on, and of a value from `place` on.
-fn check_items(
+fn check_items<'a>(
     nodes: &[u32],
     children: &[u32],
     numbers: &[u64],
     names: &[u32],
-    strings: &[u8],
-    text: &[u8],
+    strings: &'a [u8],
+    text: &'a [u8],
     value: u32,
     at: usize,
     place: usize,
@@ -136,13 +136,13 @@ fn check_items(
 }
 
 // Two objects: their literal keys' texts first.
-fn check_object(
+fn check_object<'a>(
     nodes: &[u32],
     children: &[u32],
     numbers: &[u64],
     names: &[u32],
-    strings: &[u8],
-    text: &[u8],
+    strings: &'a [u8],
+    text: &'a [u8],
     pattern: u32,
     value: u32,
     reading: Reading,
@@ -194,13 +194,13 @@ fn check_object(
 }
 
 // The value's fields as written, each with the pattern's of an equal key. In the careful reading the mismatch at the pattern's first place counts.
-fn check_fields(
+fn check_fields<'a>(
     nodes: &[u32],
     children: &[u32],
     numbers: &[u64],
     names: &[u32],
-    strings: &[u8],
-    text: &[u8],
+    strings: &'a [u8],
+    text: &'a [u8],
     pattern: u32,
     value: u32,
     order: &[u8; 256],
@@ -258,13 +258,13 @@ fn check_fields(
 }
 
 // A field whose partner's place no longer counts, or that has none, is passed over.
-fn check_field(
+fn check_field<'a>(
     nodes: &[u32],
     children: &[u32],
     numbers: &[u64],
     names: &[u32],
-    strings: &[u8],
-    text: &[u8],
+    strings: &'a [u8],
+    text: &'a [u8],
     pattern: u32,
     value: u32,
     order: &[u8; 256],
@@ -325,13 +325,13 @@ fn check_field(
 }
 
 // A pattern against a value.
-pub fn check_literal_structure(
+pub fn check_literal_structure<'a>(
     nodes: &[u32],
     children: &[u32],
     numbers: &[u64],
     names: &[u32],
-    strings: &[u8],
-    text: &[u8],
+    strings: &'a [u8],
+    text: &'a [u8],
     pattern: u32,
     value: u32,
     reading: Reading,

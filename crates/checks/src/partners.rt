@@ -17,13 +17,13 @@ use table::reading::extract_literal_key;
 use table::reading::first_of;
 
 // The place, in its order, of a pattern's field under a literal key equal to a value's; `literals` if there is none.
-pub(crate) fn partner_place(
+pub(crate) fn partner_place<'a>(
     nodes: &[u32],
     children: &[u32],
     numbers: &[u64],
     names: &[u32],
-    strings: &[u8],
-    text: &[u8],
+    strings: &'a [u8],
+    text: &'a [u8],
     pattern: u32,
     order: &[u8; 256],
     literals: usize,
@@ -55,13 +55,13 @@ pub(crate) fn partner_place(
 }
 
 // The pattern's node at a place of its order.
-pub(crate) fn pattern_at(
+pub(crate) fn pattern_at<'a>(
     nodes: &[u32],
     children: &[u32],
     numbers: &[u64],
     names: &[u32],
-    strings: &[u8],
-    text: &[u8],
+    strings: &'a [u8],
+    text: &'a [u8],
     pattern: u32,
     order: &[u8; 256],
     literals: usize,
@@ -83,13 +83,13 @@ fn mark(marks: &mut [u32], place: usize)
 }
 
 // Marks the places of the pattern's fields that have a partner.
-fn mark_partners(
+fn mark_partners<'a>(
     nodes: &[u32],
     children: &[u32],
     numbers: &[u64],
     names: &[u32],
-    strings: &[u8],
-    text: &[u8],
+    strings: &'a [u8],
+    text: &'a [u8],
     pattern: u32,
     value: u32,
     order: &[u8; 256],
@@ -137,13 +137,13 @@ fn all_marked(marks: &[u32; 256], size: usize) -> bool
 }
 
 // Has each of the pattern's literal fields a partner?
-fn all_paired(
+fn all_paired<'a>(
     nodes: &[u32],
     children: &[u32],
     numbers: &[u64],
     names: &[u32],
-    strings: &[u8],
-    text: &[u8],
+    strings: &'a [u8],
+    text: &'a [u8],
     pattern: u32,
     value: u32,
     order: &[u8; 256],
@@ -173,13 +173,13 @@ fn all_paired(
 }
 
 // The same, asked in the careful reading alone.
-pub(crate) fn each_paired(
+pub(crate) fn each_paired<'a>(
     nodes: &[u32],
     children: &[u32],
     numbers: &[u64],
     names: &[u32],
-    strings: &[u8],
-    text: &[u8],
+    strings: &'a [u8],
+    text: &'a [u8],
     pattern: u32,
     value: u32,
     order: &[u8; 256],

@@ -30,11 +30,11 @@ pub struct ComparedKeys {
 }
 
 // Does the text of a literal come after that of a node's?
-fn comes_after(
+fn comes_after<'a>(
     nodes: &[u32],
     numbers: &[u64],
-    strings: &[u8],
-    text: &[u8],
+    strings: &'a [u8],
+    text: &'a [u8],
     a: LiteralRef,
     b: u32,
 ) -> bool
@@ -49,11 +49,11 @@ fn comes_after(
 }
 
 // The place of a literal among `size` keys in the order of texts, by binary search.
-fn find_text(
+fn find_text<'a>(
     nodes: &[u32],
     numbers: &[u64],
-    strings: &[u8],
-    text: &[u8],
+    strings: &'a [u8],
+    text: &'a [u8],
     keys: &[u32; 256],
     size: usize,
     key: LiteralRef,
@@ -75,11 +75,11 @@ fn find_text(
 }
 
 // One more key node, if it is a literal's; how many there are then.
-fn add_key(
+fn add_key<'a>(
     nodes: &[u32],
     numbers: &[u64],
-    strings: &[u8],
-    text: &[u8],
+    strings: &'a [u8],
+    text: &'a [u8],
     key: u32,
     keys: &mut [u32; 256],
     size: usize,
@@ -96,13 +96,13 @@ fn add_key(
 }
 
 // The literal key nodes of fields in an order, sorted by their texts.
-fn sort_ordered(
+fn sort_ordered<'a>(
     nodes: &[u32],
     children: &[u32],
     numbers: &[u64],
     names: &[u32],
-    strings: &[u8],
-    text: &[u8],
+    strings: &'a [u8],
+    text: &'a [u8],
     first: usize,
     order: &[u8; 256],
     total: usize,
@@ -122,13 +122,13 @@ fn sort_ordered(
 }
 
 // The same of all fields.
-fn sort_written(
+fn sort_written<'a>(
     nodes: &[u32],
     children: &[u32],
     numbers: &[u64],
     names: &[u32],
-    strings: &[u8],
-    text: &[u8],
+    strings: &'a [u8],
+    text: &'a [u8],
     first: usize,
     count: usize,
     keys: &mut [u32; 256],
@@ -147,11 +147,11 @@ fn sort_written(
 }
 
 // Have the keys of two sorted arrays the same texts?
-fn same_texts(
+fn same_texts<'a>(
     nodes: &[u32],
     numbers: &[u64],
-    strings: &[u8],
-    text: &[u8],
+    strings: &'a [u8],
+    text: &'a [u8],
     a: &[u32; 256],
     m: usize,
     b: &[u32; 256],
@@ -176,13 +176,13 @@ fn same_texts(
 }
 
 // A pattern's fields in an order, and a value's fields as written.
-fn compare_texts(
+fn compare_texts<'a>(
     nodes: &[u32],
     children: &[u32],
     numbers: &[u64],
     names: &[u32],
-    strings: &[u8],
-    text: &[u8],
+    strings: &'a [u8],
+    text: &'a [u8],
     first: usize,
     order: &[u8; 256],
     total: usize,
@@ -226,13 +226,13 @@ fn compare_texts(
 }
 
 // The pattern's fields into `order`, and the keys of the two objects.
-pub(crate) fn compare_object_keys(
+pub(crate) fn compare_object_keys<'a>(
     nodes: &[u32],
     children: &[u32],
     numbers: &[u64],
     names: &[u32],
-    strings: &[u8],
-    text: &[u8],
+    strings: &'a [u8],
+    text: &'a [u8],
     pattern: u32,
     value: u32,
     order: &mut [u8; 256],

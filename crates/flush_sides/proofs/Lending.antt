@@ -38,7 +38,7 @@ use Rattle.teluddru.proofs.Name as T
 use Rattle.teluddru.proofs.Name.Laws as T′
 use Rattle.teluddru.proofs.LocalArray.{lies-in, lies-out}
 
-module _ (n : ℕ) (κs : Lfts (suc (suc (suc (suc (suc n)))))) (Ts : List RattleType) where
+module _ (n : ℕ) (κs : Lfts (suc (suc (suc (suc n))))) (Ts : List RattleType) where
   abbrev Nodes : RattleType
   Nodes = ShrSlice (named 0) (κs .0) u32
 
@@ -50,7 +50,7 @@ module _ (n : ℕ) (κs : Lfts (suc (suc (suc (suc (suc n)))))) (Ts : List Rattl
 
   -- those after name
   abbrev Later : List RattleType
-  Later = ShrSlice (named 3) (κs .1 .1 .1 .0) u8 ∷ ShrSlice (named 4) (κs .1 .1 .1 .1 .0) u8 ∷ S.the-row ∷ Ts
+  Later = ShrSlice (named 3) (κs .1 .1 .1 .0) u8 ∷ ShrSlice (named 3) (κs .1 .1 .1 .0) u8 ∷ S.the-row ∷ Ts
 
   abbrev pub OverName : List RattleType
   OverName = Nodes ∷ Children ∷ Numbers ∷ T.the-row ∷ Later
@@ -62,10 +62,10 @@ module _ (n : ℕ) (κs : Lfts (suc (suc (suc (suc (suc n)))))) (Ts : List Rattl
   abbrev pub OverRecords : ℕ → List RattleType
   OverRecords ν = Nodes ∷ Children ∷ Numbers ∷ Names ν ∷ Later
 
-  abbrev pub lftsOn : ℕ → Lfts (suc (suc (suc (suc (suc (suc n))))))
+  abbrev pub lftsOn : ℕ → Lfts (suc (suc (suc (suc (suc n)))))
   lftsOn ν = (κs .0, (κs .1 .0, (κs .1 .1 .0, (ν ∷ [], κs .1 .1 .1))))
 
-  abbrev pub sharesOn : Shares (suc (suc (suc (suc (suc n))))) → Shares (suc (suc (suc (suc (suc (suc n))))))
+  abbrev pub sharesOn : Shares (suc (suc (suc (suc n)))) → Shares (suc (suc (suc (suc (suc n)))))
   sharesOn qs = (qs .0, (qs .1 .0, (qs .1 .1 .0, (fullShare, qs .1 .1 .1))))
 
   -- how the machine values are spelled, where those of Ts are
@@ -79,13 +79,13 @@ module _ (n : ℕ) (κs : Lfts (suc (suc (suc (suc (suc n)))))) (Ts : List Rattl
       shr-slice-tells (named 1) (κs .1 .0) u32,
       (
         shr-slice-tells (named 2) (κs .1 .1 .0) u64,
-        (LL.tells T.the-type T′.the-laws, (shr-slice-tells (named 3) (κs .1 .1 .1 .0) u8, (shr-slice-tells (named 4) (κs .1 .1 .1 .1 .0) u8, (LL.tells S.the-type S′.the-laws, tl)))),
+        (LL.tells T.the-type T′.the-laws, (shr-slice-tells (named 3) (κs .1 .1 .1 .0) u8, (shr-slice-tells (named 3) (κs .1 .1 .1 .0) u8, (LL.tells S.the-type S′.the-laws, tl)))),
       ),
     ),
   )
 
 -- and that they fit their locals
-pub fitting : {M : Type 1} (𝓤 : URA M) (H : Heap 𝓤) (A : Atoms 𝓤) (W : Given 𝓤 H A) (n : ℕ) (κs : Lfts (suc (suc (suc (suc (suc n)))))) (Ts : List RattleType) → Lawfuls 𝓤 H A Ts
+pub fitting : {M : Type 1} (𝓤 : URA M) (H : Heap 𝓤) (A : Atoms 𝓤) (W : Given 𝓤 H A) (n : ℕ) (κs : Lfts (suc (suc (suc (suc n))))) (Ts : List RattleType) → Lawfuls 𝓤 H A Ts
     → (a : Denots (OverName n κs Ts)) (vs : Valss (OverName n κs Ts)) → Are (OverName n κs Ts) (Ises (OverName n κs Ts)) a vs → Typed (mirs (OverName n κs Ts)) (flat (OverName n κs Ts) vs)
 fitting 𝓤 H A W n κs Ts L =
     all-typed 𝓤 H A (OverName n κs Ts)
@@ -101,7 +101,7 @@ abbrev pub array-ty : Ty
 array-ty = tyArray (lone (T.the-row .mir)) 1
 
 module _ {M : Type 1} (𝓤 : URA M) (H : Heap 𝓤) (A : Atoms 𝓤) (W : Given 𝓤 H A)
-    (n : ℕ) (κs : Lfts (suc (suc (suc (suc (suc n)))))) (qs : Shares (suc (suc (suc (suc (suc n)))))) (Ts : List RattleType) (a : Denots (OverName n κs Ts)) (vs : Valss (OverName n κs Ts)) (l : ℕ) where
+    (n : ℕ) (κs : Lfts (suc (suc (suc (suc n))))) (qs : Shares (suc (suc (suc (suc n))))) (Ts : List RattleType) (a : Denots (OverName n κs Ts)) (vs : Valss (OverName n κs Ts)) (l : ℕ) where
   abbrev x : Name
   x = a .1 .1 .1 .0
 
@@ -147,16 +147,16 @@ module _ {M : Type 1} (𝓤 : URA M) (H : Heap 𝓤) (A : Atoms 𝓤) (W : Given
 
   -- the tokens, and with that of ν
   abbrev Last : Item 𝓤
-  Last = raw (toks 𝓤 A (suc (suc n)) (κs .1 .1 .1) (qs .1 .1 .1))
+  Last = raw (toks 𝓤 A (suc n) (κs .1 .1 .1) (qs .1 .1 .1))
 
   abbrev With : Item 𝓤 → Item 𝓤
   With i = ‵ (flft (κs .0) (qs .0)) ⊛ (‵ (flft (κs .1 .0) (qs .1 .0)) ⊛ (‵ (flft (κs .1 .1 .0) (qs .1 .1 .0)) ⊛ i))
 
   abbrev Entry : Item 𝓤
-  Entry = raw (sep 𝓤 (toks 𝓤 A (suc (suc (suc (suc (suc n))))) κs qs) (sem 𝓤 H A (owns (OverName n κs Ts) a vs)))
+  Entry = raw (sep 𝓤 (toks 𝓤 A (suc (suc (suc (suc n)))) κs qs) (sem 𝓤 H A (owns (OverName n κs Ts) a vs)))
 
   abbrev Asked : ℕ → GName → SProp 𝓤
-  Asked ν γ = sep 𝓤 (sep 𝓤 (toks 𝓤 A (suc (suc (suc (suc (suc (suc n)))))) (lftsOn n κs Ts ν) (sharesOn n κs Ts qs)) (sem 𝓤 H A (owns (OverRecords n κs Ts ν) (argsOn ν γ) (valsOn ν)))) (emp 𝓤)
+  Asked ν γ = sep 𝓤 (sep 𝓤 (toks 𝓤 A (suc (suc (suc (suc (suc n))))) (lftsOn n κs Ts ν) (sharesOn n κs Ts qs)) (sem 𝓤 H A (owns (OverRecords n κs Ts ν) (argsOn ν γ) (valsOn ν)))) (emp 𝓤)
 
   asks : (ν : ℕ) (γ : GName) → ent 𝓤 (sep 𝓤 (A .lft (ν ∷ []) fullShare) (sep 𝓤 (sem 𝓤 H A (Names n κs Ts ν .own (ref γ) (sliceVal (l, 0) 1 ∷ []))) (mean 𝓤 H A Entry))) (Asked ν γ)
   asks ν γ =
@@ -173,10 +173,10 @@ module _ {M : Type 1} (𝓤 : URA M) (H : Heap 𝓤) (A : Atoms 𝓤) (W : Given
   -- It returns a value of type R: what the callee says of it, and the caller.
   module _ (R : RattleType) (typed : (r : R .Denot) (us : List Val) → Is R r us → Typed (R .mir) us) (said : ℕ → GName → R .Denot → SProp 𝓤) (told : R .Denot → SProp 𝓤) (tells : (ν : ℕ) (γ : GName) (r : R .Denot) → ent 𝓤 (said ν γ r) (told r)) where
     abbrev Said : ℕ → GName → Val → SProp 𝓤
-    Said ν γ v = H .⇛ (ex 𝓤 (λ (r : R .Denot). sep 𝓤 (sep 𝓤 (toks 𝓤 A (suc (suc (suc (suc (suc (suc n)))))) (lftsOn n κs Ts ν) (sharesOn n κs Ts qs)) (sem 𝓤 H A (R .own r (v ∷ [])))) (said ν γ r)))
+    Said ν γ v = H .⇛ (ex 𝓤 (λ (r : R .Denot). sep 𝓤 (sep 𝓤 (toks 𝓤 A (suc (suc (suc (suc (suc n))))) (lftsOn n κs Ts ν) (sharesOn n κs Ts qs)) (sem 𝓤 H A (R .own r (v ∷ [])))) (said ν γ r)))
 
     abbrev Told : Val → R .Denot → SProp 𝓤
-    Told v r = sep 𝓤 (sep 𝓤 (toks 𝓤 A (suc (suc (suc (suc (suc n))))) κs qs) (sem 𝓤 H A (R .own r (v ∷ [])))) (told r)
+    Told v r = sep 𝓤 (sep 𝓤 (toks 𝓤 A (suc (suc (suc (suc n)))) κs qs) (sem 𝓤 H A (R .own r (v ∷ [])))) (told r)
 
     abbrev Answer : Val → SProp 𝓤
     Answer v = H .⇛ (ex 𝓤 (Told v))

@@ -7,13 +7,13 @@ use scope::Scope;
 use scope::ScopingMode;
 use teluddru::Name;
 
-pub(crate) fn plan(
+pub(crate) fn plan<'a>(
     nodes: &[u32],
     children: &[u32],
     numbers: &[u64],
     name: Name,
-    strings: &[u8],
-    text: &[u8],
+    strings: &'a [u8],
+    text: &'a [u8],
     scope: Scope,
     operation: Operation,
     version: u32,
@@ -34,13 +34,13 @@ pub(crate) fn plan(
     )
 }
 
-pub(crate) fn names_report(
+pub(crate) fn names_report<'a>(
     nodes: &[u32],
     children: &[u32],
     numbers: &[u64],
     name: Name,
-    strings: &[u8],
-    text: &[u8],
+    strings: &'a [u8],
+    text: &'a [u8],
     scope: Scope,
     scoping: ScopingMode,
     pattern: u32,
@@ -61,13 +61,13 @@ pub(crate) fn names_report(
     )
 }
 
-pub(crate) fn run(
+pub(crate) fn run<'a>(
     nodes: &[u32],
     children: &[u32],
     numbers: &[u64],
     name: Name,
-    strings: &[u8],
-    text: &[u8],
+    strings: &'a [u8],
+    text: &'a [u8],
     scope: Scope,
     scoping: ScopingMode,
     pattern: u32,

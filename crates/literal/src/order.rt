@@ -2,7 +2,7 @@
 use super::Comparison;
 use super::LiteralRef;
 use super::key::key_of;
-use super::key::part;
+use super::text::string_bytes;
 ghost use Rattle.base.specs.Lent.{old};
 ghost use mathlib.Core.Path.{_≡_};
 ghost use Prim.Native.Nat.{_+_, _^_, _<_, _≤_, min};
@@ -142,39 +142,32 @@ pub fn compare_bytes(a: &[u8], b: &[u8]) -> Comparison
 }
 
 // The bytes with those of a string; no other reference has any.
-pub(crate) fn compare_to_string(
+pub(crate) fn compare_to_string<'a>(
     bytes: &[u8],
-    strings: &[u8],
-    text: &[u8],
+    strings: &'a [u8],
+    text: &'a [u8],
     l: LiteralRef,
 ) -> Comparison
     ensures { λ r. ⌜ r ≡ told (bytesOrder (old bytes) (bytesOf (old strings) (old text) l)) ⌝ }
 {
-    match l {
-        LiteralRef::String { start, count } => compare_bytes(bytes, part(strings, start, count)),
-        LiteralRef::RawString { start, count } => compare_bytes(bytes, part(text, start, count)),
-        _ => compare_bytes(bytes, &bytes[0..0]),
-    }
+    compare_bytes(bytes, string_bytes(strings, text, l))
 }
 
-fn compare_strings(strings: &[u8], text: &[u8], a: LiteralRef, b: LiteralRef) -> Comparison
+fn compare_strings<'a>(
+    strings: &'a [u8],
+    text: &'a [u8],
+    a: LiteralRef,
+    b: LiteralRef,
+) -> Comparison
     ensures { λ r. ⌜ r ≡ told (bytesOrder (bytesOf (old strings) (old text) a) (bytesOf (old strings) (old text) b)) ⌝ }
 {
-    match a {
-        LiteralRef::String { start, count } => {
-            compare_to_string(part(strings, start, count), strings, text, b)
-        }
-        LiteralRef::RawString { start, count } => {
-            compare_to_string(part(text, start, count), strings, text, b)
-        }
-        _ => compare_to_string(&strings[0..0], strings, text, b),
-    }
+    compare_to_string(string_bytes(strings, text, a), strings, text, b)
 }
 
-pub fn compare(
+pub fn compare<'a>(
     numbers: &[u64],
-    strings: &[u8],
-    text: &[u8],
+    strings: &'a [u8],
+    text: &'a [u8],
     a: LiteralRef,
     b: LiteralRef,
 ) -> Comparison

@@ -111,11 +111,11 @@ pub fn key_text(
 }
 
 // The bytes with the text of a key.
-fn compare_to_text(
+fn compare_to_text<'a>(
     bytes: &[u8],
     numbers: &[u64],
-    strings: &[u8],
-    text: &[u8],
+    strings: &'a [u8],
+    text: &'a [u8],
     l: LiteralRef,
 ) -> Comparison
     ensures { λ r. ⌜ r ≡ textCompared (old bytes) (literalOf (old numbers) (old strings) (old text) l) ⌝ }
@@ -128,24 +128,16 @@ fn compare_to_text(
     }
 }
 
-fn compare_string_text(
+fn compare_string_text<'a>(
     numbers: &[u64],
-    strings: &[u8],
-    text: &[u8],
+    strings: &'a [u8],
+    text: &'a [u8],
     a: LiteralRef,
     b: LiteralRef,
 ) -> Comparison
     ensures { λ r. ⌜ r ≡ textCompared (bytesOf (old strings) (old text) a) (literalOf (old numbers) (old strings) (old text) b) ⌝ }
 {
-    match a {
-        LiteralRef::String { start, count } => {
-            compare_to_text(part(strings, start, count), numbers, strings, text, b)
-        }
-        LiteralRef::RawString { start, count } => {
-            compare_to_text(part(text, start, count), numbers, strings, text, b)
-        }
-        _ => compare_to_text(&strings[0..0], numbers, strings, text, b),
-    }
+    compare_to_text(string_bytes(strings, text, a), numbers, strings, text, b)
 }
 
 fn same_digits(a: u64, b: u64) -> bool
@@ -176,10 +168,10 @@ fn same_form(x: SortKey, y: SortKey) -> bool
     same_digits(x.size, y.size)
 }
 
-pub fn compare_key_texts(
+pub fn compare_key_texts<'a>(
     numbers: &[u64],
-    strings: &[u8],
-    text: &[u8],
+    strings: &'a [u8],
+    text: &'a [u8],
     a: LiteralRef,
     b: LiteralRef,
 ) -> Comparison

@@ -409,6 +409,9 @@ module _ {T : Tables} {scratch starts links : List â„•} {at count value rest : â
     pub fields-link : start + i < 512
     fields-link = link-place (go .asks) (go .is-start) more
 
+    pub fields-index-fits : Fits w64 i
+    fields-index-fits = let l = fields-link in record { fits = omega arith }
+
     pub fields-next-fits : Fits w32 (i + 1)
     fields-next-fits = let l = fields-link in record { fits = omega arith }
 

@@ -33,13 +33,13 @@ fn bind_name(nodes: &[u32], list: &mut [u32; 128], node: u32, value: u32)
 }
 
 // Is a value equal to that of the name at a node?
-fn equals_name(
+fn equals_name<'a>(
     nodes: &[u32],
     children: &[u32],
     numbers: &[u64],
     names: &[u32],
-    strings: &[u8],
-    text: &[u8],
+    strings: &'a [u8],
+    text: &'a [u8],
     list: &[u32; 128],
     node: u32,
     value: u32,
@@ -53,13 +53,13 @@ fn equals_name(
 }
 
 // One entry, carried out on a value: `rest` levels of depth are left.
-fn match_entry(
+fn match_entry<'a>(
     nodes: &[u32],
     children: &[u32],
     numbers: &[u64],
     names: &[u32],
-    strings: &[u8],
-    text: &[u8],
+    strings: &'a [u8],
+    text: &'a [u8],
     scratch: &[u32; PATTERN_WORDS],
     starts: &[u16; 512],
     links: &[u16; 512],
@@ -134,13 +134,13 @@ fn match_entry(
 }
 
 // An array needs an array of its length, then takes the items.
-fn match_items(
+fn match_items<'a>(
     nodes: &[u32],
     children: &[u32],
     numbers: &[u64],
     names: &[u32],
-    strings: &[u8],
-    text: &[u8],
+    strings: &'a [u8],
+    text: &'a [u8],
     scratch: &[u32; PATTERN_WORDS],
     starts: &[u16; 512],
     links: &[u16; 512],
@@ -188,13 +188,13 @@ fn match_items(
 }
 
 // An object needs an object of equal key set, then takes the fields as written.
-fn match_fields(
+fn match_fields<'a>(
     nodes: &[u32],
     children: &[u32],
     numbers: &[u64],
     names: &[u32],
-    strings: &[u8],
-    text: &[u8],
+    strings: &'a [u8],
+    text: &'a [u8],
     scratch: &[u32; PATTERN_WORDS],
     starts: &[u16; 512],
     links: &[u16; 512],
@@ -259,13 +259,13 @@ pub struct Matched {
 }
 
 // The first `count` entries of the scratch, carried out from the first one on.
-pub fn match_pattern(
+pub fn match_pattern<'a>(
     nodes: &[u32],
     children: &[u32],
     numbers: &[u64],
     names: &[u32],
-    strings: &[u8],
-    text: &[u8],
+    strings: &'a [u8],
+    text: &'a [u8],
     scratch: &[u32; PATTERN_WORDS],
     count: usize,
     value: u32,

@@ -59,13 +59,13 @@ pub enum Operation {
 }
 
 // Version 0.
-fn plan_v0(
+fn plan_v0<'a>(
     nodes: &[u32],
     children: &[u32],
     numbers: &[u64],
     names: &[u32],
-    strings: &[u8],
-    text: &[u8],
+    strings: &'a [u8],
+    text: &'a [u8],
     scope: Scope,
     operation: Operation,
     plan: &mut [u32],
@@ -167,13 +167,13 @@ fn plan_v0(
 }
 
 // Plans the operation into the buffer, for a version of Rego: any but 1 is version 0.
-pub fn plan(
+pub fn plan<'a>(
     nodes: &[u32],
     children: &[u32],
     numbers: &[u64],
     names: &[u32],
-    strings: &[u8],
-    text: &[u8],
+    strings: &'a [u8],
+    text: &'a [u8],
     scope: Scope,
     operation: Operation,
     version: u32,

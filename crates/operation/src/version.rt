@@ -47,13 +47,13 @@ fn reserved_states(names: &[u32], text: &[u8], scope: Scope, scoping: ScopingMod
 }
 
 // The node of the first reserved name that the pattern would plan, or 0.
-fn reserved_in(
+fn reserved_in<'a>(
     nodes: &[u32],
     children: &[u32],
     numbers: &[u64],
     names: &[u32],
-    strings: &[u8],
-    text: &[u8],
+    strings: &'a [u8],
+    text: &'a [u8],
     scope: Scope,
     scoping: ScopingMode,
     root: u32,
@@ -79,13 +79,13 @@ fn reserved_in(
 }
 
 // That of the first pattern that has one.
-fn first_reserved(
+fn first_reserved<'a>(
     nodes: &[u32],
     children: &[u32],
     numbers: &[u64],
     names: &[u32],
-    strings: &[u8],
-    text: &[u8],
+    strings: &'a [u8],
+    text: &'a [u8],
     scope: Scope,
     operation: Operation,
 ) -> u32
@@ -125,13 +125,13 @@ fn first_reserved(
 }
 
 // The node of the name that refuses the operation, or 0: under version 1, where table check and roots don't refuse it.
-pub(crate) fn refusing_name(
+pub(crate) fn refusing_name<'a>(
     nodes: &[u32],
     children: &[u32],
     numbers: &[u64],
     names: &[u32],
-    strings: &[u8],
-    text: &[u8],
+    strings: &'a [u8],
+    text: &'a [u8],
     scope: Scope,
     operation: Operation,
     version: u32,

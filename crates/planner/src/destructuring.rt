@@ -15,13 +15,13 @@ use table::check;
 use table::reading::is_node;
 
 // A pattern of a good table: its plan in the lent buffer, or, if it is validated, its first name that is defined already.
-fn deliver_pattern(
+fn deliver_pattern<'a>(
     nodes: &[u32],
     children: &[u32],
     numbers: &[u64],
     names: &[u32],
-    strings: &[u8],
-    text: &[u8],
+    strings: &'a [u8],
+    text: &'a [u8],
     scope: Scope,
     scoping: ScopingMode,
     validate: bool,
@@ -69,13 +69,13 @@ fn deliver_pattern(
 }
 
 // The table check, the root, and the plan of a pattern.
-pub(crate) fn create_plan(
+pub(crate) fn create_plan<'a>(
     nodes: &[u32],
     children: &[u32],
     numbers: &[u64],
     names: &[u32],
-    strings: &[u8],
-    text: &[u8],
+    strings: &'a [u8],
+    text: &'a [u8],
     scope: Scope,
     scoping: ScopingMode,
     validate: bool,
@@ -109,13 +109,13 @@ pub(crate) fn create_plan(
 }
 
 // The pattern call: the plan of a pattern in the lent buffer.
-pub fn create_destructuring_plan(
+pub fn create_destructuring_plan<'a>(
     nodes: &[u32],
     children: &[u32],
     numbers: &[u64],
     names: &[u32],
-    strings: &[u8],
-    text: &[u8],
+    strings: &'a [u8],
+    text: &'a [u8],
     scope: Scope,
     scoping: ScopingMode,
     root: u32,

@@ -8,13 +8,13 @@ use scope::Scope;
 use scope::ScopingMode;
 
 // The loop index call: its plan respects the parent scope.
-pub fn create_loop_index_binding_plan(
+pub fn create_loop_index_binding_plan<'a>(
     nodes: &[u32],
     children: &[u32],
     numbers: &[u64],
     names: &[u32],
-    strings: &[u8],
-    text: &[u8],
+    strings: &'a [u8],
+    text: &'a [u8],
     scope: Scope,
     root: u32,
     plan: &mut [u32],
@@ -36,13 +36,13 @@ pub fn create_loop_index_binding_plan(
 }
 
 // The parameter call: only AllowShadowing parameters are validated.
-pub fn create_parameter_binding_plan(
+pub fn create_parameter_binding_plan<'a>(
     nodes: &[u32],
     children: &[u32],
     numbers: &[u64],
     names: &[u32],
-    strings: &[u8],
-    text: &[u8],
+    strings: &'a [u8],
+    text: &'a [u8],
     scope: Scope,
     scoping: ScopingMode,
     root: u32,

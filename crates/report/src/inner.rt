@@ -37,13 +37,13 @@ pub(crate) fn mark_met(met: &[u32; 128], list: &mut [u32])
 }
 
 // 2 for each name that a pattern meets, else 0: they are those that it would plan if none were known.
-pub fn names_met(
+pub fn names_met<'a>(
     nodes: &[u32],
     children: &[u32],
     numbers: &[u64],
     names: &[u32],
-    strings: &[u8],
-    text: &[u8],
+    strings: &'a [u8],
+    text: &'a [u8],
     pattern: u32,
 ) -> [u32; 128]
     requires { ⌜ GoodRoot (given nodes children numbers names strings text) pattern ⌝ }

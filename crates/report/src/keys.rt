@@ -17,13 +17,13 @@ use table::reading::first_of;
 use table::reading::kind_of;
 
 // 2 for a key that is a name; `_`, and no other name, has state 2.
-fn mark_key(
+fn mark_key<'a>(
     nodes: &[u32],
     children: &[u32],
     numbers: &[u64],
     names: &[u32],
-    strings: &[u8],
-    text: &[u8],
+    strings: &'a [u8],
+    text: &'a [u8],
     states: &[u8; 128],
     key: u32,
     met: &mut [u32; 128],
@@ -40,13 +40,13 @@ fn mark_key(
 }
 
 // Those of one object.
-fn mark_object_keys(
+fn mark_object_keys<'a>(
     nodes: &[u32],
     children: &[u32],
     numbers: &[u64],
     names: &[u32],
-    strings: &[u8],
-    text: &[u8],
+    strings: &'a [u8],
+    text: &'a [u8],
     states: &[u8; 128],
     object: u32,
     met: &mut [u32; 128],
@@ -75,13 +75,13 @@ fn mark_object_keys(
 }
 
 // Those of the objects at a node and below it, through arrays and object values.
-fn mark_keys(
+fn mark_keys<'a>(
     nodes: &[u32],
     children: &[u32],
     numbers: &[u64],
     names: &[u32],
-    strings: &[u8],
-    text: &[u8],
+    strings: &'a [u8],
+    text: &'a [u8],
     states: &[u8; 128],
     node: u32,
     met: &mut [u32; 128],
@@ -140,13 +140,13 @@ fn mark_keys(
 }
 
 // In the children of `parent` at `at`, `at + step` and so on, `left` of them.
-fn mark_keys_below(
+fn mark_keys_below<'a>(
     nodes: &[u32],
     children: &[u32],
     numbers: &[u64],
     names: &[u32],
-    strings: &[u8],
-    text: &[u8],
+    strings: &'a [u8],
+    text: &'a [u8],
     states: &[u8; 128],
     parent: u32,
     at: usize,
@@ -178,13 +178,13 @@ fn mark_keys_below(
 }
 
 // 2 for each name that a pattern meets or that stands as a computed key in it, else 0.
-pub(crate) fn names_reported(
+pub(crate) fn names_reported<'a>(
     nodes: &[u32],
     children: &[u32],
     numbers: &[u64],
     names: &[u32],
-    strings: &[u8],
-    text: &[u8],
+    strings: &'a [u8],
+    text: &'a [u8],
     pattern: u32,
 ) -> [u32; 128]
     requires { ⌜ GoodRoot (given nodes children numbers names strings text) pattern ⌝ }

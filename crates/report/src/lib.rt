@@ -55,13 +55,13 @@ fn mark_bound(nodes: &[u32], scratch: &[u32; PATTERN_WORDS], count: usize, list:
 }
 
 // 1 for each name that the pattern's plan binds.
-fn mark_planned(
+fn mark_planned<'a>(
     nodes: &[u32],
     children: &[u32],
     numbers: &[u64],
     names: &[u32],
-    strings: &[u8],
-    text: &[u8],
+    strings: &'a [u8],
+    text: &'a [u8],
     scope: Scope,
     scoping: ScopingMode,
     pattern: u32,
@@ -91,13 +91,13 @@ fn mark_planned(
 }
 
 // The report of a pattern of a good table, into a list that is long enough.
-fn report_names(
+fn report_names<'a>(
     nodes: &[u32],
     children: &[u32],
     numbers: &[u64],
     names: &[u32],
-    strings: &[u8],
-    text: &[u8],
+    strings: &'a [u8],
+    text: &'a [u8],
     scope: Scope,
     scoping: ScopingMode,
     pattern: u32,
@@ -123,13 +123,13 @@ fn report_names(
 }
 
 // For each name 1 bound in the pattern's plan, 2 met or a computed key but not bound there, else 0.
-pub fn names_report(
+pub fn names_report<'a>(
     nodes: &[u32],
     children: &[u32],
     numbers: &[u64],
     names: &[u32],
-    strings: &[u8],
-    text: &[u8],
+    strings: &'a [u8],
+    text: &'a [u8],
     scope: Scope,
     scoping: ScopingMode,
     pattern: u32,

@@ -14,13 +14,13 @@ ghost use Rattle.run.specs.code.ChecksPost.{markedNode, markedIfListed, 
 use table::reading::is_node;
 use value::inner::admitted::mark_nodes;
 
-pub(crate) fn is_simple(
+pub(crate) fn is_simple<'a>(
     nodes: &[u32],
     children: &[u32],
     numbers: &[u64],
     names: &[u32],
-    strings: &[u8],
-    text: &[u8],
+    strings: &'a [u8],
+    text: &'a [u8],
     node: u32,
 ) -> bool
     requires { ⌜ GoodRoot (given nodes children numbers names strings text) node ⌝ }
@@ -68,13 +68,13 @@ fn values_listed(nodes: &[u32], names: &[u32], marks: &[u8; 512], values: &[u32]
 }
 
 // Are the value and every listed node values?
-pub(crate) fn all_values(
+pub(crate) fn all_values<'a>(
     nodes: &[u32],
     children: &[u32],
     numbers: &[u64],
     names: &[u32],
-    strings: &[u8],
-    text: &[u8],
+    strings: &'a [u8],
+    text: &'a [u8],
     value: u32,
     values: &[u32],
 ) -> bool

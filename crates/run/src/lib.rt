@@ -38,13 +38,13 @@ pub enum RunAnswer {
 }
 
 // The plan in the scratch, carried out from the values in the list; a match sets the names with a binder.
-fn match_values(
+fn match_values<'a>(
     nodes: &[u32],
     children: &[u32],
     numbers: &[u64],
     names: &[u32],
-    strings: &[u8],
-    text: &[u8],
+    strings: &'a [u8],
+    text: &'a [u8],
     scope: Scope,
     scoping: ScopingMode,
     scratch: &[u32; PATTERN_WORDS],
@@ -78,13 +78,13 @@ fn match_values(
 }
 
 // A run that no check refused: the plan in the buffer, if it has space, then carried out.
-fn carry_out(
+fn carry_out<'a>(
     nodes: &[u32],
     children: &[u32],
     numbers: &[u64],
     names: &[u32],
-    strings: &[u8],
-    text: &[u8],
+    strings: &'a [u8],
+    text: &'a [u8],
     scope: Scope,
     scoping: ScopingMode,
     pattern: u32,
@@ -135,13 +135,13 @@ fn carry_out(
 }
 
 // A run of a good table, with roots in it and a list that is long enough.
-fn run_checked(
+fn run_checked<'a>(
     nodes: &[u32],
     children: &[u32],
     numbers: &[u64],
     names: &[u32],
-    strings: &[u8],
-    text: &[u8],
+    strings: &'a [u8],
+    text: &'a [u8],
     scope: Scope,
     scoping: ScopingMode,
     pattern: u32,
@@ -201,13 +201,13 @@ fn run_checked(
 }
 
 // Plans the pattern into the buffer and carries the plan out on the value. `values` has for each name number the node of its value, or 0.
-pub fn run(
+pub fn run<'a>(
     nodes: &[u32],
     children: &[u32],
     numbers: &[u64],
     names: &[u32],
-    strings: &[u8],
-    text: &[u8],
+    strings: &'a [u8],
+    text: &'a [u8],
     scope: Scope,
     scoping: ScopingMode,
     pattern: u32,

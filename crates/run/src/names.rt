@@ -117,13 +117,13 @@ fn all_have_values(
 }
 
 // Has each known name of the pattern a value?
-pub(crate) fn known_listed(
+pub(crate) fn known_listed<'a>(
     nodes: &[u32],
     children: &[u32],
     numbers: &[u64],
     names: &[u32],
-    strings: &[u8],
-    text: &[u8],
+    strings: &'a [u8],
+    text: &'a [u8],
     scope: Scope,
     scoping: ScopingMode,
     pattern: u32,

@@ -17,13 +17,13 @@ use table::reading::first_of;
 use table::reading::kind_of;
 
 // Does one of `left` items from child entry `at` on match the pattern, or is it unknown?
-fn any_fits(
+fn any_fits<'a>(
     nodes: &[u32],
     children: &[u32],
     numbers: &[u64],
     names: &[u32],
-    strings: &[u8],
-    text: &[u8],
+    strings: &'a [u8],
+    text: &'a [u8],
     pattern: u32,
     at: usize,
     left: usize,
@@ -57,13 +57,13 @@ fn any_fits(
 }
 
 // Where no item fits each is a mismatch, so the first mismatch is the first item's.
-fn check_collection_items(
+fn check_collection_items<'a>(
     nodes: &[u32],
     children: &[u32],
     numbers: &[u64],
     names: &[u32],
-    strings: &[u8],
-    text: &[u8],
+    strings: &'a [u8],
+    text: &'a [u8],
     pattern: u32,
     at: usize,
     left: usize,
@@ -103,13 +103,13 @@ fn check_collection_items(
     )
 }
 
-pub(crate) fn check_collection(
+pub(crate) fn check_collection<'a>(
     nodes: &[u32],
     children: &[u32],
     numbers: &[u64],
     names: &[u32],
-    strings: &[u8],
-    text: &[u8],
+    strings: &'a [u8],
+    text: &'a [u8],
     pattern: u32,
     collection: u32,
     reading: Reading,

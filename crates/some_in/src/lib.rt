@@ -27,13 +27,13 @@ struct ValidatedPlan {
     pub name: u32,
 }
 
-fn plan_validated(
+fn plan_validated<'a>(
     nodes: &[u32],
     children: &[u32],
     numbers: &[u64],
     names: &[u32],
-    strings: &[u8],
-    text: &[u8],
+    strings: &'a [u8],
+    text: &'a [u8],
     scope: Scope,
     root: u32,
     plan: &mut [u32],
@@ -104,13 +104,13 @@ fn deliver_some_in(
 }
 
 // The value, after a key whose entries stand before `at`.
-fn plan_value(
+fn plan_value<'a>(
     nodes: &[u32],
     children: &[u32],
     numbers: &[u64],
     names: &[u32],
-    strings: &[u8],
-    text: &[u8],
+    strings: &'a [u8],
+    text: &'a [u8],
     scope: Scope,
     value: u32,
     collection: u32,
@@ -154,13 +154,13 @@ fn plan_value(
     deliver_some_in(plan, form, check, value_plan.end)
 }
 
-fn plan_key(
+fn plan_key<'a>(
     nodes: &[u32],
     children: &[u32],
     numbers: &[u64],
     names: &[u32],
-    strings: &[u8],
-    text: &[u8],
+    strings: &'a [u8],
+    text: &'a [u8],
     scope: Scope,
     value: u32,
     collection: u32,
@@ -206,13 +206,13 @@ fn plan_key(
     )
 }
 
-fn plan_without_key(
+fn plan_without_key<'a>(
     nodes: &[u32],
     children: &[u32],
     numbers: &[u64],
     names: &[u32],
-    strings: &[u8],
-    text: &[u8],
+    strings: &'a [u8],
+    text: &'a [u8],
     scope: Scope,
     value: u32,
     collection: u32,
@@ -240,13 +240,13 @@ fn plan_without_key(
 }
 
 // Key root 0 says that there is no key.
-pub fn create_some_in_binding_plan(
+pub fn create_some_in_binding_plan<'a>(
     nodes: &[u32],
     children: &[u32],
     numbers: &[u64],
     names: &[u32],
-    strings: &[u8],
-    text: &[u8],
+    strings: &'a [u8],
+    text: &'a [u8],
     scope: Scope,
     value: u32,
     collection: u32,

@@ -56,13 +56,13 @@ pub enum NameClass {
 }
 
 // The first that holds: over a limit, breaks a rule, too deep, two names of equal bytes.
-pub fn check(
+pub fn check<'a>(
     nodes: &[u32],
     children: &[u32],
     numbers: &[u64],
     names: &[u32],
-    strings: &[u8],
-    text: &[u8],
+    strings: &'a [u8],
+    text: &'a [u8],
     scope: Scope,
 ) -> TableAnswer
     ensures { λ r. ⌜ TableAnswered (lent nodes children numbers names strings text) scope r ⌝ }

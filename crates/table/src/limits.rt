@@ -4,13 +4,13 @@ ghost use mathlib.Core.Path.{_≡_};
 ghost use Rattle.table.specs.Rules.{withinLimits};
 
 // Is no table over its limit? Refusal 1, before all else of the check.
-pub fn within_limits(
+pub fn within_limits<'a>(
     nodes: &[u32],
     children: &[u32],
     numbers: &[u64],
     names: &[u32],
-    strings: &[u8],
-    text: &[u8],
+    strings: &'a [u8],
+    text: &'a [u8],
 ) -> bool
     ensures { λ r. ⌜ r ≡ withinLimits (lent nodes children numbers names strings text) ⌝ }
 {

@@ -75,13 +75,13 @@ fn name_words_ok(nodes: &[u32], names: &[u32], text: &[u8], i: usize) -> bool
 }
 
 // What first and count are, by the kind.
-fn words_ok(
+fn words_ok<'a>(
     nodes: &[u32],
     children: &[u32],
     numbers: &[u64],
     names: &[u32],
-    strings: &[u8],
-    text: &[u8],
+    strings: &'a [u8],
+    text: &'a [u8],
     i: usize,
 ) -> bool
     requires { ⌜ i < length (now nodes) / 5 ⌝ }
@@ -105,13 +105,13 @@ fn words_ok(
     }
 }
 
-fn heads_ok(
+fn heads_ok<'a>(
     nodes: &[u32],
     children: &[u32],
     numbers: &[u64],
     names: &[u32],
-    strings: &[u8],
-    text: &[u8],
+    strings: &'a [u8],
+    text: &'a [u8],
 ) -> bool
     requires { ⌜ length (now nodes) / 5 ≤ 512 ⌝ }
     ensures { λ r. ⌜ r ≡ allFrom (headOkAt (lent nodes children numbers names strings text)) 0 (length (old nodes) / 5) ⌝ }
@@ -164,13 +164,13 @@ fn all_below(nodes: &[u32], children: &[u32]) -> bool
 }
 
 // The children come last: by then no child entry serves two nodes, so each is looked at once.
-pub(crate) fn nodes_ok(
+pub(crate) fn nodes_ok<'a>(
     nodes: &[u32],
     children: &[u32],
     numbers: &[u64],
     names: &[u32],
-    strings: &[u8],
-    text: &[u8],
+    strings: &'a [u8],
+    text: &'a [u8],
 ) -> bool
     requires { ⌜ NodesAsks (given nodes children numbers names strings text) ⌝ }
     ensures { λ r. ⌜ r ≡ nodesOk (lent nodes children numbers names strings text) ⌝ }

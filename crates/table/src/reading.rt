@@ -207,11 +207,11 @@ pub fn name_class(names: &[u32], text: &[u8], name: u32) -> NameClass
 }
 
 // A literal with that of a node, in the order of keys.
-pub fn compare_literal_to_node(
+pub fn compare_literal_to_node<'a>(
     nodes: &[u32],
     numbers: &[u64],
-    strings: &[u8],
-    text: &[u8],
+    strings: &'a [u8],
+    text: &'a [u8],
     a: LiteralRef,
     b: u32,
 ) -> Comparison
@@ -224,11 +224,11 @@ pub fn compare_literal_to_node(
 }
 
 // The literals of two nodes, in the order of keys.
-pub fn compare_literals(
+pub fn compare_literals<'a>(
     nodes: &[u32],
     numbers: &[u64],
-    strings: &[u8],
-    text: &[u8],
+    strings: &'a [u8],
+    text: &'a [u8],
     a: u32,
     b: u32,
 ) -> Comparison
@@ -241,11 +241,11 @@ pub fn compare_literals(
 }
 
 // The text of a key with that of a node, by their bytes.
-pub fn compare_key_text_to_node(
+pub fn compare_key_text_to_node<'a>(
     nodes: &[u32],
     numbers: &[u64],
-    strings: &[u8],
-    text: &[u8],
+    strings: &'a [u8],
+    text: &'a [u8],
     a: LiteralRef,
     b: u32,
 ) -> Comparison
@@ -258,11 +258,11 @@ pub fn compare_key_text_to_node(
 }
 
 // The key texts of two nodes, by their bytes.
-pub fn compare_key_texts(
+pub fn compare_key_texts<'a>(
     nodes: &[u32],
     numbers: &[u64],
-    strings: &[u8],
-    text: &[u8],
+    strings: &'a [u8],
+    text: &'a [u8],
     a: u32,
     b: u32,
 ) -> Comparison

@@ -118,13 +118,13 @@ fn scope_ok(names: &[u32], text: &[u8], scope: Scope) -> bool
     same_bytes(name_bytes(names, text, underscore), b"_")
 }
 
-pub(crate) fn follows_rules(
+pub(crate) fn follows_rules<'a>(
     nodes: &[u32],
     children: &[u32],
     numbers: &[u64],
     names: &[u32],
-    strings: &[u8],
-    text: &[u8],
+    strings: &'a [u8],
+    text: &'a [u8],
     scope: Scope,
 ) -> bool
     requires { ⌜ withinLimits (given nodes children numbers names strings text) ≡ true ⌝ }

@@ -48,7 +48,7 @@ pub said-of-all : {M : Type 1} (𝓤 : URA M) {X : Type 0} (L : X → SProp 𝓤
 said-of-all 𝓤 L φ ψ f =
     exE 𝓤 (λ x. sep 𝓤 (L x) (fact 𝓤 (φ x))) (λ x. via 𝓤 (sep 𝓤 (L x) (fact 𝓤 (ψ x))) (monoR 𝓤 (L x) (fact-mono 𝓤 (φ x) (ψ x) (f x))) (exI 𝓤 (λ y. sep 𝓤 (L y) (fact 𝓤 (ψ y))) x))
 
-module _ (n : ℕ) (κs : Lfts (suc (suc (suc (suc (suc (suc n))))))) (Ts : List RattleType) where
+module _ (n : ℕ) (κs : Lfts (suc (suc (suc (suc (suc n)))))) (Ts : List RattleType) where
   abbrev Nodes : RattleType
   Nodes = ShrSlice (named 0) (κs .0) u32
 
@@ -63,7 +63,7 @@ module _ (n : ℕ) (κs : Lfts (suc (suc (suc (suc (suc (suc n))))))) (Ts : List
 
   -- those after names
   abbrev Later : List RattleType
-  Later = ShrSlice (named 4) (κs .1 .1 .1 .1 .0) u8 ∷ ShrSlice (named 5) (κs .1 .1 .1 .1 .1 .0) u8 ∷ S.the-row ∷ Ts
+  Later = ShrSlice (named 4) (κs .1 .1 .1 .1 .0) u8 ∷ ShrSlice (named 4) (κs .1 .1 .1 .1 .0) u8 ∷ S.the-row ∷ Ts
 
   abbrev pub OverRecords : List RattleType
   OverRecords = Nodes ∷ Children ∷ Numbers ∷ Names ∷ Later
@@ -72,10 +72,10 @@ module _ (n : ℕ) (κs : Lfts (suc (suc (suc (suc (suc (suc n))))))) (Ts : List
   OverWords = Nodes ∷ Children ∷ Numbers ∷ N.the-row ∷ Later
 
   -- without the lifetime of names
-  abbrev pub lftsOn : Lfts (suc (suc (suc (suc (suc n)))))
+  abbrev pub lftsOn : Lfts (suc (suc (suc (suc n))))
   lftsOn = (κs .0, (κs .1 .0, (κs .1 .1 .0, κs .1 .1 .1 .1)))
 
-  abbrev pub sharesOn : Shares (suc (suc (suc (suc (suc (suc n)))))) → Shares (suc (suc (suc (suc (suc n)))))
+  abbrev pub sharesOn : Shares (suc (suc (suc (suc (suc n))))) → Shares (suc (suc (suc (suc n))))
   sharesOn qs = (qs .0, (qs .1 .0, (qs .1 .1 .0, qs .1 .1 .1 .1)))
 
   -- with the words in the place of names
@@ -105,20 +105,20 @@ module _ (n : ℕ) (κs : Lfts (suc (suc (suc (suc (suc (suc n))))))) (Ts : List
       shr-slice-tells (named 1) (κs .1 .0) u32,
       (
         shr-slice-tells (named 2) (κs .1 .1 .0) u64,
-        (shr-slice-tells (named 3) (κs .1 .1 .1 .0) T.the-row, (shr-slice-tells (named 4) (κs .1 .1 .1 .1 .0) u8, (shr-slice-tells (named 5) (κs .1 .1 .1 .1 .1 .0) u8, (LL.tells S.the-type S′.the-laws, tl)))),
+        (shr-slice-tells (named 3) (κs .1 .1 .1 .0) T.the-row, (shr-slice-tells (named 4) (κs .1 .1 .1 .1 .0) u8, (shr-slice-tells (named 4) (κs .1 .1 .1 .1 .0) u8, (LL.tells S.the-type S′.the-laws, tl)))),
       ),
     ),
   )
 
 -- and that they fit their locals
-pub fitting : {M : Type 1} (𝓤 : URA M) (H : Heap 𝓤) (A : Atoms 𝓤) (W : Given 𝓤 H A) (n : ℕ) (κs : Lfts (suc (suc (suc (suc (suc (suc n))))))) (Ts : List RattleType) → Lawfuls 𝓤 H A Ts
+pub fitting : {M : Type 1} (𝓤 : URA M) (H : Heap 𝓤) (A : Atoms 𝓤) (W : Given 𝓤 H A) (n : ℕ) (κs : Lfts (suc (suc (suc (suc (suc n)))))) (Ts : List RattleType) → Lawfuls 𝓤 H A Ts
     → (a : Denots (OverRecords n κs Ts)) (vs : Valss (OverRecords n κs Ts)) → Are (OverRecords n κs Ts) (Ises (OverRecords n κs Ts)) a vs → Typed (mirs (OverRecords n κs Ts)) (flat (OverRecords n κs Ts) vs)
 fitting 𝓤 H A W n κs Ts L =
     all-typed 𝓤 H A (OverRecords n κs Ts)
     (shr-slice-lawful 𝓤 H A W _ _ u32, (shr-slice-lawful 𝓤 H A W _ _ u32, (shr-slice-lawful 𝓤 H A W _ _ u64, (shr-slice-lawful 𝓤 H A W _ _ T.the-row, (shr-slice-lawful 𝓤 H A W _ _ u8, (shr-slice-lawful 𝓤 H A W _ _ u8, (LL.lawful S.the-type S′.the-laws 𝓤 H A W, L)))))))
 
 module _ {M : Type 1} (𝓤 : URA M) (H : Heap 𝓤) (A : Atoms 𝓤) (W : Given 𝓤 H A) (mem : Memory → SProp 𝓤) (run : Routine → Fun 𝓤)
-    (n : ℕ) (κs : Lfts (suc (suc (suc (suc (suc (suc n))))))) (qs : Shares (suc (suc (suc (suc (suc (suc n))))))) (Ts : List RattleType) (a : Denots (OverRecords n κs Ts)) (vs : Valss (OverRecords n κs Ts)) where
+    (n : ℕ) (κs : Lfts (suc (suc (suc (suc (suc n)))))) (qs : Shares (suc (suc (suc (suc (suc n)))))) (Ts : List RattleType) (a : Denots (OverRecords n κs Ts)) (vs : Valss (OverRecords n κs Ts)) where
   abbrev ns : List Name
   ns = records n κs Ts a
 
@@ -130,10 +130,10 @@ module _ {M : Type 1} (𝓤 : URA M) (H : Heap 𝓤) (A : Atoms 𝓤) (W : Given
 
   -- the tokens with that of names, and without it
   abbrev With : Item 𝓤
-  With = ‵ (flft (κs .0) (qs .0)) ⊛ (‵ (flft (κs .1 .0) (qs .1 .0)) ⊛ (‵ (flft (κs .1 .1 .0) (qs .1 .1 .0)) ⊛ (‵ Token ⊛ raw (toks 𝓤 A (suc (suc n)) (κs .1 .1 .1 .1) (qs .1 .1 .1 .1)))))
+  With = ‵ (flft (κs .0) (qs .0)) ⊛ (‵ (flft (κs .1 .0) (qs .1 .0)) ⊛ (‵ (flft (κs .1 .1 .0) (qs .1 .1 .0)) ⊛ (‵ Token ⊛ raw (toks 𝓤 A (suc n) (κs .1 .1 .1 .1) (qs .1 .1 .1 .1)))))
 
   abbrev Without : Item 𝓤
-  Without = ‵ (flft (κs .0) (qs .0)) ⊛ (‵ (flft (κs .1 .0) (qs .1 .0)) ⊛ (‵ (flft (κs .1 .1 .0) (qs .1 .1 .0)) ⊛ raw (toks 𝓤 A (suc (suc n)) (κs .1 .1 .1 .1) (qs .1 .1 .1 .1))))
+  Without = ‵ (flft (κs .0) (qs .0)) ⊛ (‵ (flft (κs .1 .0) (qs .1 .0)) ⊛ (‵ (flft (κs .1 .1 .0) (qs .1 .1 .0)) ⊛ raw (toks 𝓤 A (suc n) (κs .1 .1 .1 .1) (qs .1 .1 .1 .1))))
 
   abbrev Others : Item 𝓤
   Others = ‵ (Nodes n κs Ts .own (a .0) (vs .0)) ⊛ (‵ (Children n κs Ts .own (a .1 .0) (vs .1 .0)) ⊛ (‵ (Numbers n κs Ts .own (a .1 .1 .0) (vs .1 .1 .0)) ⊛ ‵ (owns (Later n κs Ts) (a .1 .1 .1 .1) (vs .1 .1 .1 .1))))
@@ -147,7 +147,7 @@ module _ {M : Type 1} (𝓤 : URA M) (H : Heap 𝓤) (A : Atoms 𝓤) (W : Given
       qed W (‵ Token ∷ ‵ (Names n κs Ts .own (a .1 .1 .1 .0) (vs .1 .1 .1 .0)) ∷ []) ∵
       nothing ! $ move ! (2 ∷ 0 ∷ []) $ fjoin ! $ nothing ! $ move ! (2 ∷ 0 ∷ []) $ join ! $ join ! $ frame ! $ done !
 
-  parts : ent 𝓤 (sep 𝓤 (toks 𝓤 A (suc (suc (suc (suc (suc (suc n)))))) κs qs) (sem 𝓤 H A (owns (OverRecords n κs Ts) a vs))) (mean 𝓤 H A (raw (CopyNames 𝓤 H A mem run .pre to-copy) ⊛ Kept))
+  parts : ent 𝓤 (sep 𝓤 (toks 𝓤 A (suc (suc (suc (suc (suc n))))) κs qs) (sem 𝓤 H A (owns (OverRecords n κs Ts) a vs))) (mean 𝓤 H A (raw (CopyNames 𝓤 H A mem run .pre to-copy) ⊛ Kept))
   parts =
       qed W (With ∷ ‵ (owns (OverRecords n κs Ts) a vs) ∷ []) ∵ split ! $ move ! (1 ∷ []) $ split ! $ move ! (1 ∷ []) $ split ! $ move ! (1 ∷ []) $ split ! $
       -- [names' token; the later ones; numbers'; children's; nodes'; what is owned]
@@ -167,7 +167,7 @@ module _ {M : Type 1} (𝓤 : URA M) (H : Heap 𝓤) (A : Atoms 𝓤) (W : Given
 
   -- what the function over words asks
   abbrev Asked : NameWords → Val → SProp 𝓤
-  Asked r v = sep 𝓤 (sep 𝓤 (toks 𝓤 A (suc (suc (suc (suc (suc n))))) (lftsOn n κs Ts) (sharesOn n κs Ts qs)) (sem 𝓤 H A (owns (OverWords n κs Ts) (argsOn n κs Ts a r) (valsOn n κs Ts vs v)))) (fact 𝓤 (r .count ≤ 129))
+  Asked r v = sep 𝓤 (sep 𝓤 (toks 𝓤 A (suc (suc (suc (suc n)))) (lftsOn n κs Ts) (sharesOn n κs Ts qs)) (sem 𝓤 H A (owns (OverWords n κs Ts) (argsOn n κs Ts a r) (valsOn n κs Ts vs v)))) (fact 𝓤 (r .count ≤ 129))
 
   hands-on : (r : NameWords) (v : Val) → Copied ns r → Is N.the-row r (v ∷ []) → ent 𝓤 (mean 𝓤 H A Kept) (Asked r v)
   hands-on r v c is =
@@ -177,10 +177,10 @@ module _ {M : Type 1} (𝓤 : URA M) (H : Heap 𝓤) (A : Atoms 𝓤) (W : Given
   -- It returns a value of type R: what is said of it over words, and over records.
   module _ (R : RattleType) (typed : (x : R .Denot) (us : List Val) → Is R x us → Typed (R .mir) us) (said told : R .Denot → SProp 𝓤) (tells : (x : R .Denot) → ent 𝓤 (said x) (told x)) where
     abbrev Said : Val → SProp 𝓤
-    Said v = H .⇛ (ex 𝓤 (λ (x : R .Denot). sep 𝓤 (sep 𝓤 (toks 𝓤 A (suc (suc (suc (suc (suc n))))) (lftsOn n κs Ts) (sharesOn n κs Ts qs)) (sem 𝓤 H A (R .own x (v ∷ [])))) (said x)))
+    Said v = H .⇛ (ex 𝓤 (λ (x : R .Denot). sep 𝓤 (sep 𝓤 (toks 𝓤 A (suc (suc (suc (suc n)))) (lftsOn n κs Ts) (sharesOn n κs Ts qs)) (sem 𝓤 H A (R .own x (v ∷ [])))) (said x)))
 
     abbrev Told : Val → R .Denot → SProp 𝓤
-    Told v x = sep 𝓤 (sep 𝓤 (toks 𝓤 A (suc (suc (suc (suc (suc (suc n)))))) κs qs) (sem 𝓤 H A (R .own x (v ∷ [])))) (told x)
+    Told v x = sep 𝓤 (sep 𝓤 (toks 𝓤 A (suc (suc (suc (suc (suc n))))) κs qs) (sem 𝓤 H A (R .own x (v ∷ [])))) (told x)
 
     abbrev Answer : Val → SProp 𝓤
     Answer v = H .⇛ (ex 𝓤 (Told v))
@@ -198,7 +198,7 @@ module _ {M : Type 1} (𝓤 : URA M) (H : Heap 𝓤) (A : Atoms 𝓤) (W : Given
   module _ {K : Type 0} {Γ : List (Item 𝓤)} {E : Env 𝓤 H} {C : Calls 𝓤 H} {Λ : Loops 𝓤 H} {q : Post 𝓤 H} {f : Symbol} {xs : List Operand} {d : Place} {rest : Body} where
     pub copies : K → FmC 𝓤 H (W .laws) C → Triple 𝓤 (C f) (CopyNames 𝓤 H A mem run) → Opds K W (raw (CopyNames 𝓤 H A mem run .pre to-copy) ∷ Kept ∷ Γ) E xs (CopyNames 𝓤 H A mem run .args to-copy)
         → ((v : Val) (r : NameWords) → Copied ns r → Is N.the-row r (v ∷ []) → Seq K W (‵ Token ∷ Kept ∷ Γ) (lands C Λ E d v rest q))
-        → Seq K W (raw (sep 𝓤 (toks 𝓤 A (suc (suc (suc (suc (suc (suc n)))))) κs qs) (sem 𝓤 H A (owns (OverRecords n κs Ts) a vs))) ∷ Γ) (runs C Λ E (seq (call f xs d) rest) q)
+        → Seq K W (raw (sep 𝓤 (toks 𝓤 A (suc (suc (suc (suc (suc n))))) κs qs) (sem 𝓤 H A (owns (OverRecords n κs Ts) a vs))) ∷ Γ) (runs C Λ E (seq (call f xs d) rest) q)
     copies t fm known os k =
         use1 W (raw (CopyNames 𝓤 H A mem run .pre to-copy) ⊛ Kept) parts $ split t $ calls-at t fm (CopyNames 𝓤 H A mem run) known to-copy os (λ v.
         use1 W (later (some (λ (r : NameWords). given (Copied ns r × Is N.the-row r (v ∷ [])) (‵ Token)))) (copied v) $ await t tt $ pick t (λ r. learn t (λ e. k v r (e .0) (e .1))))

@@ -27,13 +27,13 @@ pub struct Name {
 }
 
 // The planning call, for a version of Rego: any but 1 is version 0.
-pub fn plan(
+pub fn plan<'a>(
     nodes: &[u32],
     children: &[u32],
     numbers: &[u64],
     names: &[Name],
-    strings: &[u8],
-    text: &[u8],
+    strings: &'a [u8],
+    text: &'a [u8],
     scope: Scope,
     operation: Operation,
     version: u32,
@@ -56,13 +56,13 @@ pub fn plan(
 }
 
 // Plans the pattern into the buffer and carries the plan out on the value. `values` has for each name number the node of its value, or 0.
-pub fn run(
+pub fn run<'a>(
     nodes: &[u32],
     children: &[u32],
     numbers: &[u64],
     names: &[Name],
-    strings: &[u8],
-    text: &[u8],
+    strings: &'a [u8],
+    text: &'a [u8],
     scope: Scope,
     scoping: ScopingMode,
     pattern: u32,
@@ -89,13 +89,13 @@ pub fn run(
 }
 
 // For each name 1 bound in the pattern's plan, 2 met but not bound there, else 0.
-pub fn names_report(
+pub fn names_report<'a>(
     nodes: &[u32],
     children: &[u32],
     numbers: &[u64],
     names: &[Name],
-    strings: &[u8],
-    text: &[u8],
+    strings: &'a [u8],
+    text: &'a [u8],
     scope: Scope,
     scoping: ScopingMode,
     pattern: u32,

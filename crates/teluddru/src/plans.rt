@@ -8,13 +8,13 @@ ghost use Rattle.planner.specs.Operations.{AnsweredIn};
 ghost use Rattle.teluddru.specs.code.Copying.{lentWords};
 ghost use Rattle.operation.specs.Version.{versionOutcome};
 
-pub(crate) fn plan_words(
+pub(crate) fn plan_words<'a>(
     nodes: &[u32],
     children: &[u32],
     numbers: &[u64],
     names: NameWords,
-    strings: &[u8],
-    text: &[u8],
+    strings: &'a [u8],
+    text: &'a [u8],
     scope: Scope,
     operation: Operation,
     version: u32,

@@ -8,13 +8,13 @@ ghost use Prim.Native.Nat.{_≤_};
 ghost use Rattle.report.specs.Report.{ReportedIn};
 ghost use Rattle.teluddru.specs.code.Copying.{lentWords};
 
-pub(crate) fn report_words(
+pub(crate) fn report_words<'a>(
     nodes: &[u32],
     children: &[u32],
     numbers: &[u64],
     names: NameWords,
-    strings: &[u8],
-    text: &[u8],
+    strings: &'a [u8],
+    text: &'a [u8],
     scope: Scope,
     scoping: ScopingMode,
     pattern: u32,

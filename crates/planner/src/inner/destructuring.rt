@@ -36,13 +36,13 @@ fn decide_name(states: &[u8; 128], binders: &mut [u32; 128], node: u32, name: u3
     }
 }
 
-fn decide(
+fn decide<'a>(
     nodes: &[u32],
     children: &[u32],
     numbers: &[u64],
     names: &[u32],
-    strings: &[u8],
-    text: &[u8],
+    strings: &'a [u8],
+    text: &'a [u8],
     states: &[u8; 128],
     binders: &mut [u32; 128],
     node: u32,
@@ -80,13 +80,13 @@ fn decide(
 }
 
 // The children of `parent` at `at`, `at + step` and so on, `left` of them.
-fn decide_children(
+fn decide_children<'a>(
     nodes: &[u32],
     children: &[u32],
     numbers: &[u64],
     names: &[u32],
-    strings: &[u8],
-    text: &[u8],
+    strings: &'a [u8],
+    text: &'a [u8],
     states: &[u8; 128],
     binders: &mut [u32; 128],
     parent: u32,
@@ -122,13 +122,13 @@ fn decide_children(
 }
 
 // A pattern's plan from no names, at a written position below a pair, or 0: its entries from entry `at` on, as far as they fit.
-pub fn create_destructuring_plan_with_tracking(
+pub fn create_destructuring_plan_with_tracking<'a>(
     nodes: &[u32],
     children: &[u32],
     numbers: &[u64],
     names: &[u32],
-    strings: &[u8],
-    text: &[u8],
+    strings: &'a [u8],
+    text: &'a [u8],
     states: &[u8; 128],
     root: u32,
     position: u32,
@@ -173,13 +173,13 @@ pub fn create_destructuring_plan_with_tracking(
 }
 
 // The plan of a pattern under a scope.
-pub fn plan_pattern(
+pub fn plan_pattern<'a>(
     nodes: &[u32],
     children: &[u32],
     numbers: &[u64],
     names: &[u32],
-    strings: &[u8],
-    text: &[u8],
+    strings: &'a [u8],
+    text: &'a [u8],
     scope: Scope,
     scoping: ScopingMode,
     root: u32,

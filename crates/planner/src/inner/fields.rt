@@ -29,12 +29,12 @@ pub struct Found {
 }
 
 // A literal with the key of a field.
-fn compare_keys(
+fn compare_keys<'a>(
     nodes: &[u32],
     children: &[u32],
     numbers: &[u64],
-    strings: &[u8],
-    text: &[u8],
+    strings: &'a [u8],
+    text: &'a [u8],
     first: usize,
     key: LiteralRef,
     j: usize,
@@ -47,13 +47,13 @@ fn compare_keys(
 }
 
 // The place of a literal among the keys of the fields, by binary search.
-pub fn find_field(
+pub fn find_field<'a>(
     nodes: &[u32],
     children: &[u32],
     numbers: &[u64],
     names: &[u32],
-    strings: &[u8],
-    text: &[u8],
+    strings: &'a [u8],
+    text: &'a [u8],
     first: usize,
     order: &[u8; 256],
     literals: usize,
@@ -86,13 +86,13 @@ pub fn find_field(
 }
 
 // One more field: by its literal key, replacing an equal one, or at the end if its key is computed.
-fn add_field(
+fn add_field<'a>(
     nodes: &[u32],
     children: &[u32],
     numbers: &[u64],
     names: &[u32],
-    strings: &[u8],
-    text: &[u8],
+    strings: &'a [u8],
+    text: &'a [u8],
     first: usize,
     field: u8,
     order: &mut [u8; 256],
@@ -137,13 +137,13 @@ fn add_field(
 }
 
 // The fields of an object whose child entries start at `first`; how many are in order.
-pub fn order_fields(
+pub fn order_fields<'a>(
     nodes: &[u32],
     children: &[u32],
     numbers: &[u64],
     names: &[u32],
-    strings: &[u8],
-    text: &[u8],
+    strings: &'a [u8],
+    text: &'a [u8],
     first: usize,
     count: usize,
     order: &mut [u8; 256],

@@ -72,13 +72,13 @@ fn marked_node(flags: &[u8; 128], node: u32, name: u32) -> u32
 }
 
 // The node of the first name with flag 1, or 0. `_`, and no other name, must have flag 2.
-pub fn first_name(
+pub fn first_name<'a>(
     nodes: &[u32],
     children: &[u32],
     numbers: &[u64],
     names: &[u32],
-    strings: &[u8],
-    text: &[u8],
+    strings: &'a [u8],
+    text: &'a [u8],
     flags: &[u8; 128],
     sets: bool,
     keys: bool,
@@ -112,13 +112,13 @@ pub fn first_name(
 }
 
 // In the children of `parent` at `at`, `at + step` and so on, `left` of them.
-fn first_name_children(
+fn first_name_children<'a>(
     nodes: &[u32],
     children: &[u32],
     numbers: &[u64],
     names: &[u32],
-    strings: &[u8],
-    text: &[u8],
+    strings: &'a [u8],
+    text: &'a [u8],
     flags: &[u8; 128],
     sets: bool,
     keys: bool,

@@ -10,13 +10,13 @@ use scope::Scope;
 use scope::ScopingMode;
 
 // The first name of a pattern that is defined already, or 0. `binders` are those of its plan.
-pub fn validate_pattern_bindings(
+pub fn validate_pattern_bindings<'a>(
     nodes: &[u32],
     children: &[u32],
     numbers: &[u64],
     names: &[u32],
-    strings: &[u8],
-    text: &[u8],
+    strings: &'a [u8],
+    text: &'a [u8],
     scope: Scope,
     binders: &[u32; 128],
     root: u32,

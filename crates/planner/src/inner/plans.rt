@@ -45,13 +45,13 @@ fn leaf_kind(kind: u32) -> u32
 }
 
 // The entries of a node's plan, under a key node or 0 and at a written position, from entry `at` on; the next entry's place.
-pub(crate) fn lay_out(
+pub(crate) fn lay_out<'a>(
     nodes: &[u32],
     children: &[u32],
     numbers: &[u64],
     names: &[u32],
-    strings: &[u8],
-    text: &[u8],
+    strings: &'a [u8],
+    text: &'a [u8],
     states: &[u8; 128],
     binders: &[u32; 128],
     node: u32,
@@ -117,13 +117,13 @@ pub(crate) fn lay_out(
 }
 
 // An array's items, `left` of them from child entry `from` on; their positions count up from 1.
-fn lay_items(
+fn lay_items<'a>(
     nodes: &[u32],
     children: &[u32],
     numbers: &[u64],
     names: &[u32],
-    strings: &[u8],
-    text: &[u8],
+    strings: &'a [u8],
+    text: &'a [u8],
     states: &[u8; 128],
     binders: &[u32; 128],
     parent: u32,
@@ -168,13 +168,13 @@ fn lay_items(
 }
 
 // An object that `lay_out` went into and counted.
-fn lay_object(
+fn lay_object<'a>(
     nodes: &[u32],
     children: &[u32],
     numbers: &[u64],
     names: &[u32],
-    strings: &[u8],
-    text: &[u8],
+    strings: &'a [u8],
+    text: &'a [u8],
     states: &[u8; 128],
     binders: &[u32; 128],
     node: u32,
@@ -224,13 +224,13 @@ fn lay_object(
 }
 
 // An object's fields by `order`, the first `total` of its field numbers.
-fn lay_fields(
+fn lay_fields<'a>(
     nodes: &[u32],
     children: &[u32],
     numbers: &[u64],
     names: &[u32],
-    strings: &[u8],
-    text: &[u8],
+    strings: &'a [u8],
+    text: &'a [u8],
     states: &[u8; 128],
     binders: &[u32; 128],
     parent: u32,

@@ -61,17 +61,17 @@ use Rattle.teluddru.proofs.names_report.Statement as stated
 use Rattle.teluddru.proofs.names_report.Code as code
 
 -- the parameters after scope, and how their machine values are spelled
-abbrev Ts : Lfts 7 → List RattleType
-Ts κs = Mode.the-row ∷ u32 ∷ MutSlice (named 6) (κs .1 .1 .1 .1 .1 .1 .0) u32 ∷ []
+abbrev Ts : Lfts 6 → List RattleType
+Ts κs = Mode.the-row ∷ u32 ∷ MutSlice (named 5) (κs .1 .1 .1 .1 .1 .0) u32 ∷ []
 
-abbrev spells : (κs : Lfts 7) → Spells (Ts κs)
+abbrev spells : (κs : Lfts 6) → Spells (Ts κs)
 spells κs = (EL.vals Mode.the-type Mode′.the-laws, (uint-vals w32, (slice-vals, tt)))
 
-told-by : (κs : Lfts 7) → Tellss (Ts κs) (Ises (Ts κs)) (spells κs)
-told-by κs = (EL.tells Mode.the-type Mode′.the-laws, (uint-tells w32, (mut-slice-tells (named 6) (κs .1 .1 .1 .1 .1 .1 .0) u32, tt)))
+told-by : (κs : Lfts 6) → Tellss (Ts κs) (Ises (Ts κs)) (spells κs)
+told-by κs = (EL.tells Mode.the-type Mode′.the-laws, (uint-tells w32, (mut-slice-tells (named 5) (κs .1 .1 .1 .1 .1 .0) u32, tt)))
 
-laws : {M : Type 1} (𝓤 : URA M) (H : Heap 𝓤) (A : Atoms 𝓤) → Given 𝓤 H A → (κs : Lfts 7) → Lawfuls 𝓤 H A (Ts κs)
-laws 𝓤 H A W κs = (EL.lawful Mode.the-type Mode′.the-laws 𝓤 H A W tt, (uint-lawful 𝓤 H A W w32, (mut-slice-lawful 𝓤 H A W (named 6) (κs .1 .1 .1 .1 .1 .1 .0) u32, tt)))
+laws : {M : Type 1} (𝓤 : URA M) (H : Heap 𝓤) (A : Atoms 𝓤) → Given 𝓤 H A → (κs : Lfts 6) → Lawfuls 𝓤 H A (Ts κs)
+laws 𝓤 H A W κs = (EL.lawful Mode.the-type Mode′.the-laws 𝓤 H A W tt, (uint-lawful 𝓤 H A W w32, (mut-slice-lawful 𝓤 H A W (named 5) (κs .1 .1 .1 .1 .1 .0) u32, tt)))
 
 module _ {M : Type 1} (𝓤 : URA M) (H : Heap 𝓤) (A : Atoms 𝓤) (mem : Memory → SProp 𝓤) (run : Routine → Fun 𝓤) where
   abbrev NamesReport : Contract 𝓤
@@ -80,7 +80,7 @@ module _ {M : Type 1} (𝓤 : URA M) (H : Heap 𝓤) (A : Atoms 𝓤) (mem : Mem
   abbrev ReportWords : Contract 𝓤
   ReportWords = tripleOf 𝓤 H A report-words.signature (report-words.spec 𝓤 H A mem run)
 
-module _ {M : Type 1} (𝓤 : URA M) (H : Heap 𝓤) (A : Atoms 𝓤) (W : Given 𝓤 H A) (mem : Memory → SProp 𝓤) (run : Routine → Fun 𝓤) (κs : Lfts 7) (qs : Shares 7) (a : Args self.signature κs) where
+module _ {M : Type 1} (𝓤 : URA M) (H : Heap 𝓤) (A : Atoms 𝓤) (W : Given 𝓤 H A) (mem : Memory → SProp 𝓤) (run : Routine → Fun 𝓤) (κs : Lfts 6) (qs : Shares 6) (a : Args self.signature κs) where
   abbrev vs : Vals self.signature κs
   vs = valss (typesAt (self.signature .params) κs) (spelled 1 κs (Ts κs) (spells κs)) a
 

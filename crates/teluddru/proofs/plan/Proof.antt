@@ -62,17 +62,17 @@ use Rattle.teluddru.proofs.plan.Statement as stated
 use Rattle.teluddru.proofs.plan.Code as code
 
 -- the parameters after scope, and how their machine values are spelled
-abbrev Ts : Lfts 7 → List RattleType
-Ts κs = O.the-row ∷ u32 ∷ MutSlice (named 6) (κs .1 .1 .1 .1 .1 .1 .0) u32 ∷ []
+abbrev Ts : Lfts 6 → List RattleType
+Ts κs = O.the-row ∷ u32 ∷ MutSlice (named 5) (κs .1 .1 .1 .1 .1 .0) u32 ∷ []
 
-abbrev spells : (κs : Lfts 7) → Spells (Ts κs)
+abbrev spells : (κs : Lfts 6) → Spells (Ts κs)
 spells κs = (EL.vals O.the-type O′.the-laws, (uint-vals w32, (slice-vals, tt)))
 
-told-by : (κs : Lfts 7) → Tellss (Ts κs) (Ises (Ts κs)) (spells κs)
-told-by κs = (EL.tells O.the-type O′.the-laws, (uint-tells w32, (mut-slice-tells (named 6) (κs .1 .1 .1 .1 .1 .1 .0) u32, tt)))
+told-by : (κs : Lfts 6) → Tellss (Ts κs) (Ises (Ts κs)) (spells κs)
+told-by κs = (EL.tells O.the-type O′.the-laws, (uint-tells w32, (mut-slice-tells (named 5) (κs .1 .1 .1 .1 .1 .0) u32, tt)))
 
-laws : {M : Type 1} (𝓤 : URA M) (H : Heap 𝓤) (A : Atoms 𝓤) → Given 𝓤 H A → (κs : Lfts 7) → Lawfuls 𝓤 H A (Ts κs)
-laws 𝓤 H A W κs = (EL.lawful O.the-type O′.the-laws 𝓤 H A W tt, (uint-lawful 𝓤 H A W w32, (mut-slice-lawful 𝓤 H A W (named 6) (κs .1 .1 .1 .1 .1 .1 .0) u32, tt)))
+laws : {M : Type 1} (𝓤 : URA M) (H : Heap 𝓤) (A : Atoms 𝓤) → Given 𝓤 H A → (κs : Lfts 6) → Lawfuls 𝓤 H A (Ts κs)
+laws 𝓤 H A W κs = (EL.lawful O.the-type O′.the-laws 𝓤 H A W tt, (uint-lawful 𝓤 H A W w32, (mut-slice-lawful 𝓤 H A W (named 5) (κs .1 .1 .1 .1 .1 .0) u32, tt)))
 
 module _ {M : Type 1} (𝓤 : URA M) (H : Heap 𝓤) (A : Atoms 𝓤) (mem : Memory → SProp 𝓤) (run : Routine → Fun 𝓤) where
   abbrev Plan : Contract 𝓤
@@ -81,7 +81,7 @@ module _ {M : Type 1} (𝓤 : URA M) (H : Heap 𝓤) (A : Atoms 𝓤) (mem : Mem
   abbrev PlanWords : Contract 𝓤
   PlanWords = tripleOf 𝓤 H A plan-words.signature (plan-words.spec 𝓤 H A mem run)
 
-module _ {M : Type 1} (𝓤 : URA M) (H : Heap 𝓤) (A : Atoms 𝓤) (W : Given 𝓤 H A) (mem : Memory → SProp 𝓤) (run : Routine → Fun 𝓤) (κs : Lfts 7) (qs : Shares 7) (a : Args self.signature κs) where
+module _ {M : Type 1} (𝓤 : URA M) (H : Heap 𝓤) (A : Atoms 𝓤) (W : Given 𝓤 H A) (mem : Memory → SProp 𝓤) (run : Routine → Fun 𝓤) (κs : Lfts 6) (qs : Shares 6) (a : Args self.signature κs) where
   abbrev vs : Vals self.signature κs
   vs = valss (typesAt (self.signature .params) κs) (spelled 1 κs (Ts κs) (spells κs)) a
 

@@ -63,13 +63,13 @@ fn fields_marked(nodes: &[u32], children: &[u32], marks: &[u8; 512], at: usize, 
 }
 
 // Do the literal keys of `count` fields differ? In order, equal keys are one.
-fn keys_differ(
+fn keys_differ<'a>(
     nodes: &[u32],
     children: &[u32],
     numbers: &[u64],
     names: &[u32],
-    strings: &[u8],
-    text: &[u8],
+    strings: &'a [u8],
+    text: &'a [u8],
     first: usize,
     count: usize,
 ) -> bool
@@ -92,13 +92,13 @@ fn keys_differ(
 }
 
 // A node by the marks of those below it; `admit` admits names and underscores.
-fn admits(
+fn admits<'a>(
     nodes: &[u32],
     children: &[u32],
     numbers: &[u64],
     names: &[u32],
-    strings: &[u8],
-    text: &[u8],
+    strings: &'a [u8],
+    text: &'a [u8],
     admit: bool,
     marks: &[u8; 512],
     node: u32,
@@ -129,13 +129,13 @@ fn admits(
 }
 
 // The marks of all nodes, and 0 past them.
-pub fn mark_nodes(
+pub fn mark_nodes<'a>(
     nodes: &[u32],
     children: &[u32],
     numbers: &[u64],
     names: &[u32],
-    strings: &[u8],
-    text: &[u8],
+    strings: &'a [u8],
+    text: &'a [u8],
     admit: bool,
 ) -> [u8; 512]
     requires { ⌜ WellFormed (given nodes children numbers names strings text) ⌝ }

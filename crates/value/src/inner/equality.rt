@@ -12,13 +12,13 @@ use table::reading::count_of;
 use table::reading::first_of;
 use table::reading::kind_of;
 
-pub fn same_value(
+pub fn same_value<'a>(
     nodes: &[u32],
     children: &[u32],
     numbers: &[u64],
     names: &[u32],
-    strings: &[u8],
-    text: &[u8],
+    strings: &'a [u8],
+    text: &'a [u8],
     a: u32,
     b: u32,
 ) -> bool
@@ -56,13 +56,13 @@ pub fn same_value(
 }
 
 // `left` items from child entries `at` and `from` on.
-fn same_items(
+fn same_items<'a>(
     nodes: &[u32],
     children: &[u32],
     numbers: &[u64],
     names: &[u32],
-    strings: &[u8],
-    text: &[u8],
+    strings: &'a [u8],
+    text: &'a [u8],
     parent: u32,
     at: usize,
     from: usize,
@@ -84,13 +84,13 @@ fn same_items(
 }
 
 // The fields of two objects of as many fields, by the first one's keys.
-fn same_fields(
+fn same_fields<'a>(
     nodes: &[u32],
     children: &[u32],
     numbers: &[u64],
     names: &[u32],
-    strings: &[u8],
-    text: &[u8],
+    strings: &'a [u8],
+    text: &'a [u8],
     a: u32,
     b: u32,
 ) -> bool

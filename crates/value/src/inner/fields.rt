@@ -12,11 +12,11 @@ use table::reading::count_of;
 use table::reading::first_of;
 
 // Are two nodes equal literals?
-pub fn same_literals(
+pub fn same_literals<'a>(
     nodes: &[u32],
     numbers: &[u64],
-    strings: &[u8],
-    text: &[u8],
+    strings: &'a [u8],
+    text: &'a [u8],
     a: u32,
     b: u32,
 ) -> bool
@@ -32,13 +32,13 @@ pub fn same_literals(
 }
 
 // The value node of the first of `left` fields under a key, or 0.
-fn scan_under(
+fn scan_under<'a>(
     nodes: &[u32],
     children: &[u32],
     numbers: &[u64],
     names: &[u32],
-    strings: &[u8],
-    text: &[u8],
+    strings: &'a [u8],
+    text: &'a [u8],
     at: usize,
     left: usize,
     key: u32,
@@ -60,13 +60,13 @@ fn scan_under(
 }
 
 // An object's value node under a key, or 0. The field at `position` is looked at first.
-pub fn value_under(
+pub fn value_under<'a>(
     nodes: &[u32],
     children: &[u32],
     numbers: &[u64],
     names: &[u32],
-    strings: &[u8],
-    text: &[u8],
+    strings: &'a [u8],
+    text: &'a [u8],
     object: u32,
     position: usize,
     key: u32,
@@ -97,13 +97,13 @@ pub fn value_under(
 }
 
 // Have two objects the same keys? With as many keys, those of the first need only be the second's.
-pub fn same_key_sets(
+pub fn same_key_sets<'a>(
     nodes: &[u32],
     children: &[u32],
     numbers: &[u64],
     names: &[u32],
-    strings: &[u8],
-    text: &[u8],
+    strings: &'a [u8],
+    text: &'a [u8],
     a: u32,
     b: u32,
 ) -> bool

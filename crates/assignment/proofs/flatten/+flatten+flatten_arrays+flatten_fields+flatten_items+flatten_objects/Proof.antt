@@ -38,89 +38,89 @@ use Rattle.assignment.proofs.flatten.+flatten+flatten_arrays+flatten_fi
   close,
 }
 
-abbrev μ-flatten : Measures 10 flatten-kinds.ps ℕ
+abbrev μ-flatten : Measures 9 flatten-kinds.ps ℕ
 μ-flatten κs a = 4 * a .1 .1 .1 .1 .1 .1 .1 .1 .0
 
-abbrev μ-flatten-arrays : Measures 10 flatten-arrays-kinds.ps ℕ
+abbrev μ-flatten-arrays : Measures 9 flatten-arrays-kinds.ps ℕ
 μ-flatten-arrays κs a = 4 * a .1 .1 .1 .1 .1 .1 .1 .1 .0 - 1
 
-abbrev μ-flatten-fields : Measures 11 flatten-fields-kinds.ps ℕ
+abbrev μ-flatten-fields : Measures 10 flatten-fields-kinds.ps ℕ
 μ-flatten-fields κs a = 4 * a .1 .1 .1 .1 .1 .1 .1 .1 .0 - 2
 
-abbrev μ-flatten-items : Measures 10 flatten-items-kinds.ps ℕ
+abbrev μ-flatten-items : Measures 9 flatten-items-kinds.ps ℕ
 μ-flatten-items κs a = 4 * a .1 .1 .1 .1 .1 .1 .1 .1 .0 - 2
 
-abbrev μ-flatten-objects : Measures 10 flatten-objects-kinds.ps ℕ
+abbrev μ-flatten-objects : Measures 9 flatten-objects-kinds.ps ℕ
 μ-flatten-objects κs a = 4 * a .1 .1 .1 .1 .1 .1 .1 .1 .0 - 1
 
-abbrev flatten-at : ℕ → In 10 flatten-kinds.ps
-flatten-at t = and 10 flatten-kinds.ps (is 10 flatten-kinds.ps μ-flatten t) flatten.Pre
+abbrev flatten-at : ℕ → In 9 flatten-kinds.ps
+flatten-at t = and 9 flatten-kinds.ps (is 9 flatten-kinds.ps μ-flatten t) flatten.Pre
 
-abbrev flatten-below : ℕ → In 10 flatten-kinds.ps
-flatten-below t = and 10 flatten-kinds.ps (falls 10 flatten-kinds.ps _<_ μ-flatten t) flatten.Pre
+abbrev flatten-below : ℕ → In 9 flatten-kinds.ps
+flatten-below t = and 9 flatten-kinds.ps (falls 9 flatten-kinds.ps _<_ μ-flatten t) flatten.Pre
 
-abbrev flatten-arrays-at : ℕ → In 10 flatten-arrays-kinds.ps
+abbrev flatten-arrays-at : ℕ → In 9 flatten-arrays-kinds.ps
 flatten-arrays-at t =
     and
-    10
+    9
     flatten-arrays-kinds.ps
-    (is 10 flatten-arrays-kinds.ps μ-flatten-arrays t)
+    (is 9 flatten-arrays-kinds.ps μ-flatten-arrays t)
     flatten-arrays.Pre
 
-abbrev flatten-arrays-below : ℕ → In 10 flatten-arrays-kinds.ps
+abbrev flatten-arrays-below : ℕ → In 9 flatten-arrays-kinds.ps
 flatten-arrays-below t =
     and
-    10
+    9
     flatten-arrays-kinds.ps
-    (falls 10 flatten-arrays-kinds.ps _<_ μ-flatten-arrays t)
+    (falls 9 flatten-arrays-kinds.ps _<_ μ-flatten-arrays t)
     flatten-arrays.Pre
 
-abbrev flatten-fields-at : ℕ → In 11 flatten-fields-kinds.ps
+abbrev flatten-fields-at : ℕ → In 10 flatten-fields-kinds.ps
 flatten-fields-at t =
     and
-    11
+    10
     flatten-fields-kinds.ps
-    (is 11 flatten-fields-kinds.ps μ-flatten-fields t)
+    (is 10 flatten-fields-kinds.ps μ-flatten-fields t)
     flatten-fields.Pre
 
-abbrev flatten-fields-below : ℕ → In 11 flatten-fields-kinds.ps
+abbrev flatten-fields-below : ℕ → In 10 flatten-fields-kinds.ps
 flatten-fields-below t =
     and
-    11
+    10
     flatten-fields-kinds.ps
-    (falls 11 flatten-fields-kinds.ps _<_ μ-flatten-fields t)
+    (falls 10 flatten-fields-kinds.ps _<_ μ-flatten-fields t)
     flatten-fields.Pre
 
-abbrev flatten-items-at : ℕ → In 10 flatten-items-kinds.ps
+abbrev flatten-items-at : ℕ → In 9 flatten-items-kinds.ps
 flatten-items-at t =
     and
-    10
+    9
     flatten-items-kinds.ps
-    (is 10 flatten-items-kinds.ps μ-flatten-items t)
+    (is 9 flatten-items-kinds.ps μ-flatten-items t)
     flatten-items.Pre
 
-abbrev flatten-items-below : ℕ → In 10 flatten-items-kinds.ps
+abbrev flatten-items-below : ℕ → In 9 flatten-items-kinds.ps
 flatten-items-below t =
     and
-    10
+    9
     flatten-items-kinds.ps
-    (falls 10 flatten-items-kinds.ps _<_ μ-flatten-items t)
+    (falls 9 flatten-items-kinds.ps _<_ μ-flatten-items t)
     flatten-items.Pre
 
-abbrev flatten-objects-at : ℕ → In 10 flatten-objects-kinds.ps
+abbrev flatten-objects-at : ℕ → In 9 flatten-objects-kinds.ps
 flatten-objects-at t =
     and
-    10
+    9
     flatten-objects-kinds.ps
-    (is 10 flatten-objects-kinds.ps μ-flatten-objects t)
+    (is 9 flatten-objects-kinds.ps μ-flatten-objects t)
     flatten-objects.Pre
 
-abbrev flatten-objects-below : ℕ → In 10 flatten-objects-kinds.ps
+abbrev flatten-objects-below : ℕ → In 9 flatten-objects-kinds.ps
 flatten-objects-below t =
     and
-    10
+    9
     flatten-objects-kinds.ps
-    (falls 10 flatten-objects-kinds.ps _<_ μ-flatten-objects t)
+    (falls 9 flatten-objects-kinds.ps _<_ μ-flatten-objects t)
     flatten-objects.Pre
 
 abbrev flatten-calls : ℕ → flatten-lts.Claims

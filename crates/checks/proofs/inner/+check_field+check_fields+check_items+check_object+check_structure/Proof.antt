@@ -40,75 +40,75 @@ use Rattle.checks.proofs.inner.+check_field+check_fields+check_items+ch
   close,
 }
 
-abbrev μ-check-field : Measures 9 check-field-kinds.ps ℕ
+abbrev μ-check-field : Measures 8 check-field-kinds.ps ℕ
 μ-check-field κs a = 4 * a .1 .1 .1 .1 .1 .1 .1 .0 - 3
 
-abbrev μ-check-fields : Measures 9 check-fields-kinds.ps ℕ
+abbrev μ-check-fields : Measures 8 check-fields-kinds.ps ℕ
 μ-check-fields κs a = 4 * a .1 .1 .1 .1 .1 .1 .1 .0 - 2
 
-abbrev μ-check-items : Measures 8 check-items-kinds.ps ℕ
+abbrev μ-check-items : Measures 7 check-items-kinds.ps ℕ
 μ-check-items κs a = 4 * a .1 .1 .1 .1 .1 .1 .0 - 2
 
-abbrev μ-check-object : Measures 8 check-object-kinds.ps ℕ
+abbrev μ-check-object : Measures 7 check-object-kinds.ps ℕ
 μ-check-object κs a = 4 * a .1 .1 .1 .1 .1 .1 .1 .0 - 1
 
-abbrev μ-check-structure : Measures 8 check-structure-kinds.ps ℕ
+abbrev μ-check-structure : Measures 7 check-structure-kinds.ps ℕ
 μ-check-structure κs a = 4 * a .1 .1 .1 .1 .1 .1 .1 .0
 
-abbrev check-field-at : ℕ → In 9 check-field-kinds.ps
+abbrev check-field-at : ℕ → In 8 check-field-kinds.ps
 check-field-at t =
-    and 9 check-field-kinds.ps (is 9 check-field-kinds.ps μ-check-field t) check-field.Pre
+    and 8 check-field-kinds.ps (is 8 check-field-kinds.ps μ-check-field t) check-field.Pre
 
-abbrev check-field-below : ℕ → In 9 check-field-kinds.ps
+abbrev check-field-below : ℕ → In 8 check-field-kinds.ps
 check-field-below t =
-    and 9 check-field-kinds.ps (falls 9 check-field-kinds.ps _<_ μ-check-field t) check-field.Pre
+    and 8 check-field-kinds.ps (falls 8 check-field-kinds.ps _<_ μ-check-field t) check-field.Pre
 
-abbrev check-fields-at : ℕ → In 9 check-fields-kinds.ps
+abbrev check-fields-at : ℕ → In 8 check-fields-kinds.ps
 check-fields-at t =
-    and 9 check-fields-kinds.ps (is 9 check-fields-kinds.ps μ-check-fields t) check-fields.Pre
+    and 8 check-fields-kinds.ps (is 8 check-fields-kinds.ps μ-check-fields t) check-fields.Pre
 
-abbrev check-fields-below : ℕ → In 9 check-fields-kinds.ps
+abbrev check-fields-below : ℕ → In 8 check-fields-kinds.ps
 check-fields-below t =
     and
-    9
+    8
     check-fields-kinds.ps
-    (falls 9 check-fields-kinds.ps _<_ μ-check-fields t)
+    (falls 8 check-fields-kinds.ps _<_ μ-check-fields t)
     check-fields.Pre
 
-abbrev check-items-at : ℕ → In 8 check-items-kinds.ps
+abbrev check-items-at : ℕ → In 7 check-items-kinds.ps
 check-items-at t =
-    and 8 check-items-kinds.ps (is 8 check-items-kinds.ps μ-check-items t) check-items.Pre
+    and 7 check-items-kinds.ps (is 7 check-items-kinds.ps μ-check-items t) check-items.Pre
 
-abbrev check-items-below : ℕ → In 8 check-items-kinds.ps
+abbrev check-items-below : ℕ → In 7 check-items-kinds.ps
 check-items-below t =
-    and 8 check-items-kinds.ps (falls 8 check-items-kinds.ps _<_ μ-check-items t) check-items.Pre
+    and 7 check-items-kinds.ps (falls 7 check-items-kinds.ps _<_ μ-check-items t) check-items.Pre
 
-abbrev check-object-at : ℕ → In 8 check-object-kinds.ps
+abbrev check-object-at : ℕ → In 7 check-object-kinds.ps
 check-object-at t =
-    and 8 check-object-kinds.ps (is 8 check-object-kinds.ps μ-check-object t) check-object.Pre
+    and 7 check-object-kinds.ps (is 7 check-object-kinds.ps μ-check-object t) check-object.Pre
 
-abbrev check-object-below : ℕ → In 8 check-object-kinds.ps
+abbrev check-object-below : ℕ → In 7 check-object-kinds.ps
 check-object-below t =
     and
-    8
+    7
     check-object-kinds.ps
-    (falls 8 check-object-kinds.ps _<_ μ-check-object t)
+    (falls 7 check-object-kinds.ps _<_ μ-check-object t)
     check-object.Pre
 
-abbrev check-structure-at : ℕ → In 8 check-structure-kinds.ps
+abbrev check-structure-at : ℕ → In 7 check-structure-kinds.ps
 check-structure-at t =
     and
-    8
+    7
     check-structure-kinds.ps
-    (is 8 check-structure-kinds.ps μ-check-structure t)
+    (is 7 check-structure-kinds.ps μ-check-structure t)
     check-structure.Pre
 
-abbrev check-structure-below : ℕ → In 8 check-structure-kinds.ps
+abbrev check-structure-below : ℕ → In 7 check-structure-kinds.ps
 check-structure-below t =
     and
-    8
+    7
     check-structure-kinds.ps
-    (falls 8 check-structure-kinds.ps _<_ μ-check-structure t)
+    (falls 7 check-structure-kinds.ps _<_ μ-check-structure t)
     check-structure.Pre
 
 abbrev check-field-calls : ℕ → check-field-lts.Claims

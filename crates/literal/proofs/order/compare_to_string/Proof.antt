@@ -1,4 +1,4 @@
-use Rattle.literal.proofs.Strings.{told-right, bytes-string, bytes-raw, bytes-none}
+use Rattle.literal.proofs.Strings.{told-right}
 use borrow.Author.Needs.{needs}
 use Rattle.literal.proofs.order.compare_to_string.Statement.{statement}
 use Rattle.literal.proofs.order.compare_to_string.Tie as tie
@@ -7,16 +7,6 @@ pub compare-to-string-spec : {M : Type 1} → statement M
 compare-to-string-spec =
     tie.close
     (tie.spec
-    (λ c. search needs)
     (λ c κs. search needs)
     (λ c κs. search needs)
-    (λ c. search needs)
-    (λ c κs. search needs)
-    (λ c κs. search needs)
-    (λ c. search needs)
-    (λ c. search needs)
-    (λ c. search needs)
-    (λ c κs. search needs)
-    (λ c. search (told-right, bytes-string, needs))
-    (λ c. search (told-right, bytes-raw, needs))
-    (λ c. search (told-right, bytes-none, needs)))
+    (λ c. search (told-right, needs)))

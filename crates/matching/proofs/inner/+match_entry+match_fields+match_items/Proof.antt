@@ -1,7 +1,7 @@
 use Prim.Native.Nat.{_+_, _-_, _*_, ℕ, _<_}
 use Rattle.table.specs.Tables.{tables}
 use Rattle.matching.proofs.Entries.{ask-bind, bound, ignored, ask-compare, compared, ask-literal, literal-compared, some-rest, ask-items, ask-fields, parts-fall, entry-falls}
-use Rattle.matching.proofs.Parts.{not-array, uneven-items, TakingItems, taking-start, taking-link, taking-from-fits, taking-asks, taking-fails, taking-on, taking-ends, not-object, ask-key-sets, other-keys, TakingFields, fields-start, fields-object, fields-link, fields-next-fits, fields-child, fields-key-word, fields-asks, fields-fail, fields-on, fields-end}
+use Rattle.matching.proofs.Parts.{not-array, uneven-items, TakingItems, taking-start, taking-link, taking-from-fits, taking-asks, taking-fails, taking-on, taking-ends, not-object, ask-key-sets, other-keys, TakingFields, fields-start, fields-object, fields-link, fields-index-fits, fields-next-fits, fields-child, fields-key-word, fields-asks, fields-fail, fields-on, fields-end}
 use borrow.Author.Needs.{needs}
 use Prim.Native.Nat.{ℕ, _<_}
 use borrow.Fn.Kinds.{In}
@@ -28,42 +28,42 @@ use Rattle.value.proofs.inner.fields.value_under.Reads as value-under-reads
 use Rattle.matching.proofs.inner.+match_entry+match_fields+match_items.{statement}
 use Rattle.matching.proofs.inner.+match_entry+match_fields+match_items.Tie.{close}
 
-abbrev μ-match-entry : Measures 10 match-entry-kinds.ps ℕ
+abbrev μ-match-entry : Measures 9 match-entry-kinds.ps ℕ
 μ-match-entry κs a = 2 * a .1 .1 .1 .1 .1 .1 .1 .1 .1 .1 .1 .0
 
-abbrev μ-match-fields : Measures 10 match-fields-kinds.ps ℕ
+abbrev μ-match-fields : Measures 9 match-fields-kinds.ps ℕ
 μ-match-fields κs a = 2 * a .1 .1 .1 .1 .1 .1 .1 .1 .1 .1 .1 .1 .0 + 1
 
-abbrev μ-match-items : Measures 10 match-items-kinds.ps ℕ
+abbrev μ-match-items : Measures 9 match-items-kinds.ps ℕ
 μ-match-items κs a = 2 * a .1 .1 .1 .1 .1 .1 .1 .1 .1 .1 .1 .1 .0 + 1
 
-abbrev match-entry-at : ℕ → In 10 match-entry-kinds.ps
+abbrev match-entry-at : ℕ → In 9 match-entry-kinds.ps
 match-entry-at t =
-    and 10 match-entry-kinds.ps (is 10 match-entry-kinds.ps μ-match-entry t) match-entry.Pre
+    and 9 match-entry-kinds.ps (is 9 match-entry-kinds.ps μ-match-entry t) match-entry.Pre
 
-abbrev match-entry-below : ℕ → In 10 match-entry-kinds.ps
+abbrev match-entry-below : ℕ → In 9 match-entry-kinds.ps
 match-entry-below t =
-    and 10 match-entry-kinds.ps (falls 10 match-entry-kinds.ps _<_ μ-match-entry t) match-entry.Pre
+    and 9 match-entry-kinds.ps (falls 9 match-entry-kinds.ps _<_ μ-match-entry t) match-entry.Pre
 
-abbrev match-fields-at : ℕ → In 10 match-fields-kinds.ps
+abbrev match-fields-at : ℕ → In 9 match-fields-kinds.ps
 match-fields-at t =
-    and 10 match-fields-kinds.ps (is 10 match-fields-kinds.ps μ-match-fields t) match-fields.Pre
+    and 9 match-fields-kinds.ps (is 9 match-fields-kinds.ps μ-match-fields t) match-fields.Pre
 
-abbrev match-fields-below : ℕ → In 10 match-fields-kinds.ps
+abbrev match-fields-below : ℕ → In 9 match-fields-kinds.ps
 match-fields-below t =
     and
-    10
+    9
     match-fields-kinds.ps
-    (falls 10 match-fields-kinds.ps _<_ μ-match-fields t)
+    (falls 9 match-fields-kinds.ps _<_ μ-match-fields t)
     match-fields.Pre
 
-abbrev match-items-at : ℕ → In 10 match-items-kinds.ps
+abbrev match-items-at : ℕ → In 9 match-items-kinds.ps
 match-items-at t =
-    and 10 match-items-kinds.ps (is 10 match-items-kinds.ps μ-match-items t) match-items.Pre
+    and 9 match-items-kinds.ps (is 9 match-items-kinds.ps μ-match-items t) match-items.Pre
 
-abbrev match-items-below : ℕ → In 10 match-items-kinds.ps
+abbrev match-items-below : ℕ → In 9 match-items-kinds.ps
 match-items-below t =
-    and 10 match-items-kinds.ps (falls 10 match-items-kinds.ps _<_ μ-match-items t) match-items.Pre
+    and 9 match-items-kinds.ps (falls 9 match-items-kinds.ps _<_ μ-match-items t) match-items.Pre
 
 abbrev match-entry-calls : ℕ → match-entry-lts.Claims
 match-entry-calls t = (bind-name-reads.Asked, bind-name-reads.Learnt, equals-name-reads.Asked, equals-name-reads.Learnt, same-value-reads.Asked, same-value-reads.Learnt, match-items-below t, match-items.Post, match-fields-below t, match-fields.Post)
@@ -189,13 +189,13 @@ match-fields-loop-holds : (t : ℕ) → match-fields-lts.Need-loop-holds (match-
 match-fields-loop-holds t c = fields-start (c .before .before .before .before .before .before .before .before .before .before .before .before .before .pre .1) (c .before .before .before .before .before .before .kind-of .ensures) (c .before .before .before .before .before .if1 .left) (c .before .before .before .same-key-sets .ensures) (c .before .before .if2 .left) (c .entry-number .ensures .0)
 
 match-fields-cast-entry-number : (t : ℕ) → match-fields-lts.Need-cast-entry-number (match-fields-calls t) (match-fields-at t) match-fields.Post match-fields-Inv-loop match-fields-μ-loop
-match-fields-cast-entry-number t c = search needs
+match-fields-cast-entry-number t c = fields-index-fits (c .before .loop .inv) (c .loop-test .taken)
 
 match-fields-add-entry-number : (t : ℕ) → match-fields-lts.Need-add-entry-number (match-fields-calls t) (match-fields-at t) match-fields.Post match-fields-Inv-loop match-fields-μ-loop
-match-fields-add-entry-number t c = search (fields-link, needs)
+match-fields-add-entry-number t c = search (fields-link (c .before .loop .inv) (c .loop-test .taken), needs)
 
 match-fields-mul-entry-number-2 : (t : ℕ) → match-fields-lts.Need-mul-entry-number-2 (match-fields-calls t) (match-fields-at t) match-fields.Post match-fields-Inv-loop match-fields-μ-loop
-match-fields-mul-entry-number-2 t c = search (fields-link, needs)
+match-fields-mul-entry-number-2 t c = search (fields-link (c .before .loop .inv) (c .loop-test .taken), needs)
 
 match-fields-element-copy-out-entry-number-2 : (t : ℕ) → match-fields-lts.Need-element-copy-out-entry-number-2 (match-fields-calls t) (match-fields-at t) match-fields.Post match-fields-Inv-loop match-fields-μ-loop
 match-fields-element-copy-out-entry-number-2 t c = search (fields-link, needs)

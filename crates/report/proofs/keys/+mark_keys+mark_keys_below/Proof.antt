@@ -20,23 +20,23 @@ use Rattle.table.proofs.reading.kind_of.Reads as kind-of-reads
 use Rattle.report.proofs.keys.+mark_keys+mark_keys_below.{statement}
 use Rattle.report.proofs.keys.+mark_keys+mark_keys_below.Tie.{close}
 
-abbrev μ-mark-keys : Measures 8 mark-keys-kinds.ps ℕ
+abbrev μ-mark-keys : Measures 7 mark-keys-kinds.ps ℕ
 μ-mark-keys κs a = 2 * a .1 .1 .1 .1 .1 .1 .1 .0
 
-abbrev μ-mark-keys-below : Measures 8 mark-keys-below-kinds.ps ℕ
+abbrev μ-mark-keys-below : Measures 7 mark-keys-below-kinds.ps ℕ
 μ-mark-keys-below κs a = 2 * a .1 .1 .1 .1 .1 .1 .1 .0 - 1
 
-abbrev mark-keys-at : ℕ → In 8 mark-keys-kinds.ps
-mark-keys-at t = and 8 mark-keys-kinds.ps (is 8 mark-keys-kinds.ps μ-mark-keys t) mark-keys.Pre
+abbrev mark-keys-at : ℕ → In 7 mark-keys-kinds.ps
+mark-keys-at t = and 7 mark-keys-kinds.ps (is 7 mark-keys-kinds.ps μ-mark-keys t) mark-keys.Pre
 
-abbrev mark-keys-falls : ℕ → In 8 mark-keys-kinds.ps
-mark-keys-falls t = and 8 mark-keys-kinds.ps (falls 8 mark-keys-kinds.ps _<_ μ-mark-keys t) mark-keys.Pre
+abbrev mark-keys-falls : ℕ → In 7 mark-keys-kinds.ps
+mark-keys-falls t = and 7 mark-keys-kinds.ps (falls 7 mark-keys-kinds.ps _<_ μ-mark-keys t) mark-keys.Pre
 
-abbrev mark-keys-below-at : ℕ → In 8 mark-keys-below-kinds.ps
-mark-keys-below-at t = and 8 mark-keys-below-kinds.ps (is 8 mark-keys-below-kinds.ps μ-mark-keys-below t) mark-keys-below.Pre
+abbrev mark-keys-below-at : ℕ → In 7 mark-keys-below-kinds.ps
+mark-keys-below-at t = and 7 mark-keys-below-kinds.ps (is 7 mark-keys-below-kinds.ps μ-mark-keys-below t) mark-keys-below.Pre
 
-abbrev mark-keys-below-falls : ℕ → In 8 mark-keys-below-kinds.ps
-mark-keys-below-falls t = and 8 mark-keys-below-kinds.ps (falls 8 mark-keys-below-kinds.ps _<_ μ-mark-keys-below t) mark-keys-below.Pre
+abbrev mark-keys-below-falls : ℕ → In 7 mark-keys-below-kinds.ps
+mark-keys-below-falls t = and 7 mark-keys-below-kinds.ps (falls 7 mark-keys-below-kinds.ps _<_ μ-mark-keys-below t) mark-keys-below.Pre
 
 abbrev mark-keys-calls : ℕ → mark-keys-lts.Claims
 mark-keys-calls t = (kind-of-reads.Asked, kind-of-reads.Learnt, first-of-reads.Asked, first-of-reads.Learnt, count-of-reads.Asked, count-of-reads.Learnt, mark-keys-below-falls t, mark-keys-below.Post, mark-object-keys-reads.Asked, mark-object-keys-reads.Learnt)

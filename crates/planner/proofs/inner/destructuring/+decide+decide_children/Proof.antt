@@ -23,32 +23,32 @@ use Rattle.table.proofs.reading.kind_of.Reads as kind-of-reads
 use Rattle.planner.proofs.inner.destructuring.+decide+decide_children.{statement}
 use Rattle.planner.proofs.inner.destructuring.+decide+decide_children.Tie.{close}
 
-abbrev μ-decide : Measures 9 decide-kinds.ps ℕ
+abbrev μ-decide : Measures 8 decide-kinds.ps ℕ
 μ-decide κs a = 2 * a .1 .1 .1 .1 .1 .1 .1 .1 .0
 
-abbrev μ-decide-children : Measures 9 decide-children-kinds.ps ℕ
+abbrev μ-decide-children : Measures 8 decide-children-kinds.ps ℕ
 μ-decide-children κs a = 2 * a .1 .1 .1 .1 .1 .1 .1 .1 .0 - 1
 
-abbrev decide-at : ℕ → In 9 decide-kinds.ps
-decide-at t = and 9 decide-kinds.ps (is 9 decide-kinds.ps μ-decide t) decide.Pre
+abbrev decide-at : ℕ → In 8 decide-kinds.ps
+decide-at t = and 8 decide-kinds.ps (is 8 decide-kinds.ps μ-decide t) decide.Pre
 
-abbrev decide-below : ℕ → In 9 decide-kinds.ps
-decide-below t = and 9 decide-kinds.ps (falls 9 decide-kinds.ps _<_ μ-decide t) decide.Pre
+abbrev decide-below : ℕ → In 8 decide-kinds.ps
+decide-below t = and 8 decide-kinds.ps (falls 8 decide-kinds.ps _<_ μ-decide t) decide.Pre
 
-abbrev decide-children-at : ℕ → In 9 decide-children-kinds.ps
+abbrev decide-children-at : ℕ → In 8 decide-children-kinds.ps
 decide-children-at t =
     and
-    9
+    8
     decide-children-kinds.ps
-    (is 9 decide-children-kinds.ps μ-decide-children t)
+    (is 8 decide-children-kinds.ps μ-decide-children t)
     decide-children.Pre
 
-abbrev decide-children-below : ℕ → In 9 decide-children-kinds.ps
+abbrev decide-children-below : ℕ → In 8 decide-children-kinds.ps
 decide-children-below t =
     and
-    9
+    8
     decide-children-kinds.ps
-    (falls 9 decide-children-kinds.ps _<_ μ-decide-children t)
+    (falls 8 decide-children-kinds.ps _<_ μ-decide-children t)
     decide-children.Pre
 
 abbrev decide-calls : ℕ → decide-lts.Claims

@@ -20,34 +20,34 @@ use Rattle.table.proofs.reading.kind_of.Reads as kind-of-reads
 use Rattle.planner.proofs.inner.names.+first_name+first_name_children.{statement}
 use Rattle.planner.proofs.inner.names.+first_name+first_name_children.Tie.{close}
 
-abbrev μ-first-name : Measures 7 first-name-kinds.ps ℕ
+abbrev μ-first-name : Measures 6 first-name-kinds.ps ℕ
 μ-first-name κs a = 2 * a .1 .1 .1 .1 .1 .1 .1 .1 .1 .0
 
-abbrev μ-first-name-children : Measures 7 first-name-children-kinds.ps ℕ
+abbrev μ-first-name-children : Measures 6 first-name-children-kinds.ps ℕ
 μ-first-name-children κs a = 2 * a .1 .1 .1 .1 .1 .1 .1 .1 .1 .0 - 1
 
-abbrev first-name-at : ℕ → In 7 first-name-kinds.ps
+abbrev first-name-at : ℕ → In 6 first-name-kinds.ps
 first-name-at t =
-    and 7 first-name-kinds.ps (is 7 first-name-kinds.ps μ-first-name t) first-name.Pre
+    and 6 first-name-kinds.ps (is 6 first-name-kinds.ps μ-first-name t) first-name.Pre
 
-abbrev first-name-below : ℕ → In 7 first-name-kinds.ps
+abbrev first-name-below : ℕ → In 6 first-name-kinds.ps
 first-name-below t =
-    and 7 first-name-kinds.ps (falls 7 first-name-kinds.ps _<_ μ-first-name t) first-name.Pre
+    and 6 first-name-kinds.ps (falls 6 first-name-kinds.ps _<_ μ-first-name t) first-name.Pre
 
-abbrev first-name-children-at : ℕ → In 7 first-name-children-kinds.ps
+abbrev first-name-children-at : ℕ → In 6 first-name-children-kinds.ps
 first-name-children-at t =
     and
-    7
+    6
     first-name-children-kinds.ps
-    (is 7 first-name-children-kinds.ps μ-first-name-children t)
+    (is 6 first-name-children-kinds.ps μ-first-name-children t)
     first-name-children.Pre
 
-abbrev first-name-children-below : ℕ → In 7 first-name-children-kinds.ps
+abbrev first-name-children-below : ℕ → In 6 first-name-children-kinds.ps
 first-name-children-below t =
     and
-    7
+    6
     first-name-children-kinds.ps
-    (falls 7 first-name-children-kinds.ps _<_ μ-first-name-children t)
+    (falls 6 first-name-children-kinds.ps _<_ μ-first-name-children t)
     first-name-children.Pre
 
 abbrev first-name-calls : ℕ → first-name-lts.Claims

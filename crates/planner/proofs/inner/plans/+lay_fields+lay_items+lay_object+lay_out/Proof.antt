@@ -32,46 +32,46 @@ use Rattle.table.proofs.reading.kind_of.Reads as kind-of-reads
 use Rattle.planner.proofs.inner.plans.+lay_fields+lay_items+lay_object+lay_out.{statement}
 use Rattle.planner.proofs.inner.plans.+lay_fields+lay_items+lay_object+lay_out.Tie.{close}
 
-abbrev μ-lay-fields : Measures 11 lay-fields-kinds.ps ℕ
+abbrev μ-lay-fields : Measures 10 lay-fields-kinds.ps ℕ
 μ-lay-fields κs a = 4 * a .1 .1 .1 .1 .1 .1 .1 .1 .0 - 2
 
-abbrev μ-lay-items : Measures 10 lay-items-kinds.ps ℕ
+abbrev μ-lay-items : Measures 9 lay-items-kinds.ps ℕ
 μ-lay-items κs a = 4 * a .1 .1 .1 .1 .1 .1 .1 .1 .0 - 2
 
-abbrev μ-lay-object : Measures 10 lay-object-kinds.ps ℕ
+abbrev μ-lay-object : Measures 9 lay-object-kinds.ps ℕ
 μ-lay-object κs a = 4 * a .1 .1 .1 .1 .1 .1 .1 .1 .0 - 1
 
-abbrev μ-lay-out : Measures 10 lay-out-kinds.ps ℕ
+abbrev μ-lay-out : Measures 9 lay-out-kinds.ps ℕ
 μ-lay-out κs a = 4 * a .1 .1 .1 .1 .1 .1 .1 .1 .0
 
-abbrev lay-fields-at : ℕ → In 11 lay-fields-kinds.ps
+abbrev lay-fields-at : ℕ → In 10 lay-fields-kinds.ps
 lay-fields-at t =
-    and 11 lay-fields-kinds.ps (is 11 lay-fields-kinds.ps μ-lay-fields t) lay-fields.Pre
+    and 10 lay-fields-kinds.ps (is 10 lay-fields-kinds.ps μ-lay-fields t) lay-fields.Pre
 
-abbrev lay-fields-below : ℕ → In 11 lay-fields-kinds.ps
+abbrev lay-fields-below : ℕ → In 10 lay-fields-kinds.ps
 lay-fields-below t =
-    and 11 lay-fields-kinds.ps (falls 11 lay-fields-kinds.ps _<_ μ-lay-fields t) lay-fields.Pre
+    and 10 lay-fields-kinds.ps (falls 10 lay-fields-kinds.ps _<_ μ-lay-fields t) lay-fields.Pre
 
-abbrev lay-items-at : ℕ → In 10 lay-items-kinds.ps
-lay-items-at t = and 10 lay-items-kinds.ps (is 10 lay-items-kinds.ps μ-lay-items t) lay-items.Pre
+abbrev lay-items-at : ℕ → In 9 lay-items-kinds.ps
+lay-items-at t = and 9 lay-items-kinds.ps (is 9 lay-items-kinds.ps μ-lay-items t) lay-items.Pre
 
-abbrev lay-items-below : ℕ → In 10 lay-items-kinds.ps
+abbrev lay-items-below : ℕ → In 9 lay-items-kinds.ps
 lay-items-below t =
-    and 10 lay-items-kinds.ps (falls 10 lay-items-kinds.ps _<_ μ-lay-items t) lay-items.Pre
+    and 9 lay-items-kinds.ps (falls 9 lay-items-kinds.ps _<_ μ-lay-items t) lay-items.Pre
 
-abbrev lay-object-at : ℕ → In 10 lay-object-kinds.ps
+abbrev lay-object-at : ℕ → In 9 lay-object-kinds.ps
 lay-object-at t =
-    and 10 lay-object-kinds.ps (is 10 lay-object-kinds.ps μ-lay-object t) lay-object.Pre
+    and 9 lay-object-kinds.ps (is 9 lay-object-kinds.ps μ-lay-object t) lay-object.Pre
 
-abbrev lay-object-below : ℕ → In 10 lay-object-kinds.ps
+abbrev lay-object-below : ℕ → In 9 lay-object-kinds.ps
 lay-object-below t =
-    and 10 lay-object-kinds.ps (falls 10 lay-object-kinds.ps _<_ μ-lay-object t) lay-object.Pre
+    and 9 lay-object-kinds.ps (falls 9 lay-object-kinds.ps _<_ μ-lay-object t) lay-object.Pre
 
-abbrev lay-out-at : ℕ → In 10 lay-out-kinds.ps
-lay-out-at t = and 10 lay-out-kinds.ps (is 10 lay-out-kinds.ps μ-lay-out t) lay-out.Pre
+abbrev lay-out-at : ℕ → In 9 lay-out-kinds.ps
+lay-out-at t = and 9 lay-out-kinds.ps (is 9 lay-out-kinds.ps μ-lay-out t) lay-out.Pre
 
-abbrev lay-out-below : ℕ → In 10 lay-out-kinds.ps
-lay-out-below t = and 10 lay-out-kinds.ps (falls 10 lay-out-kinds.ps _<_ μ-lay-out t) lay-out.Pre
+abbrev lay-out-below : ℕ → In 9 lay-out-kinds.ps
+lay-out-below t = and 9 lay-out-kinds.ps (falls 9 lay-out-kinds.ps _<_ μ-lay-out t) lay-out.Pre
 
 abbrev lay-fields-calls : ℕ → lay-fields-lts.Claims
 lay-fields-calls t = (field-at-reads.Asked, field-at-reads.Learnt, child-at-reads.Asked, child-at-reads.Learnt, lay-out-below t, lay-out.Post)

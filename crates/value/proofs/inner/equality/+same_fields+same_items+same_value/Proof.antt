@@ -22,38 +22,38 @@ use Rattle.value.proofs.inner.fields.value_under.Reads as value-under-r
 use Rattle.value.proofs.inner.equality.+same_fields+same_items+same_value.{statement}
 use Rattle.value.proofs.inner.equality.+same_fields+same_items+same_value.Tie.{close}
 
-abbrev μ-same-fields : Measures 6 same-fields-kinds.ps ℕ
+abbrev μ-same-fields : Measures 5 same-fields-kinds.ps ℕ
 μ-same-fields κs a = 2 * a .1 .1 .1 .1 .1 .1 .0 - 1
 
-abbrev μ-same-items : Measures 6 same-items-kinds.ps ℕ
+abbrev μ-same-items : Measures 5 same-items-kinds.ps ℕ
 μ-same-items κs a = 2 * a .1 .1 .1 .1 .1 .1 .0 - 1
 
-abbrev μ-same-value : Measures 6 same-value-kinds.ps ℕ
+abbrev μ-same-value : Measures 5 same-value-kinds.ps ℕ
 μ-same-value κs a = 2 * a .1 .1 .1 .1 .1 .1 .0
 
-abbrev same-fields-at : ℕ → In 6 same-fields-kinds.ps
+abbrev same-fields-at : ℕ → In 5 same-fields-kinds.ps
 same-fields-at t =
-    and 6 same-fields-kinds.ps (is 6 same-fields-kinds.ps μ-same-fields t) same-fields.Pre
+    and 5 same-fields-kinds.ps (is 5 same-fields-kinds.ps μ-same-fields t) same-fields.Pre
 
-abbrev same-fields-below : ℕ → In 6 same-fields-kinds.ps
+abbrev same-fields-below : ℕ → In 5 same-fields-kinds.ps
 same-fields-below t =
-    and 6 same-fields-kinds.ps (falls 6 same-fields-kinds.ps _<_ μ-same-fields t) same-fields.Pre
+    and 5 same-fields-kinds.ps (falls 5 same-fields-kinds.ps _<_ μ-same-fields t) same-fields.Pre
 
-abbrev same-items-at : ℕ → In 6 same-items-kinds.ps
+abbrev same-items-at : ℕ → In 5 same-items-kinds.ps
 same-items-at t =
-    and 6 same-items-kinds.ps (is 6 same-items-kinds.ps μ-same-items t) same-items.Pre
+    and 5 same-items-kinds.ps (is 5 same-items-kinds.ps μ-same-items t) same-items.Pre
 
-abbrev same-items-below : ℕ → In 6 same-items-kinds.ps
+abbrev same-items-below : ℕ → In 5 same-items-kinds.ps
 same-items-below t =
-    and 6 same-items-kinds.ps (falls 6 same-items-kinds.ps _<_ μ-same-items t) same-items.Pre
+    and 5 same-items-kinds.ps (falls 5 same-items-kinds.ps _<_ μ-same-items t) same-items.Pre
 
-abbrev same-value-at : ℕ → In 6 same-value-kinds.ps
+abbrev same-value-at : ℕ → In 5 same-value-kinds.ps
 same-value-at t =
-    and 6 same-value-kinds.ps (is 6 same-value-kinds.ps μ-same-value t) same-value.Pre
+    and 5 same-value-kinds.ps (is 5 same-value-kinds.ps μ-same-value t) same-value.Pre
 
-abbrev same-value-below : ℕ → In 6 same-value-kinds.ps
+abbrev same-value-below : ℕ → In 5 same-value-kinds.ps
 same-value-below t =
-    and 6 same-value-kinds.ps (falls 6 same-value-kinds.ps _<_ μ-same-value t) same-value.Pre
+    and 5 same-value-kinds.ps (falls 5 same-value-kinds.ps _<_ μ-same-value t) same-value.Pre
 
 abbrev same-fields-calls : ℕ → same-fields-lts.Claims
 same-fields-calls t = (first-of-reads.Asked, first-of-reads.Learnt, count-of-reads.Asked, count-of-reads.Learnt, child-at-reads.Asked, child-at-reads.Learnt, value-under-reads.Asked, value-under-reads.Learnt, same-value-below t, same-value.Post)
