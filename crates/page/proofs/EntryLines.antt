@@ -17,7 +17,8 @@ use Rattle.planner.specs.Entries.{entryAt, readEntries}
 use Rattle.planner.proofs.buffer.ReadBack.{length-read}
 use Rattle.sheet.specs.Sheet.{tablesOf, countsOf}
 use Rattle.sheet.specs.declared.source.Span.{Span}
-use Rattle.sheet.specs.Source.{sourceText, sourceIn, SourceSpan}
+use Rattle.sheet.specs.Source.{sourceText, sourceIn, spanIn, SourceSpan}
+use Rattle.sheet.proofs.laws.SourceText.{source-laws}
 use Rattle.page.specs.Page.{lineLength, pageLines, keyText, lineCells, entryCells, blankCells, Cells, cellsBytes, entryLines, pageCount, pagesLines, linesBytes}
 use Rattle.page.specs.Answer.{paged, pagesAnswer, pagesAfter, LaidOut}
 use Rattle.page.specs.declared.PageAnswer.the-variants.{Pages, BufferTooShort}
@@ -36,11 +37,22 @@ key-is sheet key = go (eqb key 0) refl
     go true e = rw (eqb-true key 0 e) (sym (no-text (tablesOf sheet (countsOf sheet))))
     go false e = refl
 
+-- a node's text, found
+module _ (sheet : List ℕ) (n : ℕ) {r : Span} (e : r ≡ spanIn sheet n) where
+  spanned : SourceSpan sheet n r
+  spanned = rw e (source-laws .spans sheet n)
+
+  pub source-ordered : r .start ≤ r .end
+  source-ordered = spanned .ordered
+
+  pub source-inside : r .end ≤ length sheet
+  source-inside = spanned .inside
+
 module _ (out sheet plan : List ℕ) (i : ℕ) where
-  pub entry-written : {source key : Span} {one : List ℕ} → SourceSpan sheet (getD plan (i * entryWords + 1) 0) source → SourceSpan sheet (getD plan (i * entryWords + 3) 0) key
+  pub entry-written : {source key : Span} {one : List ℕ} → source ≡ spanIn sheet (getD plan (i * entryWords + 1) 0) → key ≡ spanIn sheet (getD plan (i * entryWords + 3) 0)
       → one ≡ stored out (i * lineLength) (cellsBytes (lineCells (i + 1) (getD plan (i * entryWords) 0) (part sheet (source .start) (source .end - source .start)) (part sheet (key .start) (key .end - key .start))))
       → one ≡ stored out (i * lineLength) (entryLine (sourceIn sheet) plan i)
-  entry-written s k e = rw (key-is sheet (getD plan (i * entryWords + 3) 0)) (rw (s .text, k .text) at e)
+  entry-written s k e = rw (key-is sheet (getD plan (i * entryWords + 3) 0)) (rw (spanned sheet _ s .text, spanned sheet _ k .text) at e)
 
 -- the entries, one after the other
 module _ (source : ℕ → List ℕ) (plan : List ℕ) where

@@ -5,7 +5,7 @@ ghost use Rattle.base.specs.Lent.{old};
 ghost use Rattle.table.specs.Tables.{recordWord};
 ghost use Rattle.sheet.specs.Lines.{numberAt};
 ghost use Rattle.sheet.specs.Sheet.{nodesOf};
-ghost use Rattle.sheet.specs.Source.{SourceSpan};
+ghost use Rattle.sheet.specs.Source.{spanIn};
 ghost use Rattle.sheet.specs.code.Header.{NumberRead, CountsRead};
 use crate::header::Counts;
 use crate::header::NODE_LINE;
@@ -70,7 +70,7 @@ fn node_word(sheet: &[u8], counts: Counts, node: u32, k: usize) -> usize
 
 // Of a sheet that has no such node, an empty part.
 pub fn source_of(sheet: &[u8], node: u32) -> Span
-    ensures { λ r. ⌜ SourceSpan (old sheet) node r ⌝ }
+    ensures { λ r. ⌜ r ≡ spanIn (old sheet) node ⌝ }
 {
     let counts = counts_at(sheet);
     let places = places_of(counts);

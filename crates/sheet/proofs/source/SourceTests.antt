@@ -3,6 +3,7 @@ use Prim.Native.Nat.{ℕ, _+_, _-_, _*_, _^_, _<_, _≤_, min, max}
 use mathlib.Core.Bool.{Bool, true, false, cond}
 use mathlib.Core.List.{List}
 use mathlib.Core.Path.{_≡_, refl, sym, ap, ap₂, _∙_}
+use native.Mathlib.Nat.{max-eq-left, max-eq-right}
 use native.Mathlib.Omega.{arith}
 use borrow.Author.Tests.{ne-eqb, ltb-true, ltb-false}
 use lib.Dec.{ltb}
@@ -20,8 +21,8 @@ use Rattle.sheet.specs.declared.header.Counts.{Counts}
 use Rattle.sheet.specs.declared.header.Places.{Places}
 use Rattle.sheet.specs.declared.source.Span.{Span}
 use Rattle.sheet.specs.Lines.{numberAt, numberIn, lineLength, wordAt}
-use Rattle.sheet.specs.Sheet.{line1, nodesPlace, countsOf, nodesOf, textPlace, tablesOf}
-use Rattle.sheet.specs.Source.{sourceText, sourceIn, SourceSpan}
+use Rattle.sheet.specs.Sheet.{line1, nodesPlace, countsOf, nodesOf, textPlace}
+use Rattle.sheet.specs.Source.{textByte, span, spanOf, spanIn}
 use Rattle.sheet.specs.code.Header.{placesOf, Countable, NumberRead, CountsRead}
 use Rattle.sheet.proofs.header.HeaderTests.{counts-read}
 use Rattle.sheet.proofs.lines.LineTests.{word-in-line}
@@ -138,10 +139,10 @@ module _ (l : List ℕ) (at count first last : ℕ) where
 
   -- as the code finds it
   module _ {limit start high : ℕ} (to : limit ≡ min (at + count) (length l)) (from : start ≡ min (at + first) limit) (until : high ≡ min (at + last) limit) where
-    high-inside : high ≤ length l
+    pub high-inside : high ≤ length l
     high-inside = let a = low (at + count) (length l) to in let b = low (at + last) limit until in omega (arith, a, b)
 
-    start-inside : start ≤ length l
+    pub start-inside : start ≤ length l
     start-inside = let a = low (at + count) (length l) to in let b = low (at + first) limit from in omega (arith, a, b)
 
     -- nothing from `limit` on
@@ -191,23 +192,18 @@ module _ (sheet : List ℕ) (node : ℕ) {c : Counts} (counted : CountsRead shee
   -- the span of a node's text
   module _ {limit first last start high : ℕ} (to : limit ≡ min (p .end) (length sheet)) (begins : NumberRead (startOf (nodesOf sheet c) node) first) (ends : NumberRead (endOf (nodesOf sheet c) node) last)
       (from : start ≡ min (p .text + first) limit) (until : high ≡ min (p .text + last) limit) where
-    by-tables : part (part sheet (textPlace c) (c .text)) first (last - first) ≡ sourceText (tablesOf sheet c) node
-    unfolding sourceText
-    by-tables = rw (begins .is, ends .is)
+    start-is : start ≡ textByte sheet c (startOf (nodesOf sheet c) node)
+    start-is = rw places at from ∙ ap₂ (λ (k l : ℕ). min (textPlace c + k) l) (begins .is) (rw places at to)
 
-    text-is : part (part sheet (textPlace c) (c .text)) first (last - first) ≡ sourceIn sheet node
-    text-is = by-tables ∙ ap (λ (d : Counts). sourceText (tablesOf sheet d) node) (counted .is)
+    high-is : high ≡ textByte sheet c (endOf (nodesOf sheet c) node)
+    high-is = rw places at until ∙ ap₂ (λ (k l : ℕ). min (textPlace c + k) l) (ends .is) (rw places at to)
 
-    pub span-back : high < start → SourceSpan sheet node (record { start = start; end = start })
-    span-back lt = record {
-      ordered = omega arith;
-      inside = start-inside sheet (textPlace c) (c .text) first last (rw places at to) (rw places at from) (rw places at until);
-      text = part-back sheet (textPlace c) (c .text) first last (rw places at to) (rw places at from) (rw places at until) lt ∙ text-is;
-    }
+    spans : {end : ℕ} → end ≡ max start high → span start end ≡ spanIn sheet node
+    unfolding spanOf
+    spans e = ap₂ span start-is (e ∙ ap₂ max start-is high-is) ∙ ap (λ (d : Counts). spanOf sheet d node) (counted .is)
 
-    pub span-on : start ≤ high → SourceSpan sheet node (record { start = start; end = high })
-    span-on le = record {
-      ordered = le;
-      inside = high-inside sheet (textPlace c) (c .text) first last (rw places at to) (rw places at from) (rw places at until);
-      text = part-on sheet (textPlace c) (c .text) first last (rw places at to) (rw places at from) (rw places at until) le ∙ text-is;
-    }
+    pub span-back : high < start → span start start ≡ spanIn sheet node
+    span-back lt = spans (sym (max-eq-left (omega arith)))
+
+    pub span-on : start ≤ high → span start high ≡ spanIn sheet node
+    span-on le = spans (sym (max-eq-right le))

@@ -1,4 +1,4 @@
-use Rattle.page.proofs.EntryLines.{entry-written}
+use Rattle.page.proofs.EntryLines.{source-ordered, source-inside, entry-written}
 use borrow.Author.Needs.{needs}
 use Rattle.page.proofs.lines.write_entry.Statement.{statement}
 use Rattle.page.proofs.lines.write_entry.Tie as tie
@@ -43,22 +43,22 @@ shared-slice-read-write-line : tie.Need-shared-slice-read-write-line
 shared-slice-read-write-line c = search needs
 
 sub-write-line : tie.Need-sub-write-line
-sub-write-line c = search needs
+sub-write-line c = search (source-ordered, needs)
 
 part-write-line-start : tie.Need-part-write-line-start
-part-write-line-start c = search needs
+part-write-line-start c = search (source-ordered, needs)
 
 part-write-line-end : tie.Need-part-write-line-end
-part-write-line-end c = search needs
+part-write-line-end c = source-inside _ _ (c .before .before .before .before .source-of .ensures)
 
 sub-write-line-2 : tie.Need-sub-write-line-2
-sub-write-line-2 c = search needs
+sub-write-line-2 c = search (source-ordered, needs)
 
 part-write-line-start-2 : tie.Need-part-write-line-start-2
-part-write-line-start-2 c = search needs
+part-write-line-start-2 c = search (source-ordered, needs)
 
 part-write-line-end-2 : tie.Need-part-write-line-end-2
-part-write-line-end-2 c = search needs
+part-write-line-end-2 c = source-inside _ _ (c .before .before .before .source-of2 .ensures)
 
 write-line-requires : tie.Need-write-line-requires
 write-line-requires c κs = search needs
