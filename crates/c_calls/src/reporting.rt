@@ -11,7 +11,7 @@ use operation::numbers::scoping_of;
 use planner::buffer::clear;
 use report::names_report;
 
-// For each name 1 bound in the pattern's plan, 2 met but not bound there, else 0.
+// For each name 1 bound in the pattern's plan, 2 met or a computed key but not bound there, else 0.
 #[no_mangle]
 pub extern "C" fn teluddru_names_report<'a>(
     nodes: &[u32],

@@ -1,7 +1,7 @@
 -- The patterns and the roots of an operation, as the code lists and tests them.
 use Prim.Native.Nat.{ℕ}
 use mathlib.Core.Path.{_≡_, refl, sym, ap, subst, _∙_}
-use mathlib.Core.Bool.{Bool, true, false, cond, not, _&&_, and-false}
+use mathlib.Core.Bool.{Bool, true, false, not, _&&_, and-false}
 use mathlib.Core.List.{List, [], _∷_}
 use borrow.Author.Tests.{eq-eqb, ne-eqb, not-false}
 use lib.Dec.{eqb}
@@ -9,7 +9,6 @@ use Rattle.scope.specs.declared.ScopingMode.{ScopingMode}
 use Rattle.scope.specs.declared.ScopingMode.the-variants.{RespectParent, AllowShadowing}
 use Rattle.table.specs.Tables.{Tables, tables, isNode}
 use Rattle.table.specs.Check.{allNodes}
-use Rattle.table.specs.code.Sound.{Node}
 use Rattle.table.proofs.tests.Bools.{and-true}
 use Rattle.planner.specs.code.Post.{GoodRoot}
 use Rattle.planner.proofs.laws.Operations.{root-node}

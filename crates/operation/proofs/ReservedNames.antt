@@ -1,8 +1,8 @@
 -- The search for a reserved name.
 use Prim.Native.Nat.{ℕ, _+_, _-_, _≤_, _<_}
-use mathlib.Core.Path.{_≡_, refl, sym, ap, subst, _∙_}
+use mathlib.Core.Path.{_≡_, refl, sym, ap, _∙_}
 use mathlib.Core.Bool.{Bool, true, false, cond, not, _&&_, _||_}
-use mathlib.Core.List.{List, [], _∷_, _++_}
+use mathlib.Core.List.{List}
 use native.Mathlib.Omega.{arith}
 use borrow.Author.Tests.{ne-eqb, eqb-true, not-true, not-false}
 use lib.Dec.{eqb}
@@ -27,7 +27,7 @@ use Rattle.planner.proofs.laws.States.{states-each}
 use Rattle.planner.proofs.buffer.Filling.{Filling, filling-on, filling-ends, getD-tabulate}
 use Rattle.operation.specs.declared.Operation.{Operation}
 use Rattle.operation.specs.declared.patterns.Patterns.{Patterns}
-use Rattle.operation.specs.Version.{PatternRoot, patternsOf, reservedIn, reservedAmong, firstReserved}
+use Rattle.operation.specs.Version.{patternsOf, reservedIn, reservedAmong, firstReserved}
 use Rattle.operation.specs.code.Reserved.{reservedState, reservedStateAt, reservedStates, listed}
 
 -- by the class of the name

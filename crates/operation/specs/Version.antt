@@ -1,7 +1,7 @@
 -- Planning for a version of Rego (request 3 of document 02). Version 1 reserves `input` and `data`; any other number is version 0.
 use Prim.Native.Nat.{ℕ}
 use mathlib.Core.Path.{_≡_}
-use mathlib.Core.Bool.{Bool, true, false, cond, _&&_}
+use mathlib.Core.Bool.{true, false, cond, _&&_}
 use mathlib.Core.List.{List, [], _∷_}
 use lib.Dec.{eqb}
 use Rattle.base.specs.Refusal as Refusal

@@ -6,7 +6,7 @@ use Rattle.table.specs.declared.TableRefusal.the-variants.{OverLimit, BreaksRul
 use Rattle.base.specs.Refusal.{Line}
 use Rattle.report.specs.declared.ReportAnswer.{ReportAnswer}
 use Rattle.report.specs.declared.ReportAnswer.the-variants.{Reported, TableRefused, RootOutside, ListTooShort}
-use Rattle.report.specs.Answer.{reportLine}
+use Rattle.report.specs.Answer.{reportLine, ReportLineLaws}
 
 abbrev pub answerOf : Line → ReportAnswer
 answerOf l =
@@ -28,3 +28,6 @@ back ListTooShort = refl
 
 pub settled : (r q : ReportAnswer) → reportLine r ≡ reportLine q → r ≡ q
 settled r q e = sym (back r) ∙ (ap answerOf e ∙ back q)
+
+pub report-line-laws : ReportLineLaws
+report-line-laws = record { settled = settled }

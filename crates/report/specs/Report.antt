@@ -8,9 +8,8 @@ use lib.ListN.{length, replicate}
 use Rattle.scope.specs.declared.Scope.{Scope}
 use Rattle.scope.specs.declared.ScopingMode.{ScopingMode}
 use Rattle.table.specs.Tables.{Tables, firstOf, nameCount}
-use Rattle.table.specs.Expr.{Expr, name, object}
+use Rattle.table.specs.Expr.{Expr}
 use Rattle.base.specs.Lent.{Slices, old, new}
-use Rattle.table.specs.Expr as Expr
 use Rattle.table.specs.Decode.{expr}
 use Rattle.base.specs.Lists.{elem, tabulate}
 use Rattle.base.specs.Refusal.{Refusal, listTooShort, requireOr, Line, line, refusalLine}

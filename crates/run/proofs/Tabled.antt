@@ -7,7 +7,6 @@ use native.Mathlib.Omega.{arith}
 use lib.Dec.{eqb}
 use Rattle.literal.specs.Literal.{Literal}
 use Rattle.table.specs.Tables.{Tables, kindOf, firstOf, countOf, childAt}
-use Rattle.table.specs.Expr as Expr
 use Rattle.table.specs.Expr.{Expr}
 use Rattle.table.specs.Decode.{expr, items, fields}
 use Rattle.table.specs.code.Sound.{WellFormed}

@@ -1,5 +1,6 @@
 -- What a run answers: one of document 01's refusals, a match or no match.
-use Rattle.base.specs.Refusal.{Refusal, rootOutside, planTooLarge, listTooShort, patternNotSimple, notAValue, nameWithoutValue, Line, line, refusalLine}
+use mathlib.Core.Path.{_≡_}
+use Rattle.base.specs.Refusal.{Refusal, rootOutside, planTooLarge, listTooShort, patternNotSimple, notAValue, nameWithoutValue}
 use Rattle.table.specs.Check.{tableRefused}
 use Rattle.run.specs.declared.RunAnswer.{RunAnswer}
 use Rattle.run.specs.declared.RunAnswer.the-variants as Run
@@ -20,11 +21,6 @@ resultOf Run.PatternNotSimple = turnedBack patternNotSimple
 resultOf Run.NotAValue = turnedBack notAValue
 resultOf Run.NameWithoutValue = turnedBack nameWithoutValue
 
--- the four numbers; 0 is no refusal
-abbrev pub resultLine : RunResult → Line
-resultLine (turnedBack r) = refusalLine r
-resultLine aMatch = line 0 0 0 0
-resultLine noMatch = line 0 0 0 0
-
-abbrev pub runLine : RunAnswer → Line
-runLine a = resultLine (resultOf a)
+-- the result settles the answer
+pub record ResultLaws : Type 0 where
+  pub settled : (r q : RunAnswer) → resultOf r ≡ resultOf q → r ≡ q

@@ -88,7 +88,7 @@ pub fn run<'a>(
     )
 }
 
-// For each name 1 bound in the pattern's plan, 2 met but not bound there, else 0.
+// For each name 1 bound in the pattern's plan, 2 met or a computed key but not bound there, else 0.
 pub fn names_report<'a>(
     nodes: &[u32],
     children: &[u32],

@@ -3,7 +3,6 @@ use Prim.Native.Nat.{ℕ, zero, suc, _+_, _-_, _*_, _≤_, _<_}
 use mathlib.Core.Path.{_≡_, refl, sym, ap, ap₂, _∙_}
 use mathlib.Core.List.{List}
 use mathlib.Core.Bool.{Bool, true, false, cond, _&&_, not, false≢true, and-false}
-use mathlib.Core.Option as Option
 use native.Mathlib.Omega.{arith}
 use mir.Val.{Fits}
 use mir.Syntax.{w64}
@@ -13,7 +12,6 @@ use lib.ListN.{getD, set, replicate}
 use lib.Seq.{ext-getD}
 use Rattle.table.specs.Tables.{Tables, tables, kindOf, firstOf, countOf, nodeCount, childAt, isNode}
 use Rattle.table.specs.Expr.{Expr, literal, name, wildcard}
-use Rattle.table.specs.Expr as Expr
 use Rattle.table.specs.Decode.{expr, items, fields, isWildcard, fieldsOf}
 use Rattle.table.specs.code.Sound.{Node, WellFormed}
 use Rattle.table.proofs.tests.Bools.{and-true, told-no, told-yes}

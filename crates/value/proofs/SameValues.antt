@@ -13,7 +13,6 @@ use lib.Dec.{T as True, eqb}
 use Rattle.literal.specs.Literal.{Literal}
 use Rattle.table.specs.Tables.{Tables, kindOf, firstOf, countOf, childAt}
 use Rattle.table.specs.Decode.{expr, items, fields, isWildcard, literalAt, fieldsOf}
-use Rattle.table.specs.Expr as Expr
 use Rattle.table.specs.Expr.{Expr, literal, name, wildcard, array, object, other}
 use Rattle.table.specs.code.Sound.{WellFormed}
 use Rattle.table.proofs.trees.Trees.{expr-literal, expr-name, expr-array, expr-object, child-node, width-array, width-object}

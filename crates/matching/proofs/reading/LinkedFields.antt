@@ -7,7 +7,7 @@ use native.Mathlib.Omega.{arith}
 use lib.Dec.{leb}
 use lib.ListN.{length, getD, drop, length-append, length-map}
 use Rattle.table.specs.Expr.{Expr}
-use Rattle.planner.specs.Layout.{Entry, Place, entry, entries, fieldOrder, noFields, inOrder, concat}
+use Rattle.planner.specs.Layout.{Entry, Place, entries, fieldOrder, noFields, inOrder, concat}
 use Rattle.planner.specs.Entries.{readEntries}
 use Rattle.planner.specs.Plan.{arrayPlan, objectPlan, Plans, noPlan, itemPlan, FieldPlans, noField, fieldPlan}
 use Rattle.planner.specs.Simple.{differing}

@@ -3,9 +3,6 @@ use Rattle.report.proofs.Reporting.{MarkingBound, bound-start, bound-ki
 use borrow.Author.Needs.{needs}
 use Rattle.report.proofs.mark_bound.Statement.{statement}
 use Rattle.report.proofs.mark_bound.Tie as tie
-use Rattle.report.proofs.mark_bound.Reads as reads
-use Rattle.report.proofs.mark_bound.Lts as lts
-use Rattle.report.proofs.mark_entry.Reads as mark-entry-reads
 
 abbrev Inv-loop : tie.InvT-loop
 Inv-loop nodes scratch count list₀ i₀ list i = MarkingBound nodes scratch count list₀ i list

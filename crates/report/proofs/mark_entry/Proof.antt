@@ -2,9 +2,6 @@ use Rattle.report.proofs.Reporting.{bound-low, bound-place, marked-one,
 use borrow.Author.Needs.{needs}
 use Rattle.report.proofs.mark_entry.Statement.{statement}
 use Rattle.report.proofs.mark_entry.Tie as tie
-use Rattle.report.proofs.mark_entry.Reads as reads
-use Rattle.report.proofs.mark_entry.Lts as lts
-use Rattle.table.proofs.reading.first_of.Reads as first-of-reads
 
 first-of-requires : tie.Need-first-of-requires
 first-of-requires c κs = search needs

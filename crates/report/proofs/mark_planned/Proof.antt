@@ -2,10 +2,6 @@ use Rattle.report.proofs.Reporting.{ask-bound, planned-marked}
 use borrow.Author.Needs.{needs}
 use Rattle.report.proofs.mark_planned.Statement.{statement}
 use Rattle.report.proofs.mark_planned.Tie as tie
-use Rattle.report.proofs.mark_planned.Reads as reads
-use Rattle.report.proofs.mark_planned.Lts as lts
-use Rattle.planner.proofs.inner.destructuring.plan_pattern.Reads as plan-pattern-reads
-use Rattle.report.proofs.mark_bound.Reads as mark-bound-reads
 
 slice-aggregate-plan-pattern : tie.Need-slice-aggregate-plan-pattern
 slice-aggregate-plan-pattern c = search needs

@@ -2,12 +2,6 @@ use Rattle.report.proofs.Reporting.{report-table, report-root, report-s
 use borrow.Author.Needs.{needs}
 use Rattle.report.proofs.names_report.Statement.{statement}
 use Rattle.report.proofs.names_report.Tie as tie
-use Rattle.report.proofs.names_report.Reads as reads
-use Rattle.report.proofs.names_report.Lts as lts
-use Rattle.planner.proofs.buffer.clear.Reads as clear-reads
-use Rattle.report.proofs.report_names.Reads as report-names-reads
-use Rattle.table.proofs.check.Reads as check-reads
-use Rattle.table.proofs.reading.is_node.Reads as is-node-reads
 
 check-requires : tie.Need-check-requires
 check-requires c κs = search needs

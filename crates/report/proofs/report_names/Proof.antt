@@ -2,11 +2,6 @@ use Rattle.report.proofs.Reporting.{report-marked}
 use borrow.Author.Needs.{needs}
 use Rattle.report.proofs.report_names.Statement.{statement}
 use Rattle.report.proofs.report_names.Tie as tie
-use Rattle.report.proofs.report_names.Reads as reads
-use Rattle.report.proofs.report_names.Lts as lts
-use Rattle.report.proofs.keys.names_reported.Reads as names-reported-reads
-use Rattle.report.proofs.inner.mark_met.Reads as mark-met-reads
-use Rattle.report.proofs.mark_planned.Reads as mark-planned-reads
 
 names-reported-requires : tie.Need-names-reported-requires
 names-reported-requires c κs = search needs

@@ -3,12 +3,6 @@ use Rattle.planner.proofs.buffer.Copies.{wrote-first}
 use borrow.Author.Needs.{needs}
 use Rattle.run.proofs.carry_out.Statement.{statement}
 use Rattle.run.proofs.carry_out.Tie as tie
-use Rattle.run.proofs.carry_out.Reads as reads
-use Rattle.run.proofs.carry_out.Lts as lts
-use Rattle.planner.proofs.buffer.close.Reads as close-reads
-use Rattle.planner.proofs.buffer.copy_entries.Reads as copy-entries-reads
-use Rattle.planner.proofs.inner.destructuring.plan_pattern.Reads as plan-pattern-reads
-use Rattle.run.proofs.match_values.Reads as match-values-reads
 
 slice-aggregate-plan-pattern : tie.Need-slice-aggregate-plan-pattern
 slice-aggregate-plan-pattern c = search needs

@@ -2,11 +2,6 @@ use Rattle.run.proofs.Running.{ask-list, ask-match, values-missed, valu
 use borrow.Author.Needs.{needs}
 use Rattle.run.proofs.match_values.Statement.{statement}
 use Rattle.run.proofs.match_values.Tie as tie
-use Rattle.run.proofs.match_values.Reads as reads
-use Rattle.run.proofs.match_values.Lts as lts
-use Rattle.matching.proofs.inner.match_pattern.Reads as match-pattern-reads
-use Rattle.run.proofs.names.set_names.Reads as set-names-reads
-use Rattle.run.proofs.names.start_list.Reads as start-list-reads
 
 start-list-requires : tie.Need-start-list-requires
 start-list-requires c κs = search (ask-list, needs)

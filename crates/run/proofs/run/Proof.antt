@@ -2,12 +2,6 @@ use Rattle.run.proofs.Running.{table-refused, pattern-outside, value-ou
 use borrow.Author.Needs.{needs}
 use Rattle.run.proofs.run.Statement.{statement}
 use Rattle.run.proofs.run.Tie as tie
-use Rattle.run.proofs.run.Reads as reads
-use Rattle.run.proofs.run.Lts as lts
-use Rattle.planner.proofs.buffer.clear.Reads as clear-reads
-use Rattle.run.proofs.run_checked.Reads as run-checked-reads
-use Rattle.table.proofs.check.Reads as check-reads
-use Rattle.table.proofs.reading.is_node.Reads as is-node-reads
 
 check-requires : tie.Need-check-requires
 check-requires c κs = search needs

@@ -2,13 +2,6 @@ use Rattle.run.proofs.Running.{ask-simple, ask-all, not-simple, ask-kno
 use borrow.Author.Needs.{needs}
 use Rattle.run.proofs.run_checked.Statement.{statement}
 use Rattle.run.proofs.run_checked.Tie as tie
-use Rattle.run.proofs.run_checked.Reads as reads
-use Rattle.run.proofs.run_checked.Lts as lts
-use Rattle.planner.proofs.buffer.clear.Reads as clear-reads
-use Rattle.run.proofs.carry_out.Reads as carry-out-reads
-use Rattle.run.proofs.checks.all_values.Reads as all-values-reads
-use Rattle.run.proofs.checks.is_simple.Reads as is-simple-reads
-use Rattle.run.proofs.names.known_listed.Reads as known-listed-reads
 
 is-simple-requires : tie.Need-is-simple-requires
 is-simple-requires c κs = search (ask-simple, needs)

@@ -1,17 +1,17 @@
 -- A node's text as a part of the sheet.
 use Prim.Native.Nat.{ℕ, _+_, _-_, _*_, _^_, _<_, _≤_, min, max}
-use mathlib.Core.Bool.{Bool, true, false, cond}
+use mathlib.Core.Bool.{Bool, true, false}
 use mathlib.Core.List.{List}
 use mathlib.Core.Path.{_≡_, refl, sym, ap, ap₂, _∙_}
 use native.Mathlib.Nat.{max-eq-left, max-eq-right}
 use native.Mathlib.Omega.{arith}
 use borrow.Author.Tests.{ne-eqb, ltb-true, ltb-false}
 use lib.Dec.{ltb}
-use lib.ListN.{length, getD, take, drop, length-take, length-drop, List·getD-eq-default}
+use lib.ListN.{length, getD, drop, length-take, length-drop, List·getD-eq-default}
 use lib.Seq.{ext-getD, getD-take, getD-drop, length-take-le}
 use mir.Syntax.{w32, w64}
 use mir.Val.{Fits}
-use Rattle.base.specs.Lists.{part, tabulate}
+use Rattle.base.specs.Lists.{part}
 use Rattle.columns.specs.declared.Column.{Column}
 use Rattle.columns.specs.declared.Column.the-variants as Column
 use Rattle.columns.specs.Columns.{columnAt}
@@ -19,11 +19,10 @@ use Rattle.table.specs.Tables.{recordWord, startOf, endOf}
 use Rattle.planner.proofs.buffer.Filling.{length-tabulate, getD-tabulate}
 use Rattle.sheet.specs.declared.header.Counts.{Counts}
 use Rattle.sheet.specs.declared.header.Places.{Places}
-use Rattle.sheet.specs.declared.source.Span.{Span}
 use Rattle.sheet.specs.Lines.{numberAt, numberIn, lineLength, wordAt}
-use Rattle.sheet.specs.Sheet.{line1, nodesPlace, countsOf, nodesOf, textPlace}
+use Rattle.sheet.specs.Sheet.{line1, nodesPlace, nodesOf, textPlace}
 use Rattle.sheet.specs.Source.{textByte, span, spanOf, spanIn}
-use Rattle.sheet.specs.code.Header.{placesOf, Countable, NumberRead, CountsRead}
+use Rattle.sheet.specs.code.Header.{placesOf, NumberRead, CountsRead}
 use Rattle.sheet.proofs.header.HeaderTests.{counts-read}
 use Rattle.sheet.proofs.lines.LineTests.{word-in-line}
 

@@ -1,12 +1,11 @@
 -- The marks of a good layout are at most 31, so that their conversion is not refused.
 use Prim.Native.Nat.{ℕ, zero, suc, _+_, _-_}
-use mathlib.Core.Bool.{Bool, true, _&&_}
+use mathlib.Core.Bool.{true, _&&_}
 use mathlib.Core.List.{List, [], _∷_, _++_}
 use mathlib.Core.Path.{_≡_, refl, ap, ap₂, _∙_}
 use lib.Dec.{leb}
 use lib.ListN.{length, replicate}
 use Rattle.base.specs.Lists.{allFrom, tabulate}
-use Rattle.scope.specs.declared.Scope.{Scope}
 use Rattle.scope.specs.declared.ByteScope.{ByteScope}
 use Rattle.scope.specs.Bytes.{smallMarks, ofBytes, converted}
 use Rattle.scope.specs.Bytes as Bytes

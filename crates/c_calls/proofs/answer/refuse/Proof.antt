@@ -2,10 +2,6 @@ use Rattle.c_calls.proofs.Rows.{number-short, number-told}
 use borrow.Author.Needs.{needs}
 use Rattle.c_calls.proofs.answer.refuse.Statement.{statement}
 use Rattle.c_calls.proofs.answer.refuse.Tie as tie
-use Rattle.c_calls.proofs.answer.refuse.Reads as reads
-use Rattle.c_calls.proofs.answer.refuse.Lts as lts
-use Rattle.operation.proofs.row.row_from.Reads as row-from-reads
-use Rattle.operation.proofs.inner.tell.Reads as tell-reads
 
 row-from-requires : tie.Need-row-from-requires
 row-from-requires c κs = search needs

@@ -2,10 +2,6 @@ use Rattle.c_calls.proofs.Rows.{run-is, run-table}
 use borrow.Author.Needs.{needs}
 use Rattle.c_calls.proofs.answer.run_row.Statement.{statement}
 use Rattle.c_calls.proofs.answer.run_row.Tie as tie
-use Rattle.c_calls.proofs.answer.run_row.Reads as reads
-use Rattle.c_calls.proofs.answer.run_row.Lts as lts
-use Rattle.operation.proofs.row.row_from.Reads as row-from-reads
-use Rattle.table.proofs.refusal_number.Reads as refusal-number-reads
 
 enum-told : tie.Need-enum-told
 enum-told c = search needs

@@ -2,11 +2,6 @@ use Rattle.c_calls.proofs.Scopes.{given-unlisted, given-over, given-mad
 use borrow.Author.Needs.{needs}
 use Rattle.c_calls.proofs.given.refused_first.Statement.{statement}
 use Rattle.c_calls.proofs.given.refused_first.Tie as tie
-use Rattle.c_calls.proofs.given.refused_first.Reads as reads
-use Rattle.c_calls.proofs.given.refused_first.Lts as lts
-use Rattle.c_calls.proofs.given.conversion_number.Reads as conversion-number-reads
-use Rattle.operation.proofs.numbers.are_listed.Reads as are-listed-reads
-use Rattle.table.proofs.limits.within_limits.Reads as within-limits-reads
 
 are-listed-requires : tie.Need-are-listed-requires
 are-listed-requires c κs = search needs

@@ -2,16 +2,6 @@ use Rattle.c_calls.proofs.Called.{plan-fits, plan-refused, plan-done}
 use borrow.Author.Needs.{needs}
 use Rattle.c_calls.proofs.planning.teluddru_plan.Statement.{statement}
 use Rattle.c_calls.proofs.planning.teluddru_plan.Tie as tie
-use Rattle.c_calls.proofs.planning.teluddru_plan.Reads as reads
-use Rattle.c_calls.proofs.planning.teluddru_plan.Lts as lts
-use Rattle.c_calls.proofs.answer.refuse.Reads as refuse-reads
-use Rattle.operation.proofs.inner.tell.Reads as tell-reads
-use Rattle.c_calls.proofs.given.scope_of.Reads as scope-of-reads
-use Rattle.c_calls.proofs.given.refused_first.Reads as refused-first-reads
-use Rattle.operation.proofs.numbers.operation_of.Reads as operation-of-reads
-use Rattle.operation.proofs.plan.Reads as plan-reads
-use Rattle.operation.proofs.row.row_of.Reads as row-of-reads
-use Rattle.planner.proofs.buffer.clear.Reads as clear-reads
 
 scope-of-requires : tie.Need-scope-of-requires
 scope-of-requires c κs = search needs

@@ -2,17 +2,6 @@ use Rattle.c_calls.proofs.Called.{report-fits, report-refused, report-d
 use borrow.Author.Needs.{needs}
 use Rattle.c_calls.proofs.reporting.teluddru_names_report.Statement.{statement}
 use Rattle.c_calls.proofs.reporting.teluddru_names_report.Tie as tie
-use Rattle.c_calls.proofs.reporting.teluddru_names_report.Reads as reads
-use Rattle.c_calls.proofs.reporting.teluddru_names_report.Lts as lts
-use Rattle.c_calls.proofs.answer.refuse.Reads as refuse-reads
-use Rattle.c_calls.proofs.answer.report_row.Reads as report-row-reads
-use Rattle.operation.proofs.inner.tell.Reads as tell-reads
-use Rattle.c_calls.proofs.given.pattern_numbers.Reads as pattern-numbers-reads
-use Rattle.c_calls.proofs.given.scope_of.Reads as scope-of-reads
-use Rattle.c_calls.proofs.given.refused_first.Reads as refused-first-reads
-use Rattle.operation.proofs.numbers.scoping_of.Reads as scoping-of-reads
-use Rattle.planner.proofs.buffer.clear.Reads as clear-reads
-use Rattle.report.proofs.names_report.Reads as names-report-reads
 
 scope-of-requires : tie.Need-scope-of-requires
 scope-of-requires c κs = search needs

@@ -2,17 +2,6 @@ use Rattle.c_calls.proofs.Called.{run-fits, run-refused, run-done}
 use borrow.Author.Needs.{needs}
 use Rattle.c_calls.proofs.running.teluddru_run.Statement.{statement}
 use Rattle.c_calls.proofs.running.teluddru_run.Tie as tie
-use Rattle.c_calls.proofs.running.teluddru_run.Reads as reads
-use Rattle.c_calls.proofs.running.teluddru_run.Lts as lts
-use Rattle.c_calls.proofs.answer.refuse.Reads as refuse-reads
-use Rattle.c_calls.proofs.answer.run_row.Reads as run-row-reads
-use Rattle.operation.proofs.inner.tell.Reads as tell-reads
-use Rattle.c_calls.proofs.given.pattern_numbers.Reads as pattern-numbers-reads
-use Rattle.c_calls.proofs.given.scope_of.Reads as scope-of-reads
-use Rattle.c_calls.proofs.given.refused_first.Reads as refused-first-reads
-use Rattle.operation.proofs.numbers.scoping_of.Reads as scoping-of-reads
-use Rattle.planner.proofs.buffer.clear.Reads as clear-reads
-use Rattle.run.proofs.run.Reads as run-reads
 
 scope-of-requires : tie.Need-scope-of-requires
 scope-of-requires c κs = search needs

@@ -2,9 +2,6 @@ use Rattle.matching.proofs.Entries.{name-set}
 use borrow.Author.Needs.{needs}
 use Rattle.matching.proofs.inner.bind_name.Statement.{statement}
 use Rattle.matching.proofs.inner.bind_name.Tie as tie
-use Rattle.matching.proofs.inner.bind_name.Reads as reads
-use Rattle.matching.proofs.inner.bind_name.Lts as lts
-use Rattle.table.proofs.reading.first_of.Reads as first-of-reads
 
 first-of-requires : tie.Need-first-of-requires
 first-of-requires c κs = search needs

@@ -2,10 +2,6 @@ use Rattle.matching.proofs.Entries.{compare-values, compare-told}
 use borrow.Author.Needs.{needs}
 use Rattle.matching.proofs.inner.equals_name.Statement.{statement}
 use Rattle.matching.proofs.inner.equals_name.Tie as tie
-use Rattle.matching.proofs.inner.equals_name.Reads as reads
-use Rattle.matching.proofs.inner.equals_name.Lts as lts
-use Rattle.table.proofs.reading.first_of.Reads as first-of-reads
-use Rattle.value.proofs.inner.equality.same_value.Reads as same-value-reads
 
 first-of-requires : tie.Need-first-of-requires
 first-of-requires c κs = search needs

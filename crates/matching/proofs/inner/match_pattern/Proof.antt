@@ -2,10 +2,6 @@ use Rattle.matching.proofs.Carried.{pattern-links, pattern-asks, patter
 use borrow.Author.Needs.{needs}
 use Rattle.matching.proofs.inner.match_pattern.Statement.{statement}
 use Rattle.matching.proofs.inner.match_pattern.Tie as tie
-use Rattle.matching.proofs.inner.match_pattern.Reads as reads
-use Rattle.matching.proofs.inner.match_pattern.Lts as lts
-use Rattle.matching.proofs.inner.match_entry.Reads as match-entry-reads
-use Rattle.matching.proofs.links.link_entries.Reads as link-entries-reads
 
 link-entries-requires : tie.Need-link-entries-requires
 link-entries-requires c κs = search (pattern-links, needs)

@@ -3,10 +3,6 @@ use Rattle.matching.proofs.reading.Chains.{Chaining, chain-fits, chaini
 use borrow.Author.Needs.{needs}
 use Rattle.matching.proofs.links.link_children.Statement.{statement}
 use Rattle.matching.proofs.links.link_children.Tie as tie
-use Rattle.matching.proofs.links.link_children.Reads as reads
-use Rattle.matching.proofs.links.link_children.Lts as lts
-use Rattle.matching.proofs.links.entry_number.Reads as entry-number-reads
-use Rattle.matching.proofs.links.wide.Reads as wide-reads
 
 abbrev Inv-loop : tie.InvT-loop
 Inv-loop scratch nexts links₀ at start count child₀ i₀ links child i = Chaining scratch nexts links₀ at start count i links child

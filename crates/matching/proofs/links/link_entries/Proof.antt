@@ -2,10 +2,6 @@ use Rattle.matching.proofs.reading.Chains.{Linking, linking-start, link
 use borrow.Author.Needs.{needs}
 use Rattle.matching.proofs.links.link_entries.Statement.{statement}
 use Rattle.matching.proofs.links.link_entries.Tie as tie
-use Rattle.matching.proofs.links.link_entries.Reads as reads
-use Rattle.matching.proofs.links.link_entries.Lts as lts
-use Rattle.matching.proofs.links.link_children.Reads as link-children-reads
-use Rattle.matching.proofs.links.wide.Reads as wide-reads
 
 abbrev Inv-loop : tie.InvT-loop
 Inv-loop scratch count nexts₀ starts₀ entries₀ free₀ at₀ nexts starts entries free at = Linking scratch count at nexts starts entries free

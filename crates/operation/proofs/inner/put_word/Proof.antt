@@ -2,8 +2,6 @@ use Rattle.operation.proofs.RowLaws.{no-place}
 use borrow.Author.Needs.{needs}
 use Rattle.operation.proofs.inner.put_word.Statement.{statement}
 use Rattle.operation.proofs.inner.put_word.Tie as tie
-use Rattle.operation.proofs.inner.put_word.Reads as reads
-use Rattle.operation.proofs.inner.put_word.Lts as lts
 
 returns : tie.Need-returns
 returns c = search (no-place, needs)

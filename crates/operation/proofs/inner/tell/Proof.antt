@@ -2,9 +2,6 @@ use Rattle.operation.proofs.RowLaws.{words-told}
 use borrow.Author.Needs.{needs}
 use Rattle.operation.proofs.inner.tell.Statement.{statement}
 use Rattle.operation.proofs.inner.tell.Tie as tie
-use Rattle.operation.proofs.inner.tell.Reads as reads
-use Rattle.operation.proofs.inner.tell.Lts as lts
-use Rattle.operation.proofs.inner.put_word.Reads as put-word-reads
 
 cast-number : tie.Need-cast-number
 cast-number c = search needs

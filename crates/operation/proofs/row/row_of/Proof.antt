@@ -2,10 +2,6 @@ use Rattle.operation.proofs.RowLaws.{row-is, row-table}
 use borrow.Author.Needs.{needs}
 use Rattle.operation.proofs.row.row_of.Statement.{statement}
 use Rattle.operation.proofs.row.row_of.Tie as tie
-use Rattle.operation.proofs.row.row_of.Reads as reads
-use Rattle.operation.proofs.row.row_of.Lts as lts
-use Rattle.operation.proofs.row.row_from.Reads as row-from-reads
-use Rattle.table.proofs.refusal_number.Reads as refusal-number-reads
 
 enum-known-answer : tie.Need-enum-known-answer
 enum-known-answer c = search needs

@@ -5,9 +5,6 @@ use Rattle.report.specs.code.Post.{metMark}
 use borrow.Author.Needs.{needs}
 use Rattle.report.proofs.inner.mark_met.Statement.{statement}
 use Rattle.report.proofs.inner.mark_met.Tie as tie
-use Rattle.report.proofs.inner.mark_met.Reads as reads
-use Rattle.report.proofs.inner.mark_met.Lts as lts
-use Rattle.report.proofs.inner.met_mark.Reads as met-mark-reads
 
 abbrev Inv-loop : tie.InvT-loop
 Inv-loop met list₀ i₀ list i = Filling (metMark met) (length list₀) i list

@@ -2,8 +2,6 @@ use Rattle.report.proofs.Reporting.{met-past, met-none, met-some}
 use borrow.Author.Needs.{needs}
 use Rattle.report.proofs.inner.met_mark.Statement.{statement}
 use Rattle.report.proofs.inner.met_mark.Tie as tie
-use Rattle.report.proofs.inner.met_mark.Reads as reads
-use Rattle.report.proofs.inner.met_mark.Lts as lts
 
 returns : tie.Need-returns
 returns c = search (met-past, needs)

@@ -1,12 +1,7 @@
 use Rattle.report.proofs.Meeting.{met-by}
 use borrow.Author.Needs.{needs}
-use Rattle.planner.proofs.inner.destructuring.plan_pattern.Reads as plan-pattern-reads
 use Rattle.report.proofs.inner.names_met.Statement.{statement}
 use Rattle.report.proofs.inner.names_met.Tie as tie
-use Rattle.report.proofs.inner.names_met.Reads as reads
-use Rattle.report.proofs.inner.names_met.Lts as lts
-use Rattle.report.proofs.inner.mark_met.Reads as mark-met-reads
-use Rattle.scope.proofs.Scope.new.Reads as new-reads
 
 new-requires : tie.Need-new-requires
 new-requires c κs = search needs

@@ -2,10 +2,6 @@ use Rattle.report.proofs.KeyNames.{key-low, key-place, key-computed, ke
 use borrow.Author.Needs.{needs}
 use Rattle.report.proofs.keys.mark_key.Statement.{statement}
 use Rattle.report.proofs.keys.mark_key.Tie as tie
-use Rattle.report.proofs.keys.mark_key.Reads as reads
-use Rattle.report.proofs.keys.mark_key.Lts as lts
-use Rattle.table.proofs.reading.first_of.Reads as first-of-reads
-use Rattle.table.proofs.reading.kind_of.Reads as kind-of-reads
 
 kind-of-requires : tie.Need-kind-of-requires
 kind-of-requires c κs = search needs

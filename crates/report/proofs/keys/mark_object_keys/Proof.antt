@@ -3,12 +3,6 @@ use Rattle.report.proofs.KeyNames.{MarkingKeys, marking-start, marking-
 use borrow.Author.Needs.{needs}
 use Rattle.report.proofs.keys.mark_object_keys.Statement.{statement}
 use Rattle.report.proofs.keys.mark_object_keys.Tie as tie
-use Rattle.report.proofs.keys.mark_object_keys.Reads as reads
-use Rattle.report.proofs.keys.mark_object_keys.Lts as lts
-use Rattle.report.proofs.keys.mark_key.Reads as mark-key-reads
-use Rattle.table.proofs.reading.child_at.Reads as child-at-reads
-use Rattle.table.proofs.reading.count_of.Reads as count-of-reads
-use Rattle.table.proofs.reading.first_of.Reads as first-of-reads
 
 abbrev Inv-loop : tie.InvT-loop
 Inv-loop nodes children numbers names strings text states object met₀ place₀ more₀ met place more =

@@ -2,12 +2,6 @@ use Rattle.report.proofs.KeyNames.{ask-walk, reported-words}
 use borrow.Author.Needs.{needs}
 use Rattle.report.proofs.keys.names_reported.Statement.{statement}
 use Rattle.report.proofs.keys.names_reported.Tie as tie
-use Rattle.report.proofs.keys.names_reported.Reads as reads
-use Rattle.report.proofs.keys.names_reported.Lts as lts
-use Rattle.report.proofs.keys.mark_keys.Reads as mark-keys-reads
-use Rattle.planner.proofs.context.name_states.Reads as name-states-reads
-use Rattle.report.proofs.inner.names_met.Reads as names-met-reads
-use Rattle.scope.proofs.Scope.new.Reads as new-reads
 
 new-requires : tie.Need-new-requires
 new-requires c κs = search needs

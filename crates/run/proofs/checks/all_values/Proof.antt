@@ -2,11 +2,6 @@ use Rattle.run.proofs.Checking.{all-asks, all-no-value, all-told}
 use borrow.Author.Needs.{needs}
 use Rattle.run.proofs.checks.all_values.Statement.{statement}
 use Rattle.run.proofs.checks.all_values.Tie as tie
-use Rattle.run.proofs.checks.all_values.Reads as reads
-use Rattle.run.proofs.checks.all_values.Lts as lts
-use Rattle.run.proofs.checks.is_value.Reads as is-value-reads
-use Rattle.run.proofs.checks.values_listed.Reads as values-listed-reads
-use Rattle.value.proofs.inner.admitted.mark_nodes.Reads as mark-nodes-reads
 
 mark-nodes-requires : tie.Need-mark-nodes-requires
 mark-nodes-requires c κs = search needs

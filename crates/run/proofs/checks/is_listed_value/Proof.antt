@@ -2,9 +2,6 @@ use Rattle.run.proofs.Checking.{listed-none, listed-some}
 use borrow.Author.Needs.{needs}
 use Rattle.run.proofs.checks.is_listed_value.Statement.{statement}
 use Rattle.run.proofs.checks.is_listed_value.Tie as tie
-use Rattle.run.proofs.checks.is_listed_value.Reads as reads
-use Rattle.run.proofs.checks.is_listed_value.Lts as lts
-use Rattle.run.proofs.checks.is_value.Reads as is-value-reads
 
 returns : tie.Need-returns
 returns c = search (listed-none, needs)

@@ -2,9 +2,6 @@ use Rattle.run.proofs.Checking.{simple-told}
 use borrow.Author.Needs.{needs}
 use Rattle.run.proofs.checks.is_simple.Statement.{statement}
 use Rattle.run.proofs.checks.is_simple.Tie as tie
-use Rattle.run.proofs.checks.is_simple.Reads as reads
-use Rattle.run.proofs.checks.is_simple.Lts as lts
-use Rattle.value.proofs.inner.admitted.mark_nodes.Reads as mark-nodes-reads
 
 mark-nodes-requires : tie.Need-mark-nodes-requires
 mark-nodes-requires c κs = search needs

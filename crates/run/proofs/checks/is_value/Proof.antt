@@ -2,9 +2,6 @@ use Rattle.run.proofs.Checking.{marked-low, marked-place, value-told, v
 use borrow.Author.Needs.{needs}
 use Rattle.run.proofs.checks.is_value.Statement.{statement}
 use Rattle.run.proofs.checks.is_value.Tie as tie
-use Rattle.run.proofs.checks.is_value.Reads as reads
-use Rattle.run.proofs.checks.is_value.Lts as lts
-use Rattle.table.proofs.reading.is_node.Reads as is-node-reads
 
 is-node-requires : tie.Need-is-node-requires
 is-node-requires c κs = search needs

@@ -3,9 +3,6 @@ use Rattle.run.proofs.Checking.{Listing, listing-start, listing-inside,
 use borrow.Author.Needs.{needs}
 use Rattle.run.proofs.checks.values_listed.Statement.{statement}
 use Rattle.run.proofs.checks.values_listed.Tie as tie
-use Rattle.run.proofs.checks.values_listed.Reads as reads
-use Rattle.run.proofs.checks.values_listed.Lts as lts
-use Rattle.run.proofs.checks.is_listed_value.Reads as is-listed-value-reads
 
 abbrev Inv-loop : tie.InvT-loop
 Inv-loop nodes names marks values count i₀ i = Listing nodes names marks values count i

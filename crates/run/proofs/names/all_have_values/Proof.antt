@@ -4,9 +4,6 @@ use Rattle.run.proofs.Valued.{Having, having-start, having-name, having
 use borrow.Author.Needs.{needs}
 use Rattle.run.proofs.names.all_have_values.Statement.{statement}
 use Rattle.run.proofs.names.all_have_values.Tie as tie
-use Rattle.run.proofs.names.all_have_values.Reads as reads
-use Rattle.run.proofs.names.all_have_values.Lts as lts
-use Rattle.run.proofs.names.has_value.Reads as has-value-reads
 
 abbrev Inv-loop : tie.InvT-loop
 Inv-loop names scope scoping met values count i₀ i = Having names values met (isUnbound scope scoping) count i

@@ -2,9 +2,6 @@ use Rattle.run.proofs.Valued.{value-unmet, value-unbound, value-listed}
 use borrow.Author.Needs.{needs}
 use Rattle.run.proofs.names.has_value.Statement.{statement}
 use Rattle.run.proofs.names.has_value.Tie as tie
-use Rattle.run.proofs.names.has_value.Reads as reads
-use Rattle.run.proofs.names.has_value.Lts as lts
-use Rattle.run.proofs.names.is_unbound.Reads as is-unbound-reads
 
 returns : tie.Need-returns
 returns c = search (value-unmet, needs)

@@ -2,9 +2,6 @@ use Rattle.run.proofs.Valued.{unbound-yes, unbound-no, unbound-never}
 use borrow.Author.Needs.{needs}
 use Rattle.run.proofs.names.is_unbound.Statement.{statement}
 use Rattle.run.proofs.names.is_unbound.Tie as tie
-use Rattle.run.proofs.names.is_unbound.Reads as reads
-use Rattle.run.proofs.names.is_unbound.Lts as lts
-use Rattle.scope.proofs.Scope.is_var_unbound.Reads as is-var-unbound-reads
 
 is-var-unbound-requires : tie.Need-is-var-unbound-requires
 is-var-unbound-requires c κs = search needs

@@ -2,10 +2,6 @@ use Rattle.run.proofs.Valued.{known-told}
 use borrow.Author.Needs.{needs}
 use Rattle.run.proofs.names.known_listed.Statement.{statement}
 use Rattle.run.proofs.names.known_listed.Tie as tie
-use Rattle.run.proofs.names.known_listed.Reads as reads
-use Rattle.run.proofs.names.known_listed.Lts as lts
-use Rattle.run.proofs.names.all_have_values.Reads as all-have-values-reads
-use Rattle.report.proofs.inner.names_met.Reads as names-met-reads
 
 names-met-requires : tie.Need-names-met-requires
 names-met-requires c κs = search needs

@@ -2,8 +2,6 @@ use Rattle.run.proofs.Valued.{old-value, set-value}
 use borrow.Author.Needs.{needs}
 use Rattle.run.proofs.names.new_value.Statement.{statement}
 use Rattle.run.proofs.names.new_value.Tie as tie
-use Rattle.run.proofs.names.new_value.Reads as reads
-use Rattle.run.proofs.names.new_value.Lts as lts
 
 returns : tie.Need-returns
 returns c = search (old-value, needs)

@@ -3,9 +3,6 @@ use Rattle.run.proofs.Valued.{Setting, setting-start, setting-small, se
 use borrow.Author.Needs.{needs}
 use Rattle.run.proofs.names.set_names.Statement.{statement}
 use Rattle.run.proofs.names.set_names.Tie as tie
-use Rattle.run.proofs.names.set_names.Reads as reads
-use Rattle.run.proofs.names.set_names.Lts as lts
-use Rattle.run.proofs.names.new_value.Reads as new-value-reads
 
 abbrev Inv-loop : tie.InvT-loop
 Inv-loop names binders list values₀ count i₀ values i = Setting names binders list values₀ count i values

@@ -3,9 +3,6 @@ use Rattle.run.proofs.Valued.{Starting, starting, starting-name, starti
 use borrow.Author.Needs.{needs}
 use Rattle.run.proofs.names.start_list.Statement.{statement}
 use Rattle.run.proofs.names.start_list.Tie as tie
-use Rattle.run.proofs.names.start_list.Reads as reads
-use Rattle.run.proofs.names.start_list.Lts as lts
-use Rattle.run.proofs.names.start_value.Reads as start-value-reads
 
 abbrev Inv-loop : tie.InvT-loop
 Inv-loop names scope scoping values list₀ count i₀ list i = Starting names scope scoping values count i list

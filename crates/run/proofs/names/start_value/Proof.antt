@@ -2,9 +2,6 @@ use Rattle.run.proofs.Valued.{starts-none, starts-listed}
 use borrow.Author.Needs.{needs}
 use Rattle.run.proofs.names.start_value.Statement.{statement}
 use Rattle.run.proofs.names.start_value.Tie as tie
-use Rattle.run.proofs.names.start_value.Reads as reads
-use Rattle.run.proofs.names.start_value.Lts as lts
-use Rattle.run.proofs.names.is_unbound.Reads as is-unbound-reads
 
 is-unbound-requires : tie.Need-is-unbound-requires
 is-unbound-requires c κs = search needs

@@ -2,8 +2,6 @@ use mathlib.Core.Path.{refl}
 use borrow.Author.Needs.{needs}
 use Rattle.teluddru.proofs.records.put_pair.Statement.{statement}
 use Rattle.teluddru.proofs.records.put_pair.Tie as tie
-use Rattle.teluddru.proofs.records.put_pair.Reads as reads
-use Rattle.teluddru.proofs.records.put_pair.Lts as lts
 
 mul-at : tie.Need-mul-at
 mul-at c = search needs

@@ -3,9 +3,6 @@ use Rattle.teluddru.proofs.Copying.{part-count}
 use borrow.Author.Needs.{needs}
 use Rattle.teluddru.proofs.reports.report_words.Statement.{statement}
 use Rattle.teluddru.proofs.reports.report_words.Tie as tie
-use Rattle.teluddru.proofs.reports.report_words.Reads as reads
-use Rattle.teluddru.proofs.reports.report_words.Lts as lts
-use Rattle.report.proofs.names_report.Reads as names-report-reads
 
 mul-end : tie.Need-mul-end
 mul-end c = search needs

@@ -3,9 +3,6 @@ use Rattle.teluddru.proofs.Copying.{part-count}
 use borrow.Author.Needs.{needs}
 use Rattle.teluddru.proofs.runs.run_words.Statement.{statement}
 use Rattle.teluddru.proofs.runs.run_words.Tie as tie
-use Rattle.teluddru.proofs.runs.run_words.Reads as reads
-use Rattle.teluddru.proofs.runs.run_words.Lts as lts
-use Rattle.run.proofs.run.Reads as run-reads
 
 mul-end : tie.Need-mul-end
 mul-end c = search needs

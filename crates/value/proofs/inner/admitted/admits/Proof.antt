@@ -2,14 +2,6 @@ use Rattle.value.proofs.Marking.{admits-literal, admits-name, admits-no
 use borrow.Author.Needs.{needs}
 use Rattle.value.proofs.inner.admitted.admits.Statement.{statement}
 use Rattle.value.proofs.inner.admitted.admits.Tie as tie
-use Rattle.value.proofs.inner.admitted.admits.Reads as reads
-use Rattle.value.proofs.inner.admitted.admits.Lts as lts
-use Rattle.table.proofs.reading.count_of.Reads as count-of-reads
-use Rattle.table.proofs.reading.first_of.Reads as first-of-reads
-use Rattle.table.proofs.reading.kind_of.Reads as kind-of-reads
-use Rattle.value.proofs.inner.admitted.fields_marked.Reads as fields-marked-reads
-use Rattle.value.proofs.inner.admitted.items_marked.Reads as items-marked-reads
-use Rattle.value.proofs.inner.admitted.keys_differ.Reads as keys-differ-reads
 
 kind-of-requires : tie.Need-kind-of-requires
 kind-of-requires c κs = search needs

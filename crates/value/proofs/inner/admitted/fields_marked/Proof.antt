@@ -3,10 +3,6 @@ use Rattle.value.proofs.Marking.{MarkingFields, fields-start, field-low
 use borrow.Author.Needs.{needs}
 use Rattle.value.proofs.inner.admitted.fields_marked.Statement.{statement}
 use Rattle.value.proofs.inner.admitted.fields_marked.Tie as tie
-use Rattle.value.proofs.inner.admitted.fields_marked.Reads as reads
-use Rattle.value.proofs.inner.admitted.fields_marked.Lts as lts
-use Rattle.table.proofs.reading.child_at.Reads as child-at-reads
-use Rattle.table.proofs.reading.kind_of.Reads as kind-of-reads
 
 abbrev Inv-loop : tie.InvT-loop
 Inv-loop nodes children marks at left place₀ more₀ place more = MarkingFields nodes children marks at left place more

@@ -3,9 +3,6 @@ use Rattle.value.proofs.Marking.{MarkingItems, items-start, item-low, i
 use borrow.Author.Needs.{needs}
 use Rattle.value.proofs.inner.admitted.items_marked.Statement.{statement}
 use Rattle.value.proofs.inner.admitted.items_marked.Tie as tie
-use Rattle.value.proofs.inner.admitted.items_marked.Reads as reads
-use Rattle.value.proofs.inner.admitted.items_marked.Lts as lts
-use Rattle.table.proofs.reading.child_at.Reads as child-at-reads
 
 abbrev Inv-loop : tie.InvT-loop
 Inv-loop children marks at left place₀ more₀ place more = MarkingItems children marks at left place more

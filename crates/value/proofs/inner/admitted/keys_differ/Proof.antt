@@ -1,11 +1,8 @@
 use Rattle.value.proofs.Distinct.{ask-order, count-differs}
 use Rattle.planner.proofs.fields.FieldLoops.{arranged-first}
 use borrow.Author.Needs.{needs}
-use Rattle.planner.proofs.inner.fields.order_fields.Reads as order-fields-reads
 use Rattle.value.proofs.inner.admitted.keys_differ.Statement.{statement}
 use Rattle.value.proofs.inner.admitted.keys_differ.Tie as tie
-use Rattle.value.proofs.inner.admitted.keys_differ.Reads as reads
-use Rattle.value.proofs.inner.admitted.keys_differ.Lts as lts
 
 order-fields-requires : tie.Need-order-fields-requires
 order-fields-requires c κs = search (ask-order, needs)

@@ -4,10 +4,6 @@ use Rattle.value.proofs.Marking.{MarkingNodes, nodes-start, node-asks, 
 use borrow.Author.Needs.{needs}
 use Rattle.value.proofs.inner.admitted.mark_nodes.Statement.{statement}
 use Rattle.value.proofs.inner.admitted.mark_nodes.Tie as tie
-use Rattle.value.proofs.inner.admitted.mark_nodes.Reads as reads
-use Rattle.value.proofs.inner.admitted.mark_nodes.Lts as lts
-use Rattle.value.proofs.inner.admitted.admits.Reads as admits-reads
-use Rattle.value.proofs.inner.admitted.mark_of.Reads as mark-of-reads
 
 abbrev Inv-loop : tie.InvT-loop
 Inv-loop nodes children numbers names strings text admit marks₀ total n₀ marks n = MarkingNodes (tables nodes children numbers names strings text) admit n marks

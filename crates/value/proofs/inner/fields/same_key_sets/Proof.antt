@@ -4,12 +4,6 @@ use Rattle.value.proofs.Under.{sizes-differ, Covering, covering-start, 
 use borrow.Author.Needs.{needs}
 use Rattle.value.proofs.inner.fields.same_key_sets.Statement.{statement}
 use Rattle.value.proofs.inner.fields.same_key_sets.Tie as tie
-use Rattle.value.proofs.inner.fields.same_key_sets.Reads as reads
-use Rattle.value.proofs.inner.fields.same_key_sets.Lts as lts
-use Rattle.table.proofs.reading.child_at.Reads as child-at-reads
-use Rattle.table.proofs.reading.count_of.Reads as count-of-reads
-use Rattle.table.proofs.reading.first_of.Reads as first-of-reads
-use Rattle.value.proofs.inner.fields.value_under.Reads as value-under-reads
 
 abbrev Inv-loop : tie.InvT-loop
 Inv-loop nodes children numbers names strings text a b first count i₀ i = Covering (tables nodes children numbers names strings text) a b first count i

@@ -2,9 +2,6 @@ use Rattle.value.proofs.Under.{literals-equal, literals-less, literals-
 use borrow.Author.Needs.{needs}
 use Rattle.value.proofs.inner.fields.same_literals.Statement.{statement}
 use Rattle.value.proofs.inner.fields.same_literals.Tie as tie
-use Rattle.value.proofs.inner.fields.same_literals.Reads as reads
-use Rattle.value.proofs.inner.fields.same_literals.Lts as lts
-use Rattle.table.proofs.reading.compare_literals.Reads as compare-literals-reads
 
 compare-literals-requires : tie.Need-compare-literals-requires
 compare-literals-requires c κs = search needs

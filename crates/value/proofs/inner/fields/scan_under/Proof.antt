@@ -4,10 +4,6 @@ use Rattle.value.proofs.Under.{Seeking, seeking-start, seeking-value-fi
 use borrow.Author.Needs.{needs}
 use Rattle.value.proofs.inner.fields.scan_under.Statement.{statement}
 use Rattle.value.proofs.inner.fields.scan_under.Tie as tie
-use Rattle.value.proofs.inner.fields.scan_under.Reads as reads
-use Rattle.value.proofs.inner.fields.scan_under.Lts as lts
-use Rattle.table.proofs.reading.child_at.Reads as child-at-reads
-use Rattle.value.proofs.inner.fields.same_literals.Reads as same-literals-reads
 
 abbrev Inv-loop : tie.InvT-loop
 Inv-loop nodes children numbers names strings text at left key place₀ more₀ place more = Seeking (tables nodes children numbers names strings text) (literalAt (tables nodes children numbers names strings text) key) at left place more

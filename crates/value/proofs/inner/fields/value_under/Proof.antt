@@ -2,13 +2,6 @@ use Rattle.value.proofs.Under.{position-found, ask-scan, scan-found}
 use borrow.Author.Needs.{needs}
 use Rattle.value.proofs.inner.fields.value_under.Statement.{statement}
 use Rattle.value.proofs.inner.fields.value_under.Tie as tie
-use Rattle.value.proofs.inner.fields.value_under.Reads as reads
-use Rattle.value.proofs.inner.fields.value_under.Lts as lts
-use Rattle.table.proofs.reading.child_at.Reads as child-at-reads
-use Rattle.table.proofs.reading.count_of.Reads as count-of-reads
-use Rattle.table.proofs.reading.first_of.Reads as first-of-reads
-use Rattle.value.proofs.inner.fields.same_literals.Reads as same-literals-reads
-use Rattle.value.proofs.inner.fields.scan_under.Reads as scan-under-reads
 
 first-of-requires : tie.Need-first-of-requires
 first-of-requires c κs = search needs
