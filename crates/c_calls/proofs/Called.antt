@@ -33,7 +33,7 @@ use Rattle.operation.specs.declared.row.Row.{Row}
 use Rattle.operation.specs.Numbers.{areListed, scopingOf, operationOf}
 use Rattle.operation.specs.Version.{versionOutcome}
 use Rattle.operation.specs.Rows.{rowLine, Told}
-use Rattle.c_calls.specs.Given.{bytesOf, scopeOf, patternNumbers, testedFirst, givenFirst, GivenTold}
+use Rattle.c_calls.specs.Given.{byteScopeOf, scopeOf, patternNumbers, testedFirst, givenFirst, GivenTold}
 use Rattle.c_calls.specs.Calls.{planCall, PlanCalled, ranLine, runCall, namesSet, RunCalled, ReportCalled}
 use Rattle.c_calls.proofs.Shortness.{plan-short, run-short, report-short}
 
@@ -127,7 +127,7 @@ module _ (t : Tested) {n : ℕ} (e : line n 0 0 0 ≡ testedLine t) (some : n �
       record { answer = subst (λ (l : Line). Told l words wordsExit r) (e ∙ ap testedLine is) done; plan = zeros; list = refl }
 
 -- planning
-module _ (T : Tables) (marks : List ℕ) (o : OperationNumbers) {made : Converted} (from : ConvertedFrom (bytesOf marks (o .scheduler)) made) {before : ℕ}
+module _ (T : Tables) (marks : List ℕ) (o : OperationNumbers) {made : Converted} (from : ConvertedFrom (byteScopeOf marks (o .scheduler)) made) {before : ℕ}
     (told : GivenTold T (conversionOf (made .answer)) o before) where
   pub plan-refused :
       (version : ℕ)
@@ -138,7 +138,7 @@ module _ (T : Tables) (marks : List ℕ) (o : OperationNumbers) {made : Converte
       → Told (line before 0 0 0) words wordsExit r
       → PlanCalled (planCall T marks o version) buffer words bufferExit wordsExit r
   plan-refused version some zeros done =
-      plan-turned (givenFirst T marks o) (first-told T (bytesOf marks (o .scheduler)) o from told) some (givenFirst T marks o)
+      plan-turned (givenFirst T marks o) (first-told T (byteScopeOf marks (o .scheduler)) o from told) some (givenFirst T marks o)
       (versionOutcome T (scopeOf marks (o .scheduler)) version (operationOf o)) refl zeros done
 
   pub plan-done :
@@ -155,24 +155,24 @@ module _ (T : Tables) (marks : List ℕ) (o : OperationNumbers) {made : Converte
       → Told (rowLine row) words wordsExit r
       → PlanCalled (planCall T marks o version) buffer words bufferExit wordsExit r
   plan-done version none e was is done =
-      let planned = rw (made-scope T (bytesOf marks (o .scheduler)) o from told none, e) at was in
+      let planned = rw (made-scope T (byteScopeOf marks (o .scheduler)) o from told none, e) at was in
       let said = rw (is ∙ planned .answer) at done in
-      rw (first-passed T (bytesOf marks (o .scheduler)) o from told none) (record { answer = said; plan = planned .buffer })
+      rw (first-passed T (byteScopeOf marks (o .scheduler)) o from told none) (record { answer = said; plan = planned .buffer })
 
 -- run and report
 module _ (T : Tables) (marks : List ℕ) (scheduler scoping pattern : ℕ) {o : OperationNumbers} (asked : o ≡ patternNumbers scheduler scoping pattern) {made : Converted}
-    (from : ConvertedFrom (bytesOf marks scheduler) made) {before : ℕ} (told : GivenTold T (conversionOf (made .answer)) o before) where
+    (from : ConvertedFrom (byteScopeOf marks scheduler) made) {before : ℕ} (told : GivenTold T (conversionOf (made .answer)) o before) where
   told-pattern : GivenTold T (conversionOf (made .answer)) (patternNumbers scheduler scoping pattern) before
   told-pattern = rw asked at told
 
   pattern-first : line before 0 0 0 ≡ testedLine (givenFirst T marks (patternNumbers scheduler scoping pattern))
-  pattern-first = first-told T (bytesOf marks scheduler) (patternNumbers scheduler scoping pattern) from told-pattern
+  pattern-first = first-told T (byteScopeOf marks scheduler) (patternNumbers scheduler scoping pattern) from told-pattern
 
   pattern-passed : before ≡ 0 → givenFirst T marks (patternNumbers scheduler scoping pattern) ≡ passed
-  pattern-passed = first-passed T (bytesOf marks scheduler) (patternNumbers scheduler scoping pattern) from told-pattern
+  pattern-passed = first-passed T (byteScopeOf marks scheduler) (patternNumbers scheduler scoping pattern) from told-pattern
 
   pattern-scope : before ≡ 0 → made .scope ≡ scopeOf marks scheduler
-  pattern-scope = made-scope T (bytesOf marks scheduler) (patternNumbers scheduler scoping pattern) from told-pattern
+  pattern-scope = made-scope T (byteScopeOf marks scheduler) (patternNumbers scheduler scoping pattern) from told-pattern
 
   pub run-refused :
       (value : ℕ)

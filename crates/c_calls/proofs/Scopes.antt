@@ -17,7 +17,7 @@ use Rattle.table.specs.Rules.{withinLimits}
 use Rattle.table.proofs.tests.Bools.{told-no, told-yes}
 use Rattle.operation.specs.declared.numbers.OperationNumbers.{OperationNumbers}
 use Rattle.operation.specs.Numbers.{areListed}
-use Rattle.c_calls.specs.Given.{marksOf, bytesOf, testedFirst, GivenTold}
+use Rattle.c_calls.specs.Given.{marksOf, byteScopeOf, testedFirst, GivenTold}
 
 pub marks-end : (marks : List ℕ) {here : List ℕ} {i : ℕ} → Filling (λ k. getD marks k 0) 128 i here → 128 ≤ i → here ≡ marksOf marks
 marks-end marks go le = let long = go .long in filling-ends go (omega arith)
@@ -29,7 +29,7 @@ pub scope-is :
     {r : Converted}
     → all ≡ marksOf marks
     → ConvertedFrom (record { marks = all; underscore = 0; scheduler = eqb scheduler 1 }) r
-    → ConvertedFrom (bytesOf marks scheduler) r
+    → ConvertedFrom (byteScopeOf marks scheduler) r
 scope-is marks scheduler e done = rw e at done
 
 -- the number of the refusal

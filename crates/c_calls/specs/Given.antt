@@ -19,11 +19,11 @@ abbrev pub marksOf : List ℕ → List ℕ
 marksOf marks = tabulate (λ i. getD marks i 0) 0 128
 
 -- Planning, run and report tell `_` by its bytes, so the scope's number of `_` makes no difference, and is 0.
-abbrev pub bytesOf : List ℕ → ℕ → ByteScope
-bytesOf marks scheduler = record { marks = marksOf marks; underscore = 0; scheduler = eqb scheduler 1 }
+abbrev pub byteScopeOf : List ℕ → ℕ → ByteScope
+byteScopeOf marks scheduler = record { marks = marksOf marks; underscore = 0; scheduler = eqb scheduler 1 }
 
 abbrev pub scopeOf : List ℕ → ℕ → Scope
-scopeOf marks scheduler = ofBytes (bytesOf marks scheduler)
+scopeOf marks scheduler = ofBytes (byteScopeOf marks scheduler)
 
 abbrev pub numbersOf : ℕ → ℕ → ℕ → ℕ → ℕ → ℕ → OperationNumbers
 numbersOf operation scheduler scoping first second key =
@@ -39,7 +39,7 @@ unfoldable pub testedFirst : Tables → Tested → OperationNumbers → Tested
 testedFirst T made o = require (areListed o) layoutBroken (require (withinLimits T) overLimit made)
 
 abbrev pub givenFirst : Tables → List ℕ → OperationNumbers → Tested
-givenFirst T marks o = testedFirst T (convertible (bytesOf marks (o .scheduler))) o
+givenFirst T marks o = testedFirst T (convertible (byteScopeOf marks (o .scheduler))) o
 
 -- the number of its refusal, or 0; none of them has a place or counts
 pub record GivenTold (T : Tables) (made : Tested) (o : OperationNumbers) (r : ℕ) : Type 0 where

@@ -5,7 +5,7 @@ ghost use lib.ListN.{getD};
 ghost use Rattle.base.specs.Refusal.{testedLine};
 ghost use Rattle.scope.specs.Bytes.{conversionOf, ConvertedFrom};
 ghost use Rattle.table.specs.Lent.{lent};
-ghost use Rattle.c_calls.specs.Given.{marksOf, bytesOf, patternNumbers, GivenTold};
+ghost use Rattle.c_calls.specs.Given.{marksOf, byteScopeOf, patternNumbers, GivenTold};
 use operation::numbers::OperationNumbers;
 use operation::numbers::are_listed;
 use scope::ByteScope;
@@ -37,7 +37,7 @@ fn marks_of(marks: &[u8]) -> [u8; 128]
 
 // `_` is told by its bytes: the scope needs no number of it.
 pub(crate) fn scope_of(marks: &[u8], scheduler: u32) -> Converted
-    ensures { λ r. ⌜ ConvertedFrom (bytesOf (old marks) scheduler) r ⌝ }
+    ensures { λ r. ⌜ ConvertedFrom (byteScopeOf (old marks) scheduler) r ⌝ }
 {
     Scope::from_bytes(ByteScope {
         marks: marks_of(marks),

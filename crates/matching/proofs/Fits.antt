@@ -14,7 +14,7 @@ use Rattle.planner.specs.Simple.{sameKey, differing, addKey, keysOf, isLiteral,
 use Rattle.planner.specs.Names.{occurrences, namesOf}
 use Rattle.planner.proofs.laws.Mentions.{mentionsAny, mentionsFields, mentions-name, mentions-item, mentions-field}
 use Rattle.base.specs.Lists.{elem}
-use Rattle.value.specs.Value.{Value, literalᵛ, arrayᵛ, objectᵛ, Values, noneᵛ, itemᵛ, ValueFields, doneᵛ, fieldᵛ, filledField, keysᵛ, sameKeys, firstOf, under, proper, properAll, properFields, Proper, holds, same, sameItems, sameFields, Same}
+use Rattle.value.specs.Value.{Value, literalᵛ, arrayᵛ, objectᵛ, Values, noneᵛ, itemᵛ, ValueFields, doneᵛ, fieldᵛ, filledField, keysᵛ, sameKeySets, firstHit, under, proper, properAll, properFields, Proper, holds, same, sameItems, sameFields, Same}
 use Rattle.matching.specs.Matching.{Env, MatchOutcome, next, at, underKey, planKeys, sameLength, run, runItems, runFields, Blanks, BlanksAll, BlanksFields, fill, fillAll, fillFields, SameBlanks, SameBlanksAll, SameBlanksFields}
 use Rattle.value.proofs.Keys.{and-left, and-right, both, or-left, or-right}
 use Rattle.value.proofs.Equal.{same-refl, same-to}
@@ -70,7 +70,7 @@ unfolding under proper
 proper-under l doneᵛ p w e = absurd (false≢true (cc))
 proper-under l (fieldᵛ k v gs) p w e = go (sameKey l k) (proper-under l gs (and-right (proper v) (properFields gs) p) w) e
   where
-    go : (c : Bool) → (under l gs ≡ some w → Proper w) → firstOf c v (under l gs) ≡ some w → Proper w
+    go : (c : Bool) → (under l gs ≡ some w → Proper w) → firstHit c v (under l gs) ≡ some w → Proper w
     go true f q = let r : v ≡ w = cc in rw (sym r) (and-left (proper v) (properFields gs) p)
     go false f q = f q
 
@@ -104,12 +104,12 @@ module _ (unbound : ℕ → Bool) (Ok : ℕ → Type 0) where
     good (set n es) v seen env p q ok s = absurd p
     good (object n fs) (literalᵛ m k) seen env p q ok s = miss (λ ρ a f. f .1)
     good (object n fs) (arrayᵛ m vs) seen env p q ok s = miss (λ ρ a f. f .1)
-    good (object n fs) (objectᵛ m gs) seen env p q ok s = when unbound Ok (sameKeys (planKeys (fieldPlans unbound fs seen)) (keysᵛ gs))
+    good (object n fs) (objectᵛ m gs) seen env p q ok s = when unbound Ok (sameKeySets (planKeys (fieldPlans unbound fs seen)) (keysᵛ gs))
         (λ t. also unbound Ok (λ x. refl)
-        (λ ρ f. (f .0, both (sameKeys (keysᵛ (fillFields ρ fs (f .0))) (keysᵛ gs)) (sameFields (fillFields ρ fs (f .0)) gs) (rw (same-keys unbound fs seen ρ (f .0)) at t) (f .1)))
-        (λ ρ f. (f .0, and-right (sameKeys (keysᵛ (fillFields ρ fs (f .0))) (keysᵛ gs)) (sameFields (fillFields ρ fs (f .0)) gs) (f .1)))
+        (λ ρ f. (f .0, both (sameKeySets (keysᵛ (fillFields ρ fs (f .0))) (keysᵛ gs)) (sameFields (fillFields ρ fs (f .0)) gs) (rw (same-keys unbound fs seen ρ (f .0)) at t) (f .1)))
+        (λ ρ f. (f .0, and-right (sameKeySets (keysᵛ (fillFields ρ fs (f .0))) (keysᵛ gs)) (sameFields (fillFields ρ fs (f .0)) gs) (f .1)))
         (goodFields fs gs seen env (and-right (differing (keysOf fs)) (simpleFields fs) p) (and-right (differing (keysᵛ gs)) (properFields gs) q) ok s))
-        (λ ρ a f. rw (same-keys unbound fs seen ρ (f .0)) (and-left (sameKeys (keysᵛ (fillFields ρ fs (f .0))) (keysᵛ gs)) (sameFields (fillFields ρ fs (f .0)) gs) (f .1)))
+        (λ ρ a f. rw (same-keys unbound fs seen ρ (f .0)) (and-left (sameKeySets (keysᵛ (fillFields ρ fs (f .0))) (keysᵛ gs)) (sameFields (fillFields ρ fs (f .0)) gs) (f .1)))
     good (other n) v seen env p q ok s = absurd p
 
     goodAll : (es : Exprs) (vs : Values) (seen : List ℕ) (env : Env) → T (simpleAll es) → T (properAll vs) → ((x : ℕ) → T (mentionsAny x es) → Ok x) → State unbound Ok seen env → T (sameLength (plans unbound es seen) vs) →
@@ -159,7 +159,7 @@ mutual
   only (set n es) v ρ σ b c p s t = tt
   only (object n fs) (literalᵛ m k) ρ σ b c p s t = absurd s
   only (object n fs) (arrayᵛ m vs) ρ σ b c p s t = absurd s
-  only (object n fs) (objectᵛ m gs) ρ σ b c p s t = onlyFields fs gs ρ σ b c (and-right (differing (keysOf fs)) (simpleFields fs) p) (and-right (sameKeys (keysᵛ (fillFields ρ fs b)) (keysᵛ gs)) (sameFields (fillFields ρ fs b) gs) s) (and-right (sameKeys (keysᵛ (fillFields σ fs c)) (keysᵛ gs)) (sameFields (fillFields σ fs c) gs) t)
+  only (object n fs) (objectᵛ m gs) ρ σ b c p s t = onlyFields fs gs ρ σ b c (and-right (differing (keysOf fs)) (simpleFields fs) p) (and-right (sameKeySets (keysᵛ (fillFields ρ fs b)) (keysᵛ gs)) (sameFields (fillFields ρ fs b) gs) s) (and-right (sameKeySets (keysᵛ (fillFields σ fs c)) (keysᵛ gs)) (sameFields (fillFields σ fs c) gs) t)
   only (other n) v ρ σ b c p s t = tt
 
   onlyAll : (es : Exprs) (vs : Values) (ρ σ : ℕ → Value) (b c : BlanksAll es) → T (simpleAll es) → T (sameItems (fillAll ρ es b) vs) → T (sameItems (fillAll σ es c) vs) → SameBlanksAll es b c

@@ -23,7 +23,7 @@ use Rattle.planner.specs.code.Post.{patternWords}
 use Rattle.planner.specs.Plan.{arrayPlan, objectPlan, Plans, FieldPlans, plan, plans, fieldPlans, after}
 use Rattle.planner.specs.Simple.{keysOf, simple}
 use Rattle.planner.proofs.fields.Objects.{node-of}
-use Rattle.value.specs.Value.{Value, valueOf, valuesOf, valueFieldsOf, valueAt, under, within, sameKeys}
+use Rattle.value.specs.Value.{Value, valueOf, valuesOf, valueFieldsOf, valueAt, under, within, sameKeySets}
 use Rattle.value.specs.code.Post.{underFrom, underIn, KeyedObject, KeySetsAsks, ValueNode}
 use Rattle.value.proofs.Keys.{is-true, true-is, within→}
 use Rattle.value.proofs.Admitted.{value-keys, array-item, object-value, array-children, object-children, key-node, value-node, keyed-object, admitted-value}
@@ -345,20 +345,20 @@ module _ {T : Tables} {scratch starts links : List ℕ} {at count value rest : �
     pub ask-key-sets : KeySetsAsks T (nodeAt scratch at) value
     ask-key-sets = record { left = pattern-keyed; right = value-keyed }
 
-    runs-fields : runAt T scratch at value list ≡ provided (sameKeys (keysOf (fieldsOf T object-node)) (keysOf (fieldsOf T value))) (runFields field-patterns (valueFieldsOf (fieldsOf T value)) (envOf T list))
+    runs-fields : runAt T scratch at value list ≡ provided (sameKeySets (keysOf (fieldsOf T object-node)) (keysOf (fieldsOf T value))) (runFields field-patterns (valueFieldsOf (fieldsOf T value)) (envOf T list))
     unfolding run valueOf
     runs-fields =
         runs-object
         ∙ (ap (λ (e : Expr). run (objectPlan object-node field-patterns) (valueOf e) (envOf T list)) (expr-object T (a .asks .table) value (a .asks .value-ok .node) (sym is ∙ nine))
-        ∙ ap₂ (λ (ks ls : List Literal). provided (sameKeys ks ls) (runFields field-patterns (valueFieldsOf (fieldsOf T value)) (envOf T list))) (plan-keys (a .asks .unbound) (fieldsOf T object-node) (a .asks .seen)) (value-keys (fieldsOf T value)))
+        ∙ ap₂ (λ (ks ls : List Literal). provided (sameKeySets ks ls) (runFields field-patterns (valueFieldsOf (fieldsOf T value)) (envOf T list))) (plan-keys (a .asks .unbound) (fieldsOf T object-node) (a .asks .seen)) (value-keys (fieldsOf T value)))
 
-    pub other-keys : {r : Bool} → r ≡ sameKeys (keysOf (fieldsOf T (nodeAt scratch at))) (keysOf (fieldsOf T value)) → not r ≡ true → Came T (runAt T scratch at value list) list false
+    pub other-keys : {r : Bool} → r ≡ sameKeySets (keysOf (fieldsOf T (nodeAt scratch at))) (keysOf (fieldsOf T value)) → not r ≡ true → Came T (runAt T scratch at value list) list false
     other-keys {r} of t = missed-came T (a .asks .list-ok) (runs-fields ∙ ap (λ (b : Bool). provided b (runFields field-patterns (valueFieldsOf (fieldsOf T value)) (envOf T list))) (told-no of t))
 
 pub record TakingFields (T : Tables) (scratch starts links : List ℕ) (at count value rest : ℕ) (before : List ℕ) (start i : ℕ) (here : List ℕ) : Type 0 where
   pub asks : FieldsAsks T scratch starts links at count value rest before
   pub value-object : KeyedObject T value
-  pub keys : sameKeys (keysOf (fieldsOf T (nodeAt scratch at))) (keysOf (fieldsOf T value)) ≡ true
+  pub keys : sameKeySets (keysOf (fieldsOf T (nodeAt scratch at))) (keysOf (fieldsOf T value)) ≡ true
   pub is-start : start ≡ getD starts at 0
   pub inside : i ≤ count
   pub list-ok : ListOk T here
@@ -367,7 +367,7 @@ pub record TakingFields (T : Tables) (scratch starts links : List ℕ) (at count
   pub same-left : runFields (fieldPlans (asks .asks .unbound) (fields (expr T) (T .children) (firstOf (T .nodes) (nodeAt scratch at) + i * 2) (count - i)) seen) (valueFieldsOf (fieldsOf T value)) (envOf T here) ≡ runAt T scratch at value before
 
 pub fields-start : {T : Tables} {scratch starts links : List ℕ} {at count value rest : ℕ} {list : List ℕ} {start : ℕ} → FieldsAsks T scratch starts links at count value rest list
-    → {k : ℕ} → k ≡ kindOf (T .nodes) value → k ≡ 9 → {r : Bool} → r ≡ sameKeys (keysOf (fieldsOf T (nodeAt scratch at))) (keysOf (fieldsOf T value)) → not r ≡ false → start ≡ getD starts at 0
+    → {k : ℕ} → k ≡ kindOf (T .nodes) value → k ≡ 9 → {r : Bool} → r ≡ sameKeySets (keysOf (fieldsOf T (nodeAt scratch at))) (keysOf (fieldsOf T value)) → not r ≡ false → start ≡ getD starts at 0
     → TakingFields T scratch starts links at count value rest list start 0 list
 fields-start {T} {scratch} {starts} {links} {at} {count} {value} {rest} {list} {start} a is nine of t is-start =
     let x : firstOf (T .nodes) (nodeAt scratch at) + 0 * 2 ≡ firstOf (T .nodes) (nodeAt scratch at) = omega arith in

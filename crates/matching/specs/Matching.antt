@@ -11,7 +11,7 @@ use Rattle.table.specs.Expr.{Expr, literal, name, wildcard, array, set, object,
 use Rattle.planner.specs.Plan.{DestructuringPlan, var, ignore, equalityExpr, equalityValue, arrayPlan, objectPlan, Plans, noPlan, itemPlan, FieldPlans, noField, fieldPlan, plan}
 use Rattle.planner.specs.Layout.{literalKey}
 use Rattle.planner.specs.Simple.{addKey, simple, mentions}
-use Rattle.value.specs.Value.{Value, literalᵛ, arrayᵛ, objectᵛ, Values, noneᵛ, itemᵛ, ValueFields, doneᵛ, filledField, keysᵛ, sameKeys, under, Proper, same, Same}
+use Rattle.value.specs.Value.{Value, literalᵛ, arrayᵛ, objectᵛ, Values, noneᵛ, itemᵛ, ValueFields, doneᵛ, filledField, keysᵛ, sameKeySets, under, Proper, same, Same}
 
 -- 1. The run of a plan on a value, in written order.
 
@@ -89,7 +89,7 @@ unfoldable mutual
   run (arrayPlan n ps) (objectᵛ m gs) env = missed
   run (objectPlan n fs) (literalᵛ m k) env = missed
   run (objectPlan n fs) (arrayᵛ m vs) env = missed
-  run (objectPlan n fs) (objectᵛ m gs) env = provided (sameKeys (planKeys fs) (keysᵛ gs)) (runFields fs gs env)
+  run (objectPlan n fs) (objectᵛ m gs) env = provided (sameKeySets (planKeys fs) (keysᵛ gs)) (runFields fs gs env)
 
   pub runItems : Plans → Values → Env → MatchOutcome
   runItems noPlan vs env = matched env

@@ -19,7 +19,7 @@ use Rattle.sheet.specs.Sheet.{tablesOf, countsOf}
 use Rattle.sheet.specs.declared.source.Span.{Span}
 use Rattle.sheet.specs.Source.{sourceText, sourceIn, spanIn, SourceSpan}
 use Rattle.sheet.proofs.laws.SourceText.{source-laws}
-use Rattle.page.specs.Page.{lineLength, pageLines, keyText, lineCells, entryCells, blankCells, Cells, cellsBytes, entryLines, pageCount, pagesLines, linesBytes}
+use Rattle.page.specs.Page.{lineLength, pageLines, keySource, lineCells, entryCells, blankCells, Cells, cellsBytes, entryLines, pageCount, pagesLines, linesBytes}
 use Rattle.page.specs.Answer.{paged, pagesAnswer, pagesAfter, LaidOut}
 use Rattle.page.specs.declared.PageAnswer.the-variants.{Pages, BufferTooShort}
 use Rattle.page.specs.code.Lines.{linesFrom, entryLine, EntryAsks, EntriesAsks}
@@ -30,7 +30,7 @@ no-text : (T : Tables) → sourceText T 0 ≡ []
 unfolding sourceText recordWord
 no-text T = refl
 
-key-is : (sheet : List ℕ) (key : ℕ) → keyText (sourceIn sheet) key ≡ sourceIn sheet key
+key-is : (sheet : List ℕ) (key : ℕ) → keySource (sourceIn sheet) key ≡ sourceIn sheet key
 key-is sheet key = go (eqb key 0) refl
   where
     go : (b : Bool) → eqb key 0 ≡ b → cond b [] (sourceIn sheet key) ≡ sourceIn sheet key
@@ -57,7 +57,7 @@ module _ (out sheet plan : List ℕ) (i : ℕ) where
 -- the entries, one after the other
 module _ (source : ℕ → List ℕ) (plan : List ℕ) where
   line-wide : (i : ℕ) → length (entryLine source plan i) ≡ lineLength
-  line-wide i = let e = entryAt plan i in line-long (i + 1) (e .kind) (source (e .node)) (keyText source (e .key))
+  line-wide i = let e = entryAt plan i in line-long (i + 1) (e .kind) (source (e .node)) (keySource source (e .key))
 
   lines-are : (i k : ℕ) → linesFrom (entryLine source plan) i k ≡ linesBytes (entryLines source (i + 1) (readEntries plan i k))
   unfolding linesFrom linesBytes entryLines readEntries
@@ -110,7 +110,7 @@ unfolding entryLines linesBytes
 entries-long source number [] = refl
 entries-long source number (e ∷ es) =
     length-append (cellsBytes (entryCells source number e)) (linesBytes (entryLines source (number + 1) es))
-    ∙ omega (arith, line-long number (e .kind) (source (e .node)) (keyText source (e .key)), entries-long source (number + 1) es)
+    ∙ omega (arith, line-long number (e .kind) (source (e .node)) (keySource source (e .key)), entries-long source (number + 1) es)
 
 module _ (source : ℕ → List ℕ) (es : List Entry) where
   abbrev left : ℕ

@@ -20,7 +20,7 @@ use Rattle.sheet.specs.Outcome.{outcomeOfSheet}
 use Rattle.sheet.proofs.laws.CutShort.{parsed-alike}
 use Rattle.page.specs.declared.PageAnswer.{PageAnswer}
 use Rattle.page.specs.declared.PageAnswer.the-variants.{Pages, Refused, BufferTooShort}
-use Rattle.page.specs.Page.{lineLength, pageLines, keyText, Cells, pagesLines, linesBytes}
+use Rattle.page.specs.Page.{lineLength, pageLines, keySource, Cells, pagesLines, linesBytes}
 use Rattle.page.specs.Answer.{Paged, refused, paged, pagesOf, sourceOfSheet, pagesOfSheet, pagesAnswer, fits, LaidOut}
 use Rattle.page.specs.Laws.{LineLaws, PagesSize, CutShort}
 use Rattle.page.proofs.PageLines.{line-long, blank-long}
@@ -28,7 +28,7 @@ use Rattle.page.proofs.EntryLines.{pages-many, pages-long}
 
 pub line-laws : LineLaws
 line-laws = record {
-  entry = λ source number e. line-long number (e .kind) (source (e .node)) (keyText source (e .key));
+  entry = λ source number e. line-long number (e .kind) (source (e .node)) (keySource source (e .key));
   blank = blank-long;
   number = λ n few. read-back .column n (omega arith);
 }

@@ -73,11 +73,11 @@ lineCells number kind source key =
     record { number = writeColumn number; kind = cell kindWidth (kindName kind); source = cell sourceWidth source; key = cell keyWidth key }
 
 -- An entry by its number, where `source n` is the source text of node n. Where there is no key its cell is blank. (A pair's node is its value side.)
-abbrev pub keyText : (ℕ → List ℕ) → ℕ → List ℕ
-keyText source key = cond (eqb key 0) [] (source key)
+abbrev pub keySource : (ℕ → List ℕ) → ℕ → List ℕ
+keySource source key = cond (eqb key 0) [] (source key)
 
 abbrev pub entryCells : (ℕ → List ℕ) → ℕ → Entry → Cells
-entryCells source number e = lineCells number (e .kind) (source (e .node)) (keyText source (e .key))
+entryCells source number e = lineCells number (e .kind) (source (e .node)) (keySource source (e .key))
 
 abbrev pub blankCells : Cells
 blankCells = record { number = blanks numberWidth; kind = blanks kindWidth; source = blanks sourceWidth; key = blanks keyWidth }
@@ -102,6 +102,3 @@ cellsBytes c = c .number ++ (c .kind ++ (c .source ++ (c .key ++ (10 ∷ []))))
 unfoldable pub linesBytes : List Cells → List ℕ
 linesBytes [] = []
 linesBytes (c ∷ cs) = cellsBytes c ++ linesBytes cs
-
-abbrev pub pagesBytes : (ℕ → List ℕ) → List Entry → List ℕ
-pagesBytes source es = linesBytes (pagesLines source es)

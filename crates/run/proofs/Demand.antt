@@ -30,7 +30,7 @@ use Rattle.matching.specs.Matching.{Env, MatchOutcome, matched, missed, fault, 
 use Rattle.matching.proofs.Fits.{filled}
 use Rattle.report.proofs.Meeting.{mentioned-named}
 use Rattle.run.specs.Answer.{RunResult, aMatch, noMatch}
-use Rattle.run.specs.Operations.{listedNode, isName, isValueNode, listed, valuesListed, knownListed, RunOutcome, carriedOut, tableFirst, ran, runChecked, runOutcome, carriedResult, runAnswer, setNames, plannedName, valuesAfter}
+use Rattle.run.specs.Operations.{listedNode, inTable, isValueNode, listed, valuesListed, knownListed, RunOutcome, carriedOut, tableFirst, ran, runChecked, runOutcome, carriedResult, runAnswer, setNames, plannedName, valuesAfter}
 use Rattle.run.specs.code.Post.{RunAsks, toBind}
 use Rattle.run.specs.Demand.{Hypotheses, answer, list, isPlanned, Fills, Promised, Demand}
 use Rattle.run.proofs.Checking.{node-of-test}
@@ -42,14 +42,14 @@ all-true : (p : ℕ → Bool) (from k : ℕ) → ((j : ℕ) → from ≤ j → j
 all-true p from k each = all-of p from k (λ j lt. each (from + j) (omega arith) (omega arith))
 
 module _ (T : Tables) (s : Scope) (mode : ScopingMode) (pattern value : ℕ) (values buffer : List ℕ) (h : Hypotheses T s mode pattern value values buffer) where
-  in-names : (x : ℕ) → 1 ≤ x → x < 1 + nameCount T → isName T x ≡ true
+  in-names : (x : ℕ) → 1 ≤ x → x < 1 + nameCount T → inTable T x ≡ true
   in-names x low lt = let a = le-leb 1 x low in let b = le-leb x (nameCount T) (omega arith) in rw (a, b)
 
   all-listed : valuesListed T values ≡ true
   unfolding valuesListed
   all-listed = all-true (λ x. eqb (listedNode values x) 0 || isValueNode T (listedNode values x)) 1 (nameCount T) (λ x low lt. at x (in-names x low lt) (eqb (listedNode values x) 0) refl)
     where
-      at : (x : ℕ) → isName T x ≡ true → (b : Bool) → eqb (listedNode values x) 0 ≡ b → (b || isValueNode T (listedNode values x)) ≡ true
+      at : (x : ℕ) → inTable T x ≡ true → (b : Bool) → eqb (listedNode values x) 0 ≡ b → (b || isValueNode T (listedNode values x)) ≡ true
       at x n true e = refl
       at x n false e = h .listedAreValues x n (eqb-false (listedNode values x) 0 e)
 
@@ -129,9 +129,9 @@ module _ (T : Tables) (s : Scope) (mode : ScopingMode) (pattern value : ℕ) (va
 
   -- the values at the start are the table's
   listed-tabled : (x : ℕ) (u : Value) → start (isUnbound s mode) (listed T values) x ≡ some u → Tabled T u
-  listed-tabled x u e = go (isUnbound s mode x) (isName T x) refl (eqb (listedNode values x) 0) refl e
+  listed-tabled x u e = go (isUnbound s mode x) (inTable T x) refl (eqb (listedNode values x) 0) refl e
     where
-      go : (c b : Bool) → isName T x ≡ b → (z : Bool) → eqb (listedNode values x) 0 ≡ z
+      go : (c b : Bool) → inTable T x ≡ b → (z : Bool) → eqb (listedNode values x) 0 ≡ z
           → pickValue c none (cond b (cond z none (some (valueOf (expr T (listedNode values x))))) none) ≡ some u → Tabled T u
       go true b n z q r = absurd (false≢true (cc))
       go false false n z q r = absurd (false≢true (cc))

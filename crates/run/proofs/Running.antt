@@ -49,14 +49,14 @@ use Rattle.report.proofs.Meeting.{after-met, mentions-met, mentioned-named}
 use Rattle.run.specs.declared.RunAnswer.{RunAnswer}
 use Rattle.run.specs.declared.RunAnswer.the-variants.{Match, NoMatch, TableRefused, RootOutside, ListTooShort, PatternNotSimple, NotAValue, NameWithoutValue, PlanTooLarge}
 use Rattle.run.specs.Answer.{turnedBack, aMatch, noMatch, resultOf}
-use Rattle.run.specs.Operations.{listedNode, isName, allNames, isValueNode, listed, valuesListed, knownListed, RunOutcome, refused, carriedOut, require, tableFirst, ran, runChecked, runOutcome, carriedResult, runAnswer, planAfter, setNames, plannedName, valuesAfter, Ran}
+use Rattle.run.specs.Operations.{listedNode, inTable, allNames, isValueNode, listed, valuesListed, knownListed, RunOutcome, refused, carriedOut, require, tableFirst, ran, runChecked, runOutcome, carriedResult, runAnswer, planAfter, setNames, plannedName, valuesAfter, Ran}
 use Rattle.run.specs.code.Post.{RunAsks, MatchValuesAsks, toBind, ValuesCame, CheckedAsks}
 use Rattle.run.specs.code.NamesPost.{ListAsks, StartOf, NamesSet, KnownAsks}
 use Rattle.run.specs.code.ChecksPost.{AllAsks}
 use Rattle.run.proofs.Checking.{node-of-test, test-of-node}
 use Rattle.run.proofs.Known.{known-is, planned-is}
 
-name-test : (T : Tables) (x : ℕ) → Named T x → isName T x ≡ true
+name-test : (T : Tables) (x : ℕ) → Named T x → inTable T x ≡ true
 name-test T x v = let a = le-leb 1 x (v .low) in let b = le-leb x (nameCount T) (v .high) in rw (a, b)
 
 -- what the tests of all names say of one
@@ -102,7 +102,7 @@ module _ {T : Tables} {s : Scope} {mode : ScopingMode} {pattern value : ℕ} {va
   asked = record {
     isSimple = true-is (a .isSimple);
     valueProper = value-proper (expr T value) (true-is (a .aValue));
-    listProper = λ x w e. proper x w (isName T x) refl (eqb (listedNode values x) 0) refl e;
+    listProper = λ x w e. proper x w (inTable T x) refl (eqb (listedNode values x) 0) refl e;
     knownListed = λ x t known.
         let v = mentioned-named T run-table pattern (a .pattern-node) x t in
         let b = name-test T x v in
@@ -110,10 +110,10 @@ module _ {T : Tables} {s : Scope} {mode : ScopingMode} {pattern value : ℕ} {va
         (valueOf (expr T (listedNode values x)), rw (b, z));
   }
     where
-      named : (x : ℕ) → isName T x ≡ true → Named T x
+      named : (x : ℕ) → inTable T x ≡ true → Named T x
       named x b = let p = and-true (leb 1 x) (leb x (nameCount T)) b in record { low = leb-true 1 x (p .0); high = leb-true x (nameCount T) (p .1) }
 
-      proper : (x : ℕ) (w : Value) (b : Bool) → isName T x ≡ b → (c : Bool) → eqb (listedNode values x) 0 ≡ c → cond (isName T x) (cond (eqb (listedNode values x) 0) none (some (valueOf (expr T (listedNode values x))))) none ≡ some w → Proper w
+      proper : (x : ℕ) (w : Value) (b : Bool) → inTable T x ≡ b → (c : Bool) → eqb (listedNode values x) 0 ≡ c → cond (inTable T x) (cond (eqb (listedNode values x) 0) none (some (valueOf (expr T (listedNode values x))))) none ≡ some w → Proper w
       proper x w false b c z e = absurd (false≢true (let q = rw b at e in cc))
       proper x w true b true z e = absurd (false≢true (let q = rw (b, z) at e in cc))
       proper x w true b false z e =
@@ -179,7 +179,7 @@ module _ {T : Tables} {s : Scope} {mode : ScopingMode} {pattern value : ℕ} {va
             let nz = eqb-false x 0 b in
             let past = leb-false x (nameCount T) d in
             let e = of .rest (x - 1) (omega (arith, nz)) in
-            let n : isName T x ≡ false = ap (λ (c : Bool). leb 1 x && c) d ∙ go (leb 1 x) in
+            let n : inTable T x ≡ false = ap (λ (c : Bool). leb 1 x && c) d ∙ go (leb 1 x) in
             rw (b, n) (rw e (both (isUnbound s mode x)))
           where
             go : (c : Bool) → (c && false) ≡ false

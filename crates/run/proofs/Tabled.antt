@@ -15,7 +15,7 @@ use Rattle.planner.specs.Layout.{literalKey}
 use Rattle.planner.specs.Plan.{DestructuringPlan, var, ignore, equalityExpr, equalityValue, arrayPlan, objectPlan, Plans, noPlan, itemPlan, FieldPlans, noField, fieldPlan}
 use Rattle.planner.specs.Simple.{sameKey}
 use Rattle.planner.proofs.fields.Objects.{node-of}
-use Rattle.value.specs.Value.{Value, literalᵛ, arrayᵛ, objectᵛ, Values, noneᵛ, itemᵛ, ValueFields, doneᵛ, fieldᵛ, filledField, valueOf, valuesOf, valueFieldsOf, nodeᵛ, firstOf as firstUnder, under, keysᵛ, sameKeys, same}
+use Rattle.value.specs.Value.{Value, literalᵛ, arrayᵛ, objectᵛ, Values, noneᵛ, itemᵛ, ValueFields, doneᵛ, fieldᵛ, filledField, valueOf, valuesOf, valueFieldsOf, nodeᵛ, firstHit, under, keysᵛ, sameKeySets, same}
 use Rattle.value.specs.code.Post.{ValueNode}
 use Rattle.value.proofs.Node as Node·
 use Rattle.value.proofs.Admitted.{array-item, object-value, array-children, object-children, value-node, admitted-value}
@@ -57,7 +57,7 @@ module _ (T : Tables) where
   all-under l doneᵛ a w e = absurd (false≢true (cc))
   all-under l (fieldᵛ k v gs) a w e = go (sameKey l k) (all-under l gs (a .1) w) e
     where
-      go : (c : Bool) → (under l gs ≡ some w → AllTabled w) → firstUnder c v (under l gs) ≡ some w → AllTabled w
+      go : (c : Bool) → (under l gs ≡ some w → AllTabled w) → firstHit c v (under l gs) ≡ some w → AllTabled w
       go true f q = let r : v ≡ w = cc in rw (sym r) (a .0)
       go false f q = f q
 
@@ -119,7 +119,7 @@ module _ (T : Tables) where
     ends-run (arrayPlan n ps) (objectᵛ m gs) env t a = ends-missed
     ends-run (objectPlan n fs) (literalᵛ m k) env t a = ends-missed
     ends-run (objectPlan n fs) (arrayᵛ m vs) env t a = ends-missed
-    ends-run (objectPlan n fs) (objectᵛ m gs) env t a = ends-provided (sameKeys (planKeys fs) (keysᵛ gs)) (runFields fs gs env) (ends-fields fs gs env (t .1) a)
+    ends-run (objectPlan n fs) (objectᵛ m gs) env t a = ends-provided (sameKeySets (planKeys fs) (keysᵛ gs)) (runFields fs gs env) (ends-fields fs gs env (t .1) a)
 
     ends-items : (ps : Plans) (vs : Values) (env : Env) → AllItems vs → EnvTabled env → Ends (runItems ps vs env)
     ends-items noPlan vs env t a = ends-same env a

@@ -20,7 +20,7 @@ use Rattle.planner.specs.Simple.{simple, mentions}
 use Rattle.value.specs.Value.{Value, isValue, valueOf, Proper, Same, EqualityLaws}
 use Rattle.matching.specs.Matching.{fault, outcome, Blanks, fill, SameBlanks, Filling, Makes}
 use Rattle.run.specs.Answer.{RunResult, aMatch, noMatch}
-use Rattle.run.specs.Operations.{listedNode, isName, isValueNode, listed, ran, runOutcome, runAnswer, plannedName, valuesAfter}
+use Rattle.run.specs.Operations.{listedNode, inTable, isValueNode, listed, ran, runOutcome, runAnswer, plannedName, valuesAfter}
 
 module _ (T : Tables) (s : Scope) (mode : ScopingMode) (pattern value : ℕ) (values buffer : List ℕ) where
   -- A pattern of names, underscores, literals, arrays and objects with literal keys only, all different; tables and scope pass the check, list and buffer are long enough;
@@ -33,7 +33,7 @@ module _ (T : Tables) (s : Scope) (mode : ScopingMode) (pattern value : ℕ) (va
     pub bufferLong : entryWords * length (entries (planOf T s mode pattern) top) ≤ length buffer
     pub patternSimple : simple (expr T pattern) ≡ true
     pub valueIsValue : isValue (expr T value) ≡ true
-    pub listedAreValues : (x : ℕ) → isName T x ≡ true → (listedNode values x ≡ 0 → ⊥) → isValueNode T (listedNode values x) ≡ true
+    pub listedAreValues : (x : ℕ) → inTable T x ≡ true → (listedNode values x ≡ 0 → ⊥) → isValueNode T (listedNode values x) ≡ true
     pub knownAreListed : (x : ℕ) → mentions x (expr T pattern) ≡ true → known s mode x ≡ true → listedNode values x ≡ 0 → ⊥
 
   -- what the run answers, and the list at exit

@@ -29,8 +29,8 @@ use Rattle.run.specs.Answer.{RunResult, turnedBack, aMatch, noMatch, res
 abbrev pub listedNode : List ℕ → ℕ → ℕ
 listedNode values x = getD values (x - 1) 0
 
-abbrev pub isName : Tables → ℕ → Bool
-isName T x = leb 1 x && leb x (nameCount T)
+abbrev pub inTable : Tables → ℕ → Bool
+inTable T x = leb 1 x && leb x (nameCount T)
 
 abbrev pub allNames : Tables → (ℕ → Bool) → Bool
 allNames T p = allFrom p 1 (nameCount T)
@@ -40,7 +40,7 @@ abbrev pub isValueNode : Tables → ℕ → Bool
 isValueNode T n = isNode T n && isValue (expr T n)
 
 abbrev pub listed : Tables → List ℕ → Env
-listed T values x = cond (isName T x) (valueAt T (listedNode values x)) none
+listed T values x = cond (inTable T x) (valueAt T (listedNode values x)) none
 
 -- 22: each listed node is a value
 unfoldable pub valuesListed : Tables → List ℕ → Bool

@@ -23,7 +23,7 @@ use Rattle.checks.specs.Joining.{isMismatch, andThen, joined}
 use Rattle.checks.specs.Structure.{slotText, keyTexts, sortTexts, ValueField, isUnder, partners, orderedChecks, fieldChecks, objectStructure, structure, itemChecks, valueFields}
 use Rattle.checks.specs.Structure as Structure
 use Rattle.checks.proofs.laws.Readings.{anyMismatch, joined-mismatch, last-mismatch, fieldsMismatch, fields-step}
-use Rattle.value.specs.Value.{Value, ValueFields, keysᵛ, within, sameKeys, under, same, sameItems, sameFields, Same}
+use Rattle.value.specs.Value.{Value, ValueFields, keysᵛ, within, sameKeySets, under, same, sameItems, sameFields, Same}
 use Rattle.value.proofs.Keys.{and-left, and-right, true-is, key→}
 use Rattle.matching.specs.Matching.{underKey, Blanks, BlanksAll, BlanksFields, fill, fillAll, fillFields}
 use Rattle.matching.proofs.Fits.{fill-keys, field-parts}
@@ -41,11 +41,11 @@ same-count ρ σ (item e es) (item p ps) b c t =
     ap (λ (n : ℕ). 1 + n) (same-count ρ σ es ps (b .1) (c .1) (and-right (same (fill ρ e (b .0)) (fill σ p (c .0))) (sameItems (fillAll ρ es (b .1)) (fillAll σ ps (c .1))) t))
 
 -- equal objects
-module _ (ρ σ : ℕ → Value) (fs gs : Fields) (b : BlanksFields fs) (c : BlanksFields gs) (t : T (sameKeys (keysᵛ (fillFields ρ fs b)) (keysᵛ (fillFields σ gs c)))) where
+module _ (ρ σ : ℕ → Value) (fs gs : Fields) (b : BlanksFields fs) (c : BlanksFields gs) (t : T (sameKeySets (keysᵛ (fillFields ρ fs b)) (keysᵛ (fillFields σ gs c)))) where
   -- have the same keys
   pub same-sets : T (within (keysOf fs) (keysOf gs)) × T (within (keysOf gs) (keysOf fs))
   same-sets =
-      let h : T (sameKeys (keysOf fs) (keysOf gs)) = rw (fill-keys ρ fs b, fill-keys σ gs c) at t in
+      let h : T (sameKeySets (keysOf fs) (keysOf gs)) = rw (fill-keys ρ fs b, fill-keys σ gs c) at t in
       (and-left (within (keysOf fs) (keysOf gs)) (within (keysOf gs) (keysOf fs)) h, and-right (within (keysOf fs) (keysOf gs)) (within (keysOf gs) (keysOf fs)) h)
 
   -- so the same texts
@@ -131,8 +131,8 @@ mutual
   check-differs (object n fs) (object k gs) x y m ρ σ b c t =
       let d = and-left (differing (keysOf fs)) (simpleFields fs) x in
       let e = and-left (differing (keysOf gs)) (simpleFields gs) y in
-      let keys = and-left (sameKeys (keysᵛ (fillFields ρ fs b)) (keysᵛ (fillFields σ gs c))) (sameFields (fillFields ρ fs b) (fillFields σ gs c)) t in
-      let equal = and-right (sameKeys (keysᵛ (fillFields ρ fs b)) (keysᵛ (fillFields σ gs c))) (sameFields (fillFields ρ fs b) (fillFields σ gs c)) t in
+      let keys = and-left (sameKeySets (keysᵛ (fillFields ρ fs b)) (keysᵛ (fillFields σ gs c))) (sameFields (fillFields ρ fs b) (fillFields σ gs c)) t in
+      let equal = and-right (sameKeySets (keysᵛ (fillFields ρ fs b)) (keysᵛ (fillFields σ gs c))) (sameFields (fillFields ρ fs b) (fillFields σ gs c)) t in
       let slots = valueOrder gs noFields .literals in
       ⊎-elim (λ h. false≢true (sym h ∙ agreeing ρ σ fs gs b c keys d e))
       (λ h. fields-differ fs (and-right (differing (keysOf fs)) (simpleFields fs) x) slots (sym (joined-mismatch (orderedChecks slots (valueFields Careful fs))) ∙ h) ρ σ b (fillFields σ gs c)

@@ -23,7 +23,7 @@ use Rattle.planner.proofs.fields.FieldOrder.{AllSlots}
 use Rattle.checks.specs.Structure.{slotText, isUnder}
 use Rattle.checks.proofs.KeyTexts.{sort-length}
 use Rattle.assignment.specs.Pairs.{pair, Flat, failed, paired, before, further, allLiteral, distinctKeys, lastUnder, hasPartner, checkKeys, onPartner, binds, side, whole, inParts, flatten, flattenAll, flattenFields}
-use Rattle.value.specs.Value.{Value, ValueFields, keysᵛ, within, sameKeys, same, sameItems, sameFields, Same}
+use Rattle.value.specs.Value.{Value, ValueFields, keysᵛ, within, sameKeySets, same, sameItems, sameFields, Same}
 use Rattle.value.proofs.Keys.{and-left, and-right, is-true, key-refl, within-length}
 use Rattle.matching.specs.Matching.{Blanks, BlanksAll, BlanksFields, fill, fillAll, fillFields}
 use Rattle.matching.proofs.Fits.{field-parts}
@@ -140,10 +140,10 @@ module _ (u : ℕ → Bool) (a : Refusal) (least : 12 ≤ a .number) (most : a .
         go (allLiteral ls && allLiteral rs) (eqb (distinctKeys ls) (countFields rs)) refl (parts-fail (object m ls) (object n rs) seen _ e)
         (λ h. fields-differ rs (and-right (differing (keysOf rs)) (simpleFields rs) x) ls seen h ρ σ b (fillFields σ ls c)
         (slots-found σ ls c (and-left (differing (keysOf ls)) (simpleFields ls) y) (and-right (differing (keysOf ls)) (simpleFields ls) y))
-        (and-right (sameKeys (keysᵛ (fillFields ρ rs b)) (keysᵛ (fillFields σ ls c))) (sameFields (fillFields ρ rs b) (fillFields σ ls c)) t))
+        (and-right (sameKeySets (keysᵛ (fillFields ρ rs b)) (keysᵛ (fillFields σ ls c))) (sameFields (fillFields ρ rs b) (fillFields σ ls c)) t))
       where
         sets : T (within (keysOf rs) (keysOf ls)) × T (within (keysOf ls) (keysOf rs))
-        sets = same-sets ρ σ rs ls b c (and-left (sameKeys (keysᵛ (fillFields ρ rs b)) (keysᵛ (fillFields σ ls c))) (sameFields (fillFields ρ rs b) (fillFields σ ls c)) t)
+        sets = same-sets ρ σ rs ls b c (and-left (sameKeySets (keysᵛ (fillFields ρ rs b)) (keysᵛ (fillFields σ ls c))) (sameFields (fillFields ρ rs b) (fillFields σ ls c)) t)
 
         counts : distinctKeys ls ≡ countFields rs
         counts =

@@ -143,9 +143,9 @@ unfoldable pub parse : List ℕ → Parsed
 parse sheet = require (isLine sheet line1 6) layoutBroken (parsedBy sheet (countsOf sheet))
 
 -- The scope. Planning tells `_` by its bytes, so the scope's number of `_` makes no difference, and is 0.
-abbrev pub bytesOf : OperationNumbers → List ℕ → ByteScope
-bytesOf o marks = record { marks = marks; underscore = 0; scheduler = eqb (o .scheduler) 1 }
+abbrev pub byteScopeOf : OperationNumbers → List ℕ → ByteScope
+byteScopeOf o marks = record { marks = marks; underscore = 0; scheduler = eqb (o .scheduler) 1 }
 
 -- the marks of the names, and no mark of a name past them
 abbrev pub scopeOf : OperationNumbers → List ℕ → Scope
-scopeOf o marks = ofBytes (bytesOf o (marks ++ replicate (128 - length marks) 0))
+scopeOf o marks = ofBytes (byteScopeOf o (marks ++ replicate (128 - length marks) 0))

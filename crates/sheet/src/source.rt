@@ -3,7 +3,7 @@ ghost use mathlib.Core.Path.{_≡_};
 ghost use Prim.Native.Nat.{_<_, min};
 ghost use Rattle.base.specs.Lent.{old};
 ghost use Rattle.table.specs.Tables.{recordWord};
-ghost use Rattle.sheet.specs.Lines.{numberAt};
+ghost use Rattle.sheet.specs.Lines.{columnNumber};
 ghost use Rattle.sheet.specs.Sheet.{nodesOf};
 ghost use Rattle.sheet.specs.Source.{spanIn};
 ghost use Rattle.sheet.specs.code.Header.{NumberRead, CountsRead};
@@ -31,7 +31,7 @@ fn at_most(a: usize, b: usize) -> usize
 }
 
 fn number_at(sheet: &[u8], at: usize) -> usize
-    ensures { λ r. ⌜ NumberRead (numberAt (old sheet) at) r ⌝ }
+    ensures { λ r. ⌜ NumberRead (columnNumber (old sheet) at) r ⌝ }
 {
     match read_column(sheet, at) {
         Column::Number(n) => n as usize,

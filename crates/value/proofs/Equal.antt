@@ -5,7 +5,7 @@ use mathlib.Core.Path.{_≡_, refl, ap, ap₂, sym, _∙_, fun-ext}
 use lib.Dec.{T, T-not}
 use Rattle.literal.specs.Literal.{Literal}
 use Rattle.planner.specs.Simple.{sameKey, hasKey, differing}
-use Rattle.value.specs.Value.{Value, literalᵛ, arrayᵛ, objectᵛ, Values, noneᵛ, itemᵛ, ValueFields, doneᵛ, fieldᵛ, within, sameKeys, keysᵛ, firstOf, under, proper, properAll, properFields, Proper, holds, same, sameItems, sameFields, Same, EqualityLaws}
+use Rattle.value.specs.Value.{Value, literalᵛ, arrayᵛ, objectᵛ, Values, noneᵛ, itemᵛ, ValueFields, doneᵛ, fieldᵛ, within, sameKeySets, keysᵛ, firstHit, under, proper, properAll, properFields, Proper, holds, same, sameItems, sameFields, Same, EqualityLaws}
 use Rattle.value.proofs.Keys.{and-left, and-right, both, or-left, or-right, is-true, is-false, true-is, key→, key-refl, within→, within←}
 
 mutual
@@ -53,7 +53,7 @@ unfolding meaning under
 meant-under k doneᵛ = refl
 meant-under k (fieldᵛ l v fs) = go (sameKey k l) (meant-under k fs)
   where
-    go : (b : Bool) → meaningAt fs k ≡ meant (under k fs) → pick b (present (meaning v)) (meaningAt fs k) ≡ meant (firstOf b v (under k fs))
+    go : (b : Bool) → meaningAt fs k ≡ meant (under k fs) → pick b (present (meaning v)) (meaningAt fs k) ≡ meant (firstHit b v (under k fs))
     go true e = refl
     go false e = e
 
@@ -76,7 +76,7 @@ at-found : (v : Value) (o : Option Value) → ((w : Value) → Same v w → mean
 at-found v none f t = absurd t
 at-found v (some w) f t = ap present (f w t)
 
-key-sets : (fs gs : ValueFields) (k : Literal) → T (sameKeys (keysᵛ fs) (keysᵛ gs)) → (T (hasKey k (keysᵛ fs)) → meaningAt fs k ≡ meaningAt gs k) → meaningAt fs k ≡ meaningAt gs k
+key-sets : (fs gs : ValueFields) (k : Literal) → T (sameKeySets (keysᵛ fs) (keysᵛ gs)) → (T (hasKey k (keysᵛ fs)) → meaningAt fs k ≡ meaningAt gs k) → meaningAt fs k ≡ meaningAt gs k
 key-sets fs gs k t f = go (hasKey k (keysᵛ fs)) refl
   where
     back : T (hasKey k (keysᵛ gs)) → T (hasKey k (keysᵛ fs))
@@ -98,7 +98,7 @@ mutual
   same→ (arrayᵛ n vs) (objectᵛ m gs) t = absurd t
   same→ (objectᵛ n fs) (literalᵛ m k) t = absurd t
   same→ (objectᵛ n fs) (arrayᵛ m ws) t = absurd t
-  same→ (objectᵛ n fs) (objectᵛ m gs) t = ap anObject (fun-ext (λ k. key-sets fs gs k (and-left (sameKeys (keysᵛ fs) (keysᵛ gs)) (sameFields fs gs) t) (λ h. fields→ fs gs (and-right (sameKeys (keysᵛ fs) (keysᵛ gs)) (sameFields fs gs) t) k h)))
+  same→ (objectᵛ n fs) (objectᵛ m gs) t = ap anObject (fun-ext (λ k. key-sets fs gs k (and-left (sameKeySets (keysᵛ fs) (keysᵛ gs)) (sameFields fs gs) t) (λ h. fields→ fs gs (and-right (sameKeySets (keysᵛ fs) (keysᵛ gs)) (sameFields fs gs) t) k h)))
 
   items→ : (vs ws : Values) → T (sameItems vs ws) → meanings vs ≡ meanings ws
   items→ noneᵛ noneᵛ t = refl
@@ -123,7 +123,7 @@ at-key v (some w) f e = f w (cc)
 object-path : (f g : Literal → Under) → anObject f ≡ anObject g → f ≡ g
 object-path f g e = cc
 
-same-sets : (fs gs : ValueFields) → ((k : Literal) → meaningAt fs k ≡ meaningAt gs k) → T (sameKeys (keysᵛ fs) (keysᵛ gs))
+same-sets : (fs gs : ValueFields) → ((k : Literal) → meaningAt fs k ≡ meaningAt gs k) → T (sameKeySets (keysᵛ fs) (keysᵛ gs))
 same-sets fs gs f = both (within (keysᵛ fs) (keysᵛ gs)) (within (keysᵛ gs) (keysᵛ fs)) (within← (keysᵛ fs) (keysᵛ gs) (λ k h. rw (keys k) at h)) (within← (keysᵛ gs) (keysᵛ fs) (λ k h. rw (sym (keys k)) at h))
   where
     keys : (k : Literal) → hasKey k (keysᵛ fs) ≡ hasKey k (keysᵛ gs)
@@ -152,7 +152,7 @@ mutual
   same← (objectᵛ n fs) (arrayᵛ m ws) p e = false≢true (cc)
   same← (objectᵛ n fs) (objectᵛ m gs) p e =
       let f : (k : Literal) → meaningAt fs k ≡ meaningAt gs k = λ k. ap (λ m. m k) (object-path (λ k. meaningAt fs k) (λ k. meaningAt gs k) e) in
-      both (sameKeys (keysᵛ fs) (keysᵛ gs)) (sameFields fs gs) (same-sets fs gs f) (fields← fs gs (and-left (differing (keysᵛ fs)) (properFields fs) p) (and-right (differing (keysᵛ fs)) (properFields fs) p) (λ k h. f k))
+      both (sameKeySets (keysᵛ fs) (keysᵛ gs)) (sameFields fs gs) (same-sets fs gs f) (fields← fs gs (and-left (differing (keysᵛ fs)) (properFields fs) p) (and-right (differing (keysᵛ fs)) (properFields fs) p) (λ k h. f k))
 
   items← : (vs ws : Values) → T (properAll vs) → meanings vs ≡ meanings ws → T (sameItems vs ws)
   items← noneᵛ noneᵛ p e = tt

@@ -12,7 +12,7 @@ use Rattle.literal.specs.Order.{Order, less, same, more, keyOrder}
 use Rattle.literal.proofs.Orders.{key-order}
 use Rattle.table.specs.Names.{isSame}
 use Rattle.planner.specs.Simple.{sameKey, hasKey, differing}
-use Rattle.value.specs.Value.{within, sameKeys}
+use Rattle.value.specs.Value.{within, sameKeySets}
 
 -- tests
 pub and-left : (a b : Bool) → T (a && b) → T a
@@ -133,14 +133,14 @@ within-length (k ∷ ks) ls d w =
 
 -- two sets of differing keys, told by their sizes and one way
 module _ (ks ls : List Literal) (d : T (differing ks)) (e : T (differing ls)) where
-  pub sets-by-count : length ks ≡ length ls → within ks ls ≡ sameKeys ks ls
+  pub sets-by-count : length ks ≡ length ls → within ks ls ≡ sameKeySets ks ls
   sets-by-count size = go (within ks ls) refl
     where
       go : (b : Bool) → within ks ls ≡ b → b ≡ (b && within ls ks)
       go true p = sym (is-true (by-count ks ls d (true-is p) (omega arith)))
       go false p = refl
 
-  pub sets-uneven : (length ks ≡ length ls → ⊥) → sameKeys ks ls ≡ false
+  pub sets-uneven : (length ks ≡ length ls → ⊥) → sameKeySets ks ls ≡ false
   sets-uneven uneven = is-false (λ t.
       let a = within-length ks ls d (and-left (within ks ls) (within ls ks) t) in
       let b = within-length ls ks e (and-right (within ks ls) (within ls ks) t) in

@@ -21,7 +21,7 @@ use Rattle.planner.specs.code.Passes.{valueNode}
 use Rattle.planner.specs.Simple.{sameKey, hasKey, keysOf, admitted}
 use Rattle.planner.proofs.destructuring.NodeKinds.{Plain, plain-literal, plain-set, plain-other, plain-kind}
 use Rattle.planner.proofs.fields.Objects.{key-literal}
-use Rattle.value.specs.Value.{Value, literalᵛ, ValueFields, doneᵛ, fieldᵛ, isValue, filledField, valueOf, valuesOf, valueFieldsOf, valueAt, keysᵛ, firstOf as firstUnder, under, within, sameKeys, holds, same, sameItems, sameFields}
+use Rattle.value.specs.Value.{Value, literalᵛ, ValueFields, doneᵛ, fieldᵛ, isValue, filledField, valueOf, valuesOf, valueFieldsOf, valueAt, keysᵛ, firstHit, under, within, sameKeySets, holds, same, sameItems, sameFields}
 use Rattle.value.specs.code.Post.{sameLiterals, underFrom, underIn, KeyedObject, ValueNode, SameAsks, SameItemsAsks, SameFieldsAsks}
 use Rattle.value.proofs.Keys.{and-left, and-right, both, is-true, is-false, true-is, sets-by-count, sets-uneven}
 use Rattle.value.proofs.Admitted.{value-keys, array-item, object-value, array-children, value-node, keyed-object, admitted-value}
@@ -70,7 +70,7 @@ unfolding under hasKey keysᵛ
 under-has f k doneᵛ t = absurd t
 under-has f k (fieldᵛ l w gs) t = go (sameKey k l) (λ h. under-has f k gs h) t
   where
-    go : (b : Bool) → (True (holds f (under k gs)) → True (hasKey k (keysᵛ gs))) → True (holds f (firstUnder b w (under k gs))) → True (b || hasKey k (keysᵛ gs))
+    go : (b : Bool) → (True (holds f (under k gs)) → True (hasKey k (keysᵛ gs))) → True (holds f (firstHit b w (under k gs))) → True (b || hasKey k (keysᵛ gs))
     go true rest h = tt
     go false rest h = rest h
 
@@ -97,7 +97,7 @@ module _ (T : Tables) (a b : ℕ) (asks : SameAsks T a b) where
   keyed : (n : ℕ) → ValueNode T n → kindOf (T .nodes) n ≡ 9 → KeyedObject T n
   keyed n v k = keyed-object T (asks .table) n (v .node) false (v .value) k
 
-  uneven-keys : kindOf (T .nodes) a ≡ 9 → kindOf (T .nodes) b ≡ 9 → (countOf (T .nodes) b ≡ countOf (T .nodes) a → ⊥) → sameKeys (keysᵛ (valueFieldsOf (fieldsOf T a))) (keysᵛ (valueFieldsOf (fieldsOf T b))) ≡ false
+  uneven-keys : kindOf (T .nodes) a ≡ 9 → kindOf (T .nodes) b ≡ 9 → (countOf (T .nodes) b ≡ countOf (T .nodes) a → ⊥) → sameKeySets (keysᵛ (valueFieldsOf (fieldsOf T a))) (keysᵛ (valueFieldsOf (fieldsOf T b))) ≡ false
   uneven-keys ka kb uneven =
       let l = keyed a (asks .left) ka in
       let r = keyed b (asks .right) kb in
@@ -106,7 +106,7 @@ module _ (T : Tables) (a b : ℕ) (asks : SameAsks T a b) where
       rw (value-keys (fieldsOf T a), value-keys (fieldsOf T b)) (sets-uneven (keysOf (fieldsOf T a)) (keysOf (fieldsOf T b)) (true-is (l .differ)) (true-is (r .differ)) (λ e. uneven (omega arith)))
 
   even-keys : kindOf (T .nodes) a ≡ 9 → kindOf (T .nodes) b ≡ 9 → countOf (T .nodes) b ≡ countOf (T .nodes) a
-      → within (keysᵛ (valueFieldsOf (fieldsOf T a))) (keysᵛ (valueFieldsOf (fieldsOf T b))) ≡ sameKeys (keysᵛ (valueFieldsOf (fieldsOf T a))) (keysᵛ (valueFieldsOf (fieldsOf T b)))
+      → within (keysᵛ (valueFieldsOf (fieldsOf T a))) (keysᵛ (valueFieldsOf (fieldsOf T b))) ≡ sameKeySets (keysᵛ (valueFieldsOf (fieldsOf T a))) (keysᵛ (valueFieldsOf (fieldsOf T b)))
   even-keys ka kb even =
       let l = keyed a (asks .left) ka in
       let r = keyed b (asks .right) kb in
@@ -214,11 +214,11 @@ module _ (T : Tables) (a b : ℕ) (asks : SameAsks T a b) where
                 e ∙ (go (sameFields (valueFieldsOf (fieldsOf T a)) (valueFieldsOf (fieldsOf T b))) refl
                 ∙ sym (same-as _ _ (expr-object T (asks .table) a (asks .left .node) left-object) (expr-object T (asks .table) b (asks .right .node) right-object)))
               where
-                go : (c : Bool) → sameFields (valueFieldsOf (fieldsOf T a)) (valueFieldsOf (fieldsOf T b)) ≡ c → c ≡ (sameKeys (keysᵛ (valueFieldsOf (fieldsOf T a))) (keysᵛ (valueFieldsOf (fieldsOf T b))) && c)
+                go : (c : Bool) → sameFields (valueFieldsOf (fieldsOf T a)) (valueFieldsOf (fieldsOf T b)) ≡ c → c ≡ (sameKeySets (keysᵛ (valueFieldsOf (fieldsOf T a))) (keysᵛ (valueFieldsOf (fieldsOf T b))) && c)
                 go true p =
                     let w : within (keysᵛ (valueFieldsOf (fieldsOf T a))) (keysᵛ (valueFieldsOf (fieldsOf T b))) ≡ true = is-true (fields-within (valueFieldsOf (fieldsOf T a)) (valueFieldsOf (fieldsOf T b)) (true-is p)) in
                     sym (ap (λ (x : Bool). x && true) (sym (even-keys left-object right-object (omega arith)) ∙ w))
-                go false p = sym (and-false (sameKeys (keysᵛ (valueFieldsOf (fieldsOf T a))) (keysᵛ (valueFieldsOf (fieldsOf T b)))))
+                go false p = sym (and-false (sameKeySets (keysᵛ (valueFieldsOf (fieldsOf T a))) (keysᵛ (valueFieldsOf (fieldsOf T b)))))
 
 -- items in turn
 pub record Pairing (T : Tables) (parent at from left i : ℕ) : Type 0 where

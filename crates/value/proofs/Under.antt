@@ -23,7 +23,7 @@ use Rattle.planner.specs.code.Passes.{keyNode, valueNode}
 use Rattle.table.specs.Names.{isSame}
 use Rattle.planner.specs.Simple.{sameKey, hasKey, differing, addKey, keysOf}
 use Rattle.planner.proofs.fields.Objects.{key-literal}
-use Rattle.value.specs.Value.{filledField, valueOf, valueFieldsOf, valueAt, firstOf as firstUnder, under, within, sameKeys}
+use Rattle.value.specs.Value.{filledField, valueOf, valueFieldsOf, valueAt, firstHit, under, within, sameKeySets}
 use Rattle.value.specs.code.Post.{ChildrenAsks, sameLiterals, underFrom, underIn, KeyedObject, KeySetsAsks}
 use Rattle.value.proofs.Keys.{or-left, or-right, is-true, is-false, true-is, key→, key-refl, sets-by-count, sets-uneven}
 use Rattle.value.proofs.Admitted.{object-children, key-node}
@@ -222,7 +222,7 @@ module _ (T : Tables) where
       ∙ sym (ap (λ (x : Option Literal). valueAt T (cond (sameLiterals (Option.some l) x) (childAt (T .children) (at + 1)) (underFrom T (Option.some l) (at + 2) k))) p))
     where
       go : (b : Bool) → 1 ≤ childAt (T .children) (at + 1) → under l (valueFieldsOf (fields (expr T) (T .children) (at + 2) k)) ≡ valueAt T (underFrom T (Option.some l) (at + 2) k)
-          → firstUnder b (valueOf (expr T (childAt (T .children) (at + 1)))) (under l (valueFieldsOf (fields (expr T) (T .children) (at + 2) k))) ≡ valueAt T (cond b (childAt (T .children) (at + 1)) (underFrom T (Option.some l) (at + 2) k))
+          → firstHit b (valueOf (expr T (childAt (T .children) (at + 1)))) (under l (valueFieldsOf (fields (expr T) (T .children) (at + 2) k))) ≡ valueAt T (cond b (childAt (T .children) (at + 1)) (underFrom T (Option.some l) (at + 2) k))
       go true low r = let z = ne-eqb (childAt (T .children) (at + 1)) 0 (λ e. omega arith) in rw z
       go false low r = r
 
@@ -270,7 +270,7 @@ module _ {T : Tables} {a b : ℕ} (asks : KeySetsAsks T a b) where
   unfolding own-keys
   long n o = keys-length T (firstOf (T .nodes) n) (countOf (T .nodes) n) (object-fielded o)
 
-  pub sizes-differ : {size other : ℕ} → size ≡ countOf (T .nodes) a → other ≡ countOf (T .nodes) b → (other ≡ size → ⊥) → false ≡ sameKeys (keysOf (fieldsOf T a)) (keysOf (fieldsOf T b))
+  pub sizes-differ : {size other : ℕ} → size ≡ countOf (T .nodes) a → other ≡ countOf (T .nodes) b → (other ≡ size → ⊥) → false ≡ sameKeySets (keysOf (fieldsOf T a)) (keysOf (fieldsOf T b))
   unfolding own-keys
   sizes-differ is of uneven =
       let p = long a (asks .left) in
@@ -321,7 +321,7 @@ module _ {T : Tables} {a b first size i : ℕ} (go : Covering T a b first size i
           ∙ (ap (λ (x : Bool). x && within (keysOf (fields (expr T) (T .children) (first + i * 2 + 2) (size - (i + 1)))) (keysOf (fieldsOf T b))) found
           ∙ ap (λ (x : ℕ). not c && within (keysOf (fields (expr T) (T .children) x (size - (i + 1)))) (keysOf (fieldsOf T b))) s))
 
-      decided : within (keysOf (fieldsOf T a)) (keysOf (fieldsOf T b)) ≡ sameKeys (keysOf (fieldsOf T a)) (keysOf (fieldsOf T b))
+      decided : within (keysOf (fieldsOf T a)) (keysOf (fieldsOf T b)) ≡ sameKeySets (keysOf (fieldsOf T a)) (keysOf (fieldsOf T b))
       unfolding own-keys
       decided =
           let p = long (go .asks) a (go .asks .left) in
@@ -330,7 +330,7 @@ module _ {T : Tables} {a b first size i : ℕ} (go : Covering T a b first size i
           let even = go .even in
           sets-by-count (keysOf (fieldsOf T a)) (keysOf (fieldsOf T b)) (differs (go .asks) a (go .asks .left)) (differs (go .asks) b (go .asks .right)) (omega arith)
 
-      pub covering-fails : value ≡ 0 → false ≡ sameKeys (keysOf (fieldsOf T a)) (keysOf (fieldsOf T b))
+      pub covering-fails : value ≡ 0 → false ≡ sameKeySets (keysOf (fieldsOf T a)) (keysOf (fieldsOf T b))
       covering-fails z = sym (here true (eq-eqb value 0 z)) ∙ (go .same ∙ decided)
 
       pub covering-on : (value ≡ 0 → ⊥) → Covering T a b first size (i + 1)
@@ -343,7 +343,7 @@ module _ {T : Tables} {a b first size i : ℕ} (go : Covering T a b first size i
         same = sym (here false (ne-eqb value 0 nz)) ∙ go .same;
       }
 
-  pub covering-ends : size ≤ i → true ≡ sameKeys (keysOf (fieldsOf T a)) (keysOf (fieldsOf T b))
+  pub covering-ends : size ≤ i → true ≡ sameKeySets (keysOf (fieldsOf T a)) (keysOf (fieldsOf T b))
   unfolding own-keys within fields keysOf
   covering-ends le =
       let p = long (go .asks) a (go .asks .left) in

@@ -73,21 +73,21 @@ unfoldable pub within : List Literal → List Literal → Bool
 within [] ls = true
 within (k ∷ ks) ls = hasKey k ls && within ks ls
 
-abbrev pub sameKeys : List Literal → List Literal → Bool
-sameKeys ks ls = within ks ls && within ls ks
+abbrev pub sameKeySets : List Literal → List Literal → Bool
+sameKeySets ks ls = within ks ls && within ls ks
 
 -- An object's keys, and the value under a key.
 unfoldable pub keysᵛ : ValueFields → List Literal
 keysᵛ doneᵛ = []
 keysᵛ (fieldᵛ k v fs) = k ∷ keysᵛ fs
 
-abbrev pub firstOf : Bool → Value → Option Value → Option Value
-firstOf true v o = some v
-firstOf false v o = o
+abbrev pub firstHit : Bool → Value → Option Value → Option Value
+firstHit true v o = some v
+firstHit false v o = o
 
 unfoldable pub under : Literal → ValueFields → Option Value
 under k doneᵛ = none
-under k (fieldᵛ l v fs) = firstOf (sameKey k l) v (under k fs)
+under k (fieldᵛ l v fs) = firstHit (sameKey k l) v (under k fs)
 
 -- In each object of the value the keys differ.
 unfoldable mutual
@@ -122,7 +122,7 @@ unfoldable mutual
   same (arrayᵛ n vs) (objectᵛ m gs) = false
   same (objectᵛ n fs) (literalᵛ m k) = false
   same (objectᵛ n fs) (arrayᵛ m ws) = false
-  same (objectᵛ n fs) (objectᵛ m gs) = sameKeys (keysᵛ fs) (keysᵛ gs) && sameFields fs gs
+  same (objectᵛ n fs) (objectᵛ m gs) = sameKeySets (keysᵛ fs) (keysᵛ gs) && sameFields fs gs
 
   pub sameItems : Values → Values → Bool
   sameItems noneᵛ noneᵛ = true

@@ -11,7 +11,7 @@ use Rattle.base.specs.Refusal.{overLimit, layoutBroken}
 use Rattle.base.specs.Lists.{part, allFrom}
 use Rattle.columns.specs.Columns.{readColumn, columnBytes, columnAt}
 use Rattle.sheet.specs.declared.header.Counts.{Counts}
-use Rattle.sheet.specs.Lines.{numberOf, numberAt, columnPlace, lineLength, isLine}
+use Rattle.sheet.specs.Lines.{numberOf, columnNumber, columnPlace, lineLength, isLine}
 use Rattle.sheet.specs.Sheet.{line1, countsOf, withinLimits, layoutOk, sheetOf, Parsed, unparsed, parsed, parsedBy, parse}
 use Rattle.sheet.specs.Listing.{linesBytes, linesOfSheet, listingOf}
 use Rattle.sheet.specs.Laws.{CutShort}
@@ -28,8 +28,8 @@ module _ (xs ys : List ℕ) (long : lineLength 6 ≤ length xs) where
       ap (λ (l : List ℕ). take 6 l) (drop-append-le at xs ys (omega arith)) ∙ take-append-le 6 (drop at xs) ys rest in
       rw (le-leb (at + 6) (length xs) inside, le-leb (at + 6) (length (xs ++ ys)) more) (ap readColumn same)
 
-  number-same : (at : ℕ) → at + 6 ≤ length xs → numberAt xs at ≡ numberAt (xs ++ ys) at
-  unfolding numberAt
+  number-same : (at : ℕ) → at + 6 ≤ length xs → columnNumber xs at ≡ columnNumber (xs ++ ys) at
+  unfolding columnNumber
   number-same at inside = sym (ap numberOf (column-same at inside))
 
   counts-same : countsOf xs ≡ countsOf (xs ++ ys)

@@ -19,7 +19,7 @@ use Rattle.columns.proofs.read.Six.{column-inside}
 use Rattle.base.specs.Lists.{allFrom, tabulate}
 use Rattle.table.proofs.tests.Scan.{Scan, scan-start, scan-ends, all-on, all-fails}
 use Rattle.planner.proofs.buffer.Filling.{filling-next, length-tabulate, getD-tabulate}
-use Rattle.sheet.specs.Lines.{numberAt, isLineFeed, columnOk, isLine, lineLength, lineOk, linesOk, signedLength, numberLineLength, isNumberLine, numberLineOk, numberLinesOk, wordAt, numberWord}
+use Rattle.sheet.specs.Lines.{columnNumber, isLineFeed, columnOk, isLine, lineLength, lineOk, linesOk, signedLength, numberLineLength, isNumberLine, numberLineOk, numberLinesOk, wordAt, numberWord}
 use Rattle.sheet.specs.code.Post.{Inside, WordRead, Filled, Read, LinesAsks, LineAsks, NumbersAsks, NumberAsks}
 
 -- a column, by what was read
@@ -29,7 +29,7 @@ module _ (sheet : List ℕ) (at w : ℕ) (before : List ℕ) (inside : at + 6 �
   is = column-inside sheet at inside said
 
   pub word-read : {n : ℕ} → column ≡ Column.Number n → WordRead sheet at w before (set before w n) true
-  unfolding numberAt
+  unfolding columnNumber
   word-read e = record { ok = rw (← is, e); stored = λ _. rw (← is, e) }
 
   pub word-none : {after : List ℕ} → column ≡ Column.Unreadable → WordRead sheet at w before after false
@@ -72,7 +72,7 @@ filled-first {f} {count} {array} go le =
 
 -- the words of line i
 module _ (sheet : List ℕ) (at line columns i : ℕ) where
-  pub word-in-line : (j : ℕ) → j < columns → wordAt sheet at line columns (i * columns + j) ≡ numberAt sheet (at + i * line + j * 6)
+  pub word-in-line : (j : ℕ) → j < columns → wordAt sheet at line columns (i * columns + j) ≡ columnNumber sheet (at + i * line + j * 6)
   unfolding wordAt
   word-in-line j lt =
       let d : (i * columns + j) / columns ≡ i = mul-add-div-right (omega arith) i j ∙ (ap (λ (q : ℕ). i + q) (div-eq-of-lt lt) ∙ omega arith) in
@@ -146,7 +146,7 @@ module _ {sheet : List ℕ} {at columns i : ℕ} {before : List ℕ} (asked : Li
             (record {
               scan = all-on (go .scan) lt (read .ok) t;
               filled = filled-on (go .filled) word-room (sym (word-in-line sheet at (lineLength columns) columns i j lt));
-              long = length-set here (i * columns + j) (numberAt sheet (at + i * lineLength columns + j * 6)) ∙ go .long;
+              long = length-set here (i * columns + j) (columnNumber sheet (at + i * lineLength columns + j * 6)) ∙ go .long;
             })
 
         pub line-fails : not r ≡ true → Read (wordAt sheet at (lineLength columns) columns) (i * columns + columns) (lineOk sheet at columns i) after false

@@ -19,7 +19,7 @@ use Rattle.table.specs.Tables.{recordWord, startOf, endOf}
 use Rattle.planner.proofs.buffer.Filling.{length-tabulate, getD-tabulate}
 use Rattle.sheet.specs.declared.header.Counts.{Counts}
 use Rattle.sheet.specs.declared.header.Places.{Places}
-use Rattle.sheet.specs.Lines.{numberAt, numberIn, lineLength, wordAt}
+use Rattle.sheet.specs.Lines.{columnNumber, numberIn, lineLength, wordAt}
 use Rattle.sheet.specs.Sheet.{line1, nodesPlace, nodesOf, textPlace}
 use Rattle.sheet.specs.Source.{textByte, span, spanOf, spanIn}
 use Rattle.sheet.specs.code.Header.{placesOf, NumberRead, CountsRead}
@@ -28,12 +28,12 @@ use Rattle.sheet.proofs.lines.LineTests.{word-in-line}
 
 -- columns
 module _ (sheet : List ℕ) (at : ℕ) {column : Column} (is : column ≡ columnAt sheet at) where
-  pub number-some : {n : ℕ} → column ≡ Column.Number n → Fits w32 n → NumberRead (numberAt sheet at) n
-  unfolding numberAt
+  pub number-some : {n : ℕ} → column ≡ Column.Number n → Fits w32 n → NumberRead (columnNumber sheet at) n
+  unfolding columnNumber
   number-some e f = record { is = rw (← is, e); below = f .fits }
 
-  pub number-none : column ≡ Column.Unreadable → NumberRead (numberAt sheet at) 0
-  unfolding numberAt
+  pub number-none : column ≡ Column.Unreadable → NumberRead (columnNumber sheet at) 0
+  unfolding columnNumber
   number-none e = record { is = rw (← is, e); below = omega arith }
 
 -- line 1
@@ -61,7 +61,7 @@ module _ (sheet : List ℕ) (c : Counts) (node k : ℕ) where
         let long = length-tabulate (wordAt sheet nodesPlace (lineLength 5) 5) 0 (c .nodes * 5) in
         record { is = sym (word-is ∙ List·getD-eq-default (nodesOf sheet c) 0 (omega arith)); below = omega arith }
 
-    pub node-there : node - 1 < c .nodes → {r : ℕ} → NumberRead (numberAt sheet (nodesPlace + (node - 1) * lineLength 5 + k * 6)) r → NumberRead (recordWord 5 k (nodesOf sheet c) node) r
+    pub node-there : node - 1 < c .nodes → {r : ℕ} → NumberRead (columnNumber sheet (nodesPlace + (node - 1) * lineLength 5 + k * 6)) r → NumberRead (recordWord 5 k (nodesOf sheet c) node) r
     node-there lt read =
         let f = wordAt sheet nodesPlace (lineLength 5) 5 in
         let w = (node - 1) * 5 + k in

@@ -13,7 +13,7 @@ use Rattle.table.proofs.tests.Bools.{and-true}
 use Rattle.operation.specs.declared.numbers.OperationNumbers.{OperationNumbers}
 use Rattle.sheet.specs.declared.header.Counts.{Counts}
 use Rattle.sheet.specs.Lines.{linesOk, numberLinesOk}
-use Rattle.sheet.specs.Sheet.{nodesPlace, childrenPlace, numbersPlace, namesPlace, markWord, marksOk, marksOf, operationNumbers, bytesOf, scopeOf}
+use Rattle.sheet.specs.Sheet.{nodesPlace, childrenPlace, numbersPlace, namesPlace, markWord, marksOk, marksOf, operationNumbers, byteScopeOf, scopeOf}
 use Rattle.sheet.specs.code.Header.{tablesOk}
 use Rattle.sheet.specs.code.Post.{scopeIn}
 
@@ -40,13 +40,13 @@ module _ (sheet : List ℕ) (c : Counts) (good : tablesOk sheet c ≡ true) wher
       let e₃ = and-true (numberLinesOk sheet (numbersPlace c) (c .numbers)) _ e₂ .1 in
       and-true (linesOk sheet (namesPlace c) 3 (c .names)) _ e₃ .1
 
-  good-small : (o : OperationNumbers) (n : ℕ) → Bytes.marksOk (bytesOf o (marksOf sheet c ++ replicate n 0)) ≡ true
+  good-small : (o : OperationNumbers) (n : ℕ) → Bytes.marksOk (byteScopeOf o (marksOf sheet c ++ replicate n 0)) ≡ true
   unfolding Bytes.marksOk
   good-small o n = small-append (marksOf sheet c) (replicate n 0) (small-tabulated (markWord sheet (namesPlace c)) 0 (c .names) ∙ good-marks) (small-zeros n)
 
   pub scope-is : {o : OperationNumbers} {marks : List ℕ} → o ≡ operationNumbers sheet → marks ≡ marksOf sheet c ++ replicate (128 - length (marksOf sheet c)) 0
       → scopeIn o marks ≡ scopeOf (operationNumbers sheet) (marksOf sheet c)
-  scope-is e f = ap₂ scopeIn e f ∙ accepted (bytesOf (operationNumbers sheet) (marksOf sheet c ++ replicate (128 - length (marksOf sheet c)) 0)) (good-small (operationNumbers sheet) (128 - length (marksOf sheet c)))
+  scope-is e f = ap₂ scopeIn e f ∙ accepted (byteScopeOf (operationNumbers sheet) (marksOf sheet c ++ replicate (128 - length (marksOf sheet c)) 0)) (good-small (operationNumbers sheet) (128 - length (marksOf sheet c)))
     where
       accepted : (b : ByteScope) → Bytes.marksOk b ≡ true → converted b ≡ ofBytes b
       accepted b ok = simp ok

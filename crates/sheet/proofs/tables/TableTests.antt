@@ -10,7 +10,7 @@ use lib.ListN.{length, getD}
 use Rattle.base.specs.Lists.{allFrom}
 use Rattle.table.proofs.tests.Bools.{told-no, told-yes}
 use Rattle.sheet.specs.declared.header.Header.{Header}
-use Rattle.sheet.specs.Lines.{numberAt, columnPlace, numberIn, lineLength, linesOk, numberLinesOk, wordAt, numberWord}
+use Rattle.sheet.specs.Lines.{columnNumber, columnPlace, numberIn, lineLength, linesOk, numberLinesOk, wordAt, numberWord}
 use Rattle.sheet.specs.Sheet.{markWord, markOk, marksOk}
 use Rattle.sheet.specs.code.Header.{tablesOk}
 use Rattle.sheet.specs.code.Post.{Filled, Read, LinesAsks, NumbersAsks, nameWord, rowMark, rowMarkOk, NamesAsks, MarksAsks, Overlaid, MarksRead, namesOk, NamesRead, TablesAsks, TablesRead}
@@ -32,7 +32,7 @@ module _ (sheet : List ℕ) (at count : ℕ) {rows : List ℕ} (words : Filled (
   unfolding wordAt
   mark-word x lt =
       let e : columnPlace (at + x * lineLength 3) 2 ≡ columnPlace (columnPlace at 2 + x * lineLength 3) 0 = omega arith in
-      row-word x 2 lt (omega arith) ∙ rw (div-one x, mod-one x) (ap (numberAt sheet) e)
+      row-word x 2 lt (omega arith) ∙ rw (div-one x, mod-one x) (ap (columnNumber sheet) e)
 
   marks-tested : allFrom (rowMarkOk rows) 0 count ≡ marksOk sheet at count
   unfolding allFrom

@@ -21,8 +21,8 @@ use Rattle.operation.specs.Rows.{rowLine}
 use Rattle.sheet.specs.declared.space.Tried.{Tried}
 use Rattle.sheet.specs.declared.space.Tried.the-variants as Tried
 use Rattle.base.specs.Lent.{Slices}
-use Rattle.sheet.specs.Lines.{isReadable, numberAt, lineLength, numberLineLength, linesOk, wordAt, numberWord}
-use Rattle.sheet.specs.Sheet.{bytesOf, nodesPlace, markWord, childrenPlace, numbersPlace, namesPlace, marksOk, parse}
+use Rattle.sheet.specs.Lines.{isReadable, columnNumber, lineLength, numberLineLength, linesOk, wordAt, numberWord}
+use Rattle.sheet.specs.Sheet.{byteScopeOf, nodesPlace, markWord, childrenPlace, numbersPlace, namesPlace, marksOk, parse}
 use Rattle.sheet.specs.Outcome.{outcomeOfSheet, PlannedInto}
 use Rattle.sheet.specs.Listing.{Listing, followed, alone, linesBytes, Printed}
 use Rattle.sheet.specs.code.Header.{placesOf, Limited, tablesOk, Headed}
@@ -34,7 +34,7 @@ pub record Inside (at line count : ℕ) : Type 0 where
 -- what was read of a column, into word w
 pub record WordRead (sheet : List ℕ) (at w : ℕ) (before after : List ℕ) (r : Bool) : Type 0 where
   pub ok : r ≡ isReadable (columnAt sheet at)
-  pub stored : r ≡ true → after ≡ set before w (numberAt sheet at)
+  pub stored : r ≡ true → after ≡ set before w (columnNumber sheet at)
 
 -- the first words of an array
 pub record Filled (f : ℕ → ℕ) (count : ℕ) (array : List ℕ) : Type 0 where
@@ -129,7 +129,7 @@ pub record EntriesAsks (out plan : List ℕ) (count : ℕ) : Type 0 where
 
 -- the scope of a sheet, by its marks: empty where they are refused, which a good layout rules out
 abbrev pub scopeIn : OperationNumbers → List ℕ → Scope
-scopeIn o marks = converted (bytesOf o marks)
+scopeIn o marks = converted (byteScopeOf o marks)
 
 -- the words of a plan in the full space
 abbrev pub planWords : ℕ

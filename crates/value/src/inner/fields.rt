@@ -3,7 +3,7 @@ ghost use Rattle.table.specs.Lent.{given, lent, lentLiteral};
 ghost use mathlib.Core.Path.{_≡_};
 ghost use Rattle.table.specs.Decode.{literalAt, fieldsOf};
 ghost use Rattle.planner.specs.Simple.{keysOf};
-ghost use Rattle.value.specs.Value.{sameKeys};
+ghost use Rattle.value.specs.Value.{sameKeySets};
 ghost use Rattle.value.specs.code.Post.{sameLiterals, ChildrenAsks, underFrom, underIn, KeyedObject, KeySetsAsks};
 use literal::Comparison;
 use table::reading::child_at;
@@ -108,7 +108,7 @@ pub fn same_key_sets<'a>(
     b: u32,
 ) -> bool
     requires { ⌜ KeySetsAsks (given nodes children numbers names strings text) a b ⌝ }
-    ensures { λ r. let T = lent nodes children numbers names strings text in ⌜ r ≡ sameKeys (keysOf (fieldsOf T a)) (keysOf (fieldsOf T b)) ⌝ }
+    ensures { λ r. let T = lent nodes children numbers names strings text in ⌜ r ≡ sameKeySets (keysOf (fieldsOf T a)) (keysOf (fieldsOf T b)) ⌝ }
 {
     let first = first_of(nodes, a) as usize;
     let count = count_of(nodes, a) as usize;
