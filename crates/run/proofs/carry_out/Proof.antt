@@ -4,23 +4,8 @@ use borrow.Author.Needs.{needs}
 use Rattle.run.proofs.carry_out.Statement.{statement}
 use Rattle.run.proofs.carry_out.Tie as tie
 
-slice-aggregate-plan-pattern : tie.Need-slice-aggregate-plan-pattern
-slice-aggregate-plan-pattern c = search needs
-
 plan-pattern-requires : tie.Need-plan-pattern-requires
 plan-pattern-requires c κs = search (ask-plan, needs)
-
-slice-aggregate-copy-entries : tie.Need-slice-aggregate-copy-entries
-slice-aggregate-copy-entries c = search needs
-
-copy-entries-requires : tie.Need-copy-entries-requires
-copy-entries-requires c κs = search needs
-
-close-requires : tie.Need-close-requires
-close-requires c κs = search needs
-
-same-length : tie.Need-same-length
-same-length c = search needs
 
 returns : tie.Need-returns
 returns c =
@@ -32,12 +17,6 @@ match-values-requires c κs =
     let s = c .before .before .before .before .before .before .before .before .before .before .before .before .before .before .before .before .before .before .before .before .before .before .before .before .before in
     ask-values _ _ _ _ _ (s .pre) (c .before .before .before .before .before .before .before .before .before .before .before .before .before .before .plan-pattern .ensures .0)
 
-same-length-2 : tie.Need-same-length-2
-same-length-2 c = search needs
-
-same-length-3 : tie.Need-same-length-3
-same-length-3 c = search needs
-
 returns-2 : tie.Need-returns-2
 returns-2 c =
     let s = c .before .before .before .before .before .before .before .before .before .before .before .before .before .before .before .before .before .before .before .before .before .before .before .before .before .before .before .before in
@@ -47,14 +26,14 @@ pub carry-out-spec : {M : Type 1} → statement M
 carry-out-spec =
     tie.close
     (tie.spec
-    slice-aggregate-plan-pattern
+    (λ c. search needs)
     plan-pattern-requires
-    slice-aggregate-copy-entries
-    copy-entries-requires
-    close-requires
-    same-length
+    (λ c. search needs)
+    (λ c κs. search needs)
+    (λ c κs. search needs)
+    (λ c. search needs)
     returns
     match-values-requires
-    same-length-2
-    same-length-3
+    (λ c. search needs)
+    (λ c. search needs)
     returns-2)

@@ -13,23 +13,11 @@ abbrev μ-loop : tie.MeasureT-loop
 loop-holds : tie.Need-loop-holds Inv-loop μ-loop
 loop-holds c = search (listing-start, needs)
 
-mul-is-listed-value : tie.Need-mul-is-listed-value Inv-loop μ-loop
-mul-is-listed-value c = search needs
-
 shared-slice-read-is-listed-value : tie.Need-shared-slice-read-is-listed-value Inv-loop μ-loop
 shared-slice-read-is-listed-value c = search (listing-inside, needs)
 
-is-listed-value-requires : tie.Need-is-listed-value-requires Inv-loop μ-loop
-is-listed-value-requires c κs = search needs
-
 returns : tie.Need-returns Inv-loop μ-loop
 returns c = search (listing-fails, needs)
-
-add-i : tie.Need-add-i Inv-loop μ-loop
-add-i c = search needs
-
-loop-less : tie.Need-loop-less Inv-loop μ-loop
-loop-less c = search needs
 
 loop-again : tie.Need-loop-again Inv-loop μ-loop
 loop-again c = search (listing-on, needs)
@@ -44,11 +32,11 @@ values-listed-spec =
     Inv-loop
     μ-loop
     loop-holds
-    mul-is-listed-value
+    (λ c. search needs)
     shared-slice-read-is-listed-value
-    is-listed-value-requires
+    (λ c κs. search needs)
     returns
-    add-i
-    loop-less
+    (λ c. search needs)
+    (λ c. search needs)
     loop-again
     returns-2)

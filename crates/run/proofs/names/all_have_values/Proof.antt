@@ -14,20 +14,11 @@ abbrev μ-loop : tie.MeasureT-loop
 loop-holds : tie.Need-loop-holds Inv-loop μ-loop
 loop-holds c = search (having-start, needs)
 
-add-has-value : tie.Need-add-has-value Inv-loop μ-loop
-add-has-value c = search needs
-
 cast-has-value : tie.Need-cast-has-value Inv-loop μ-loop
 cast-has-value c = search (having-small, needs)
 
-mul-has-value : tie.Need-mul-has-value Inv-loop μ-loop
-mul-has-value c = search needs
-
 element-copy-out-has-value : tie.Need-element-copy-out-has-value Inv-loop μ-loop
 element-copy-out-has-value c = search (having-small, needs)
-
-mul-has-value-2 : tie.Need-mul-has-value-2 Inv-loop μ-loop
-mul-has-value-2 c = search needs
 
 shared-slice-read-has-value : tie.Need-shared-slice-read-has-value Inv-loop μ-loop
 shared-slice-read-has-value c = search (having-listed, needs)
@@ -37,12 +28,6 @@ has-value-requires c κs = search (having-name, needs)
 
 returns : tie.Need-returns Inv-loop μ-loop
 returns c = search (having-fails, needs)
-
-add-i : tie.Need-add-i Inv-loop μ-loop
-add-i c = search needs
-
-loop-less : tie.Need-loop-less Inv-loop μ-loop
-loop-less c = search needs
 
 loop-again : tie.Need-loop-again Inv-loop μ-loop
 loop-again c = search (having-on, needs)
@@ -57,15 +42,15 @@ all-have-values-spec =
     Inv-loop
     μ-loop
     loop-holds
-    add-has-value
+    (λ c. search needs)
     cast-has-value
-    mul-has-value
+    (λ c. search needs)
     element-copy-out-has-value
-    mul-has-value-2
+    (λ c. search needs)
     shared-slice-read-has-value
     has-value-requires
     returns
-    add-i
-    loop-less
+    (λ c. search needs)
+    (λ c. search needs)
     loop-again
     returns-2)

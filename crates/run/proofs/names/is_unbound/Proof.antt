@@ -3,18 +3,6 @@ use borrow.Author.Needs.{needs}
 use Rattle.run.proofs.names.is_unbound.Statement.{statement}
 use Rattle.run.proofs.names.is_unbound.Tie as tie
 
-is-var-unbound-requires : tie.Need-is-var-unbound-requires
-is-var-unbound-requires c κs = search needs
-
-enum-told : tie.Need-enum-told
-enum-told c = search needs
-
-enum-told-2 : tie.Need-enum-told-2
-enum-told-2 c = search needs
-
-enum-told-3 : tie.Need-enum-told-3
-enum-told-3 c = search needs
-
 returns : tie.Need-returns
 returns c = search (unbound-yes, needs)
 
@@ -28,10 +16,10 @@ pub is-unbound-spec : {M : Type 1} → statement M
 is-unbound-spec =
     tie.close
     (tie.spec
-    is-var-unbound-requires
-    enum-told
-    enum-told-2
-    enum-told-3
+    (λ c κs. search needs)
+    (λ c. search needs)
+    (λ c. search needs)
+    (λ c. search needs)
     returns
     returns-2
     returns-3)

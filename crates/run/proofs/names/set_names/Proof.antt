@@ -13,38 +13,17 @@ abbrev μ-loop : tie.MeasureT-loop
 loop-holds : tie.Need-loop-holds Inv-loop μ-loop
 loop-holds c = search (setting-start, needs)
 
-mul-old : tie.Need-mul-old Inv-loop μ-loop
-mul-old c = search needs
-
 slice-read-old : tie.Need-slice-read-old Inv-loop μ-loop
 slice-read-old c = search (setting-inside, needs)
-
-mul-new-value : tie.Need-mul-new-value Inv-loop μ-loop
-mul-new-value c = search needs
 
 element-copy-out-new-value : tie.Need-element-copy-out-new-value Inv-loop μ-loop
 element-copy-out-new-value c = search (setting-small, needs)
 
-mul-new-value-2 : tie.Need-mul-new-value-2 Inv-loop μ-loop
-mul-new-value-2 c = search needs
-
 element-copy-out-new-value-2 : tie.Need-element-copy-out-new-value-2 Inv-loop μ-loop
 element-copy-out-new-value-2 c = search (setting-small, needs)
 
-new-value-requires : tie.Need-new-value-requires Inv-loop μ-loop
-new-value-requires c κs = search needs
-
-mul-values : tie.Need-mul-values Inv-loop μ-loop
-mul-values c = search needs
-
 slice-write-values : tie.Need-slice-write-values Inv-loop μ-loop
 slice-write-values c = search (setting-inside, needs)
-
-add-i : tie.Need-add-i Inv-loop μ-loop
-add-i c = search needs
-
-loop-less : tie.Need-loop-less Inv-loop μ-loop
-loop-less c = search needs
 
 loop-again : tie.Need-loop-again Inv-loop μ-loop
 loop-again c = search (setting-on, needs)
@@ -62,17 +41,17 @@ set-names-spec =
     Inv-loop
     μ-loop
     loop-holds
-    mul-old
+    (λ c. search needs)
     slice-read-old
-    mul-new-value
+    (λ c. search needs)
     element-copy-out-new-value
-    mul-new-value-2
+    (λ c. search needs)
     element-copy-out-new-value-2
-    new-value-requires
-    mul-values
+    (λ c κs. search needs)
+    (λ c. search needs)
     slice-write-values
-    add-i
-    loop-less
+    (λ c. search needs)
+    (λ c. search needs)
     loop-again
     same-length
     returns)

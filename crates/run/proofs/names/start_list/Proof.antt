@@ -13,14 +13,8 @@ abbrev μ-loop : tie.MeasureT-loop
 loop-holds : tie.Need-loop-holds Inv-loop μ-loop
 loop-holds c = search (starting, needs)
 
-add-start-value : tie.Need-add-start-value Inv-loop μ-loop
-add-start-value c = search needs
-
 cast-start-value : tie.Need-cast-start-value Inv-loop μ-loop
 cast-start-value c = search (starting-small, needs)
-
-mul-start-value : tie.Need-mul-start-value Inv-loop μ-loop
-mul-start-value c = search needs
 
 shared-slice-read-start-value : tie.Need-shared-slice-read-start-value Inv-loop μ-loop
 shared-slice-read-start-value c = search (starting-listed, needs)
@@ -28,17 +22,8 @@ shared-slice-read-start-value c = search (starting-listed, needs)
 start-value-requires : tie.Need-start-value-requires Inv-loop μ-loop
 start-value-requires c κs = search (starting-name, needs)
 
-mul-list : tie.Need-mul-list Inv-loop μ-loop
-mul-list c = search needs
-
 array-write-list : tie.Need-array-write-list Inv-loop μ-loop
 array-write-list c = search (starting-small, needs)
-
-add-i : tie.Need-add-i Inv-loop μ-loop
-add-i c = search needs
-
-loop-less : tie.Need-loop-less Inv-loop μ-loop
-loop-less c = search needs
 
 loop-again : tie.Need-loop-again Inv-loop μ-loop
 loop-again c = search (starting-on, needs)
@@ -53,14 +38,14 @@ start-list-spec =
     Inv-loop
     μ-loop
     loop-holds
-    add-start-value
+    (λ c. search needs)
     cast-start-value
-    mul-start-value
+    (λ c. search needs)
     shared-slice-read-start-value
     start-value-requires
-    mul-list
+    (λ c. search needs)
     array-write-list
-    add-i
-    loop-less
+    (λ c. search needs)
+    (λ c. search needs)
     loop-again
     returns)
