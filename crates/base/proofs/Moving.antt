@@ -8,7 +8,7 @@ use borrow.Author.Tests.{le-leb, lt-leb, lt-ltb, le-ltb}
 use lib.Dec.{leb}
 use lib.ListN.{length, getD, take, drop, set, length-append, length-set, length-drop, take-append-drop, List·getD-append}
 use lib.Seq.{take-at, drop-at, take-suc-set, drop-cons, getD-take, getD-drop, getD-at, getD-append-add, set-append-left, length-take-le, take-set-lt}
-use Rattle.base.specs.code.Insertion.{pushed, moved}
+use Rattle.base.specs.Insertion.{pushed, moved}
 
 -- the move: what stood from q to `total` is moved
 pub record Moving (before : List ℕ) (place total : ℕ) (here : List ℕ) (q : ℕ) : Type 0 where

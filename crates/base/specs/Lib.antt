@@ -1,4 +1,5 @@
 pub mod Lists
 pub mod Refusal
 pub mod Lent
+pub mod Insertion
 pub mod code

@@ -1,3 +1,2 @@
 -- What only the code's proofs need.
-pub mod Insertion
 pub mod Search

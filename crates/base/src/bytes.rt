@@ -1,7 +1,7 @@
 // Bytes in order.
 ghost use mathlib.Core.Path.{_≡_};
 ghost use Rattle.base.specs.Lent.{old, new};
-ghost use Rattle.base.specs.code.Insertion.{moved};
+ghost use Rattle.base.specs.Insertion.{moved};
 
 // Moves the numbers from `place` to `total` up by one, and puts `number` there; nothing where that is no part of the slice.
 pub fn insert_at(order: &mut [u8], place: usize, total: usize, number: u8)

@@ -1,7 +1,7 @@
 // Words in order: as for bytes, and proved by the same laws.
 ghost use mathlib.Core.Path.{_≡_};
 ghost use Rattle.base.specs.Lent.{old, new};
-ghost use Rattle.base.specs.code.Insertion.{moved};
+ghost use Rattle.base.specs.Insertion.{moved};
 
 // Moves the numbers from `place` to `total` up by one, and puts `number` there; nothing where that is no part of the slice.
 pub fn insert_at(order: &mut [u32], place: usize, total: usize, number: u32)

@@ -11,7 +11,7 @@ use mir.Syntax.{w64}
 use mir.Val.{Fits}
 use Rattle.table.specs.Tables.{Tables, kindOf, firstOf, countOf, width, childAt}
 use Rattle.table.specs.Expr.{Expr, literal, name, wildcard, array, set, object, other}
-use Rattle.table.specs.Decode.{expr, fields, literalAt, isWildcard, fieldsOf}
+use Rattle.table.specs.Decode.{expr, literalAt, isWildcard, fieldsOf}
 use Rattle.table.specs.code.Sound.{Node, WellFormed}
 use Rattle.table.proofs.trees.Trees.{expr-name, expr-array, expr-object, width-array, items-step, items-end, fields-step, fields-end, child-node, count-items}
 use Rattle.planner.specs.Layout.{Slot, FieldOrder, heldIn}

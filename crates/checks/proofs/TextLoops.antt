@@ -26,7 +26,7 @@ use Rattle.table.specs.Tables.{Tables, tables, kindOf, childAt}
 use Rattle.table.specs.Decode.{literalNode, refOf}
 use Rattle.table.specs.code.Sound.{Node, WellFormed}
 use Rattle.planner.specs.code.Passes.{keyNode, fieldKey}
-use Rattle.base.specs.code.Insertion.{moved}
+use Rattle.base.specs.Insertion.{moved}
 use Rattle.planner.specs.code.Post.{OrderAsks}
 use Rattle.base.proofs.Moving.{moved-take, moved-drop}
 use Rattle.base.proofs.Search.{between-start, between-up, between-down, between-ends}

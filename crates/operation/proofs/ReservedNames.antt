@@ -17,10 +17,9 @@ use Rattle.table.specs.Tables.{Tables, nameBytes}
 use Rattle.table.specs.Names.{classOf, sameBytes, underscoreBytes, inputBytes, dataBytes}
 use Rattle.table.specs.Decode.{expr}
 use Rattle.table.specs.code.Sound.{Named}
-use Rattle.planner.specs.Names.{occurrences, firstNode}
+use Rattle.planner.specs.Names.{occurrences, firstNode, stateBy, unboundMark, statesOf}
 use Rattle.planner.specs.Operations.{isReserved, reserved}
-use Rattle.planner.specs.code.Passes.{stateBy, unboundMark}
-use Rattle.planner.specs.code.Post.{Walks, GoodRoot, statesOf}
+use Rattle.planner.specs.code.Post.{Walks, GoodRoot}
 use Rattle.planner.specs.code.Validation.{markedIn}
 use Rattle.planner.proofs.laws.Names.{first-agree}
 use Rattle.planner.proofs.laws.States.{states-each}

@@ -2,8 +2,6 @@
 use Prim.Native.Nat.{ℕ}
 use mathlib.Core.Bool.{Bool, _&&_, not}
 use mathlib.Core.List.{List}
-use mathlib.Core.Option as Option
-use Rattle.table.specs.Expr.{name}
 use Rattle.base.specs.Lists.{elem}
 
 -- A name is defined already if it is not `input` or `data`, the pattern did not plan it, and RespectParent says it is known.

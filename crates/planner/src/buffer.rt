@@ -5,9 +5,8 @@ ghost use Prim.Native.Nat.{_+_};
 ghost use mathlib.Core.List.{[], _∷_};
 ghost use lib.ListN.{length, getD, replicate};
 ghost use Rattle.planner.specs.Layout.{below, entry};
-ghost use Rattle.planner.specs.Entries.{readEntries, WroteIn, putEntries};
+ghost use Rattle.planner.specs.Entries.{readEntries, WroteIn, putEntries, ClosedIn, wordAt};
 ghost use Rattle.base.specs.Lists.{tabulate};
-ghost use Rattle.planner.specs.code.Post.{ClosedIn, wordAt};
 use crate::PlanAnswer;
 
 // The words of an entry.

@@ -2,8 +2,8 @@
 ghost use Rattle.base.specs.Lent.{old};
 ghost use mathlib.Core.Path.{_≡_};
 ghost use Rattle.scope.specs.Scope.{isUnbound};
-ghost use Rattle.planner.specs.code.Post.{NameNumber, statesOf};
-ghost use Rattle.planner.specs.code.Passes.{unboundMark};
+ghost use Rattle.planner.specs.Names.{statesOf, unboundMark};
+ghost use Rattle.planner.specs.code.Post.{NameNumber};
 ghost use Rattle.planner.specs.code.Validation.{markIf, flagOf, flagsOf};
 use scope::Binding;
 use scope::Scope;

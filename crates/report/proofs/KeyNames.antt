@@ -20,9 +20,9 @@ use Rattle.table.specs.Decode.{expr, items, fields, fieldsOf, isWildcard}
 use Rattle.base.specs.Lists.{elem}
 use Rattle.table.proofs.trees.Lists.{elem-nil, elem-head, elem-tail, elem-append}
 use Rattle.table.proofs.trees.Trees.{expr-name, expr-array, expr-object}
-use Rattle.planner.specs.code.Post.{Walks, WalksChildren, GoodRoot, statesOf}
+use Rattle.planner.specs.code.Post.{Walks, WalksChildren, GoodRoot}
 use Rattle.planner.specs.Simple.{mentions}
-use Rattle.planner.specs.Names.{occurrences, namesOf}
+use Rattle.planner.specs.Names.{occurrences, namesOf, statesOf}
 use Rattle.planner.proofs.laws.Mentions.{mentionsAny, mentionsFields, mentions-item, mentions-field}
 use Rattle.planner.proofs.laws.Names.{span-keyed, span-values, span-asks}
 use Rattle.planner.proofs.laws.PlanLaws.{elem-either}

@@ -26,9 +26,9 @@ use Rattle.table.proofs.tests.Scan.{all-at}
 use Rattle.base.specs.Refusal.{Refusal, rootOutside, planTooLarge, listTooShort, patternNotSimple, notAValue, nameWithoutValue, Tested, passed}
 use Rattle.planner.specs.Plan.{plan, after}
 use Rattle.planner.specs.Layout.{top, entryWords, entries}
-use Rattle.planner.specs.Entries.{readEntries, Wrote}
+use Rattle.planner.specs.Entries.{readEntries, Wrote, Closed, wordAt}
 use Rattle.planner.specs.Operations.{planned, fits, written, planOf}
-use Rattle.planner.specs.code.Post.{patternWords, GoodRoot, Laid, PatternAsks, PatternPlanned, Closed, wordAt}
+use Rattle.planner.specs.code.Post.{patternWords, GoodRoot, Laid, PatternAsks, PatternPlanned}
 use Rattle.planner.specs.declared.PlanAnswer.{PlanAnswer}
 use Rattle.planner.specs.Simple.{simple, mentions}
 use Rattle.planner.proofs.buffer.Filling.{length-tabulate, getD-tabulate}

@@ -17,7 +17,7 @@ use Rattle.scope.specs.Says.{Says, inChild}
 use Rattle.scope.specs.declared.ConversionAnswer.{ConversionAnswer}
 use Rattle.scope.specs.declared.ConversionAnswer.the-variants.{Done, MarkOutside}
 use Rattle.scope.specs.Scope.{says, isUnderscore, isUnbound, sameScope, boundCount, changeable, boundAt, unboundAt, bindVariable, addUnboundVariable, childOf, newScope, named, asked}
-use Rattle.scope.specs.Bytes.{saysMark, marksOk, markBit, marked, ofBytes, sumOf, bytesOf, emptyBytes, conversionOf}
+use Rattle.scope.specs.Bytes.{saysMark, marksOk, markBit, marked, ofBytes, sumOf, toBytes, emptyBytes, conversionOf}
 use Rattle.scope.specs.Bytes as Bytes
 use Rattle.scope.specs.Promises.{ChangedAt}
 use Rattle.scope.specs.Agreement.{Marks, ScopeWords, Call, CallsAgree, QuestionsAgree, MarksKept, AgreementPromise, ConversionPromise}
@@ -132,20 +132,20 @@ module _ (s : Scope) where
   unfolding sumOf says
   sum-says x = summed-says (contains (s .bound) x) (contains (s .here) x) (contains (s .unbound) x) (contains (s .local) x) (contains (s .global) x)
 
-  to-says : (x : ℕ) → isName x ≡ true → says s x ≡ Bytes.says (bytesOf s) x
-  unfolding bytesOf Bytes.says
+  to-says : (x : ℕ) → isName x ≡ true → says s x ≡ Bytes.says (toBytes s) x
+  unfolding toBytes Bytes.says
   to-says x is =
       let p = name-positive x is in
       let q = name-most x is in
       let e : 0 + (x - 1) + 1 ≡ x = omega arith in
       sym (ap saysMark (getD-tabulate (λ i. sumOf s (i + 1)) 0 128 (x - 1) (omega arith) ∙ ap (sumOf s) e) ∙ sum-says x)
 
-  to-agrees : Agree (bytesOf s) s
-  unfolding bytesOf
+  to-agrees : Agree (toBytes s) s
+  unfolding toBytes
   to-agrees = record { sized = length-tabulate (λ i. sumOf s (i + 1)) 0 128; underscore = refl; scheduler = refl; names = to-says }
 
-  to-small : marksOk (bytesOf s) ≡ true
-  unfolding bytesOf marksOk
+  to-small : marksOk (toBytes s) ≡ true
+  unfolding toBytes marksOk
   to-small = small-tabulated (λ i. sumOf s (i + 1)) (λ i. sum-small (i + 1)) 0 128
 
 marks-accepted : (b : ByteScope) → ((i : ℕ) → getD (b .marks) i 0 ≤ 31) → marksOk b ≡ true
@@ -169,8 +169,8 @@ marks-back b long ok =
     let d : i + 1 - 1 ≡ i = omega arith in
     getD-tabulate f 0 128 i below ∙ ap (sumOf (ofBytes b)) e ∙ sum-back b ok (i + 1) (name-inside (i + 1) (omega arith) (omega arith)) ∙ ap (λ (k : ℕ). getD (b .marks) k 0) d)
 
-bytes-back : (b : ByteScope) → length (b .marks) ≡ 128 → marksOk b ≡ true → bytesOf (ofBytes b) ≡ b
-unfolding bytesOf ofBytes
+bytes-back : (b : ByteScope) → length (b .marks) ≡ 128 → marksOk b ≡ true → toBytes (ofBytes b) ≡ b
+unfolding toBytes ofBytes
 bytes-back b long ok = ap (Bytes.withMarks b) (marks-back b long ok)
 
 scopes-equal : {b h u l g b′ h′ u′ l′ g′ : NameSet} {n n′ : ℕ} {d d′ : Bool} → b ≡ b′ → h ≡ h′ → u ≡ u′ → l ≡ l′ → g ≡ g′ → n ≡ n′ → d ≡ d′
@@ -269,8 +269,8 @@ marks-bounded : (b : ByteScope) → marksOk b ≡ true → (i : ℕ) → getD (b
 unfolding marksOk
 marks-bounded b ok i = small-at (b .marks) ok i
 
-to-sized : (s : Scope) → length (bytesOf s .marks) ≡ 128
-unfolding bytesOf
+to-sized : (s : Scope) → length (toBytes s .marks) ≡ 128
+unfolding toBytes
 to-sized s = length-tabulate (λ i. sumOf s (i + 1)) 0 128
 
 pub conversion-promise : ConversionPromise

@@ -1,7 +1,7 @@
 -- What each way out of a function has shown, over plain values.
 use Prim.Native.Nat.{ℕ, _+_, _-_, _*_, _%_, _^_, _≤_, _<_}
 use mathlib.Core.Path.{_≡_, sym, ap, _∙_}
-use mathlib.Core.Bool.{Bool, true, false, cond, not, and-false}
+use mathlib.Core.Bool.{Bool, true, false, not, and-false}
 use mathlib.Core.List.{List}
 use native.Mathlib.Omega.{arith}
 use borrow.Author.Tests.{lt-leb, le-leb, eq-eqb, ne-eqb, not-true, not-false}
@@ -14,16 +14,14 @@ use Rattle.scope.specs.declared.name_set.NameSet.{NameSet}
 use Rattle.scope.specs.declared.Scope.{Scope}
 use Rattle.scope.specs.declared.ScopingMode.{ScopingMode}
 use Rattle.scope.specs.declared.ScopingMode.the-variants.{RespectParent, AllowShadowing}
-use Rattle.scope.specs.declared.Changed.{Changed}
 use Rattle.scope.specs.declared.ScopeAnswer.{ScopeAnswer}
 use Rattle.scope.specs.declared.ScopeAnswer.the-variants.{Done, NameOutside}
 use Rattle.scope.specs.declared.Binding.the-variants as Binding
 use Rattle.scope.specs.Names.{isName, bitOf, withBit, withoutBit, contains, withName, withoutName, noNames, sizeOf}
 use Rattle.scope.specs.Says.{markedUnbound, taken, byScoping}
 use Rattle.scope.specs.declared.ByteScope.{ByteScope}
-use Rattle.scope.specs.declared.Converted.{Converted}
 use Rattle.scope.specs.declared.ConversionAnswer.the-variants as Conversion
-use Rattle.scope.specs.Bytes.{marksOk, markBit, wordFrom, marked, ofBytes, ConvertedFrom, weight, sumOf, bytesOf}
+use Rattle.scope.specs.Bytes.{marksOk, markBit, wordFrom, marked, ofBytes, ConvertedFrom, weight, sumOf, toBytes}
 use Rattle.scope.specs.Scope.{newScope, childOf, says, isUnderscore, isUnbound, sameScope, changeable, bindVariable, addUnboundVariable, named, callOf, Called, told, asked, questionOf}
 use Rattle.scope.proofs.Bits.{one-shifted}
 use Rattle.base.proofs.Filling.{Filling, filling-ends}
@@ -264,6 +262,6 @@ unfolding sumOf
 sum-is s x e₁ e₂ e₃ e₄ e₅ = rw (e₁, e₂, e₃, e₄, e₅)
 
 pub bytes-done : (s : Scope) {i : ℕ} {ms : List ℕ} → Filling (λ k. sumOf s (k + 1)) 128 i ms → 128 ≤ i
-    → _≡_ {A = ByteScope} (record { marks = ms; underscore = s .underscore; scheduler = s .scheduler }) (bytesOf s)
-unfolding bytesOf
+    → _≡_ {A = ByteScope} (record { marks = ms; underscore = s .underscore; scheduler = s .scheduler }) (toBytes s)
+unfolding toBytes
 bytes-done s go le = let long = go .long in simp (filling-ends go (omega arith))

@@ -12,7 +12,7 @@ use Rattle.scope.specs.declared.ScopingMode.{ScopingMode}
 use Rattle.scope.specs.declared.ConversionAnswer.{ConversionAnswer}
 use Rattle.scope.specs.Names.{isName}
 use Rattle.scope.specs.Scope.{says, isUnbound, sameScope, boundCount, bindVariable, addUnboundVariable, childOf, newScope, named, asked}
-use Rattle.scope.specs.Bytes.{marksOk, ofBytes, bytesOf, emptyBytes, conversionOf}
+use Rattle.scope.specs.Bytes.{marksOk, ofBytes, toBytes, emptyBytes, conversionOf}
 use Rattle.scope.specs.Bytes as Bytes
 
 -- bytes that a conversion accepts: 128 marks of 0 to 31
@@ -69,10 +69,10 @@ pub record AgreementPromise : Type 0 where
 
 -- Bytes come back as they were, and so do words; each has the other's form.
 pub record ConversionPromise : Type 0 where
-  pub there-and-back : (b : ByteScope) → Marks b → bytesOf (ofBytes b) ≡ b
-  pub back-and-there : (s : Scope) → ScopeWords s → ofBytes (bytesOf s) ≡ s
+  pub there-and-back : (b : ByteScope) → Marks b → toBytes (ofBytes b) ≡ b
+  pub back-and-there : (s : Scope) → ScopeWords s → ofBytes (toBytes s) ≡ s
   pub words : (b : ByteScope) → ScopeWords (ofBytes b)
-  pub marks : (s : Scope) → Marks (bytesOf s)
+  pub marks : (s : Scope) → Marks (toBytes s)
   pub small : (b : ByteScope) → ((i : ℕ) → getD (b .marks) i 0 ≤ 31) → marksOk b ≡ true
   pub large : (b : ByteScope) → marksOk b ≡ true → (i : ℕ) → getD (b .marks) i 0 ≤ 31
   pub settled : (a c : ConversionAnswer) → conversionOf a ≡ conversionOf c → a ≡ c

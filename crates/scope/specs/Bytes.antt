@@ -130,5 +130,5 @@ sumOf s x =
     weight (contains (s .bound) x) 1 + weight (contains (s .here) x) 2 + weight (contains (s .unbound) x) 4
     + weight (contains (s .local) x) 8 + weight (contains (s .global) x) 16
 
-unfoldable pub bytesOf : Scope → ByteScope
-bytesOf s = record { marks = tabulate (λ i. sumOf s (i + 1)) 0 128; underscore = s .underscore; scheduler = s .scheduler }
+unfoldable pub toBytes : Scope → ByteScope
+toBytes s = record { marks = tabulate (λ i. sumOf s (i + 1)) 0 128; underscore = s .underscore; scheduler = s .scheduler }

@@ -7,7 +7,7 @@ use name_set::is_name;
 ghost use mathlib.Core.Path.{_≡_};
 ghost use Rattle.scope.specs.Says.{markedUnbound, taken};
 ghost use Rattle.scope.specs.Scope.{says, newScope, childOf, bindVariable, addUnboundVariable, changeable, isUnbound, sameScope, boundCount, named, callOf, Called, asked, questionOf};
-ghost use Rattle.scope.specs.Bytes.{sumOf, bytesOf, ConvertedFrom};
+ghost use Rattle.scope.specs.Bytes.{sumOf, toBytes, ConvertedFrom};
 
 mod bytes;
 pub mod name_set;
@@ -217,7 +217,7 @@ impl Scope {
     }
 
     pub fn to_bytes(self) -> ByteScope
-        ensures { λ r. ⌜ r ≡ bytesOf self ⌝ }
+        ensures { λ r. ⌜ r ≡ toBytes self ⌝ }
     {
         let mut marks = [0u8; 128];
         let mut i: usize = 0;

@@ -18,9 +18,9 @@ use Rattle.planner.specs.declared.PlanAnswer.{PlanAnswer}
 use Rattle.planner.specs.declared.PlanAnswer.the-variants.{RootOutside, VariableAlreadyDefined, ArrayLengthMismatch, ObjectLiteralKeysMismatch}
 use Rattle.base.specs.Refusal.{passed}
 use Rattle.planner.specs.Layout.{Entry, top, entries}
-use Rattle.planner.specs.Entries.{Wrote}
+use Rattle.planner.specs.Entries.{Wrote, Closed}
 use Rattle.planner.specs.Operations.{planned, planOf, Answered}
-use Rattle.planner.specs.code.Post.{PatternPlanned, Closed}
+use Rattle.planner.specs.code.Post.{PatternPlanned}
 use Rattle.planner.specs.code.Validation.{firstDefined}
 use Rattle.planner.proofs.laws.Operations.{check-passes, roots-refuse, roots-pass}
 use Rattle.planner.proofs.buffer.Copies.{wrote-long, wrote-none, wrote-append, wrote-closed}

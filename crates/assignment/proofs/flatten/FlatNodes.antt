@@ -17,14 +17,15 @@ use Rattle.table.specs.Expr as Expr
 use Rattle.table.specs.Decode.{expr, items, fieldsOf}
 use Rattle.table.proofs.trees.Trees.{expr-array, expr-object, width-array, child-node, count-items, count-fields}
 use Rattle.table.proofs.trees.Forest.{tree-few}
+use Rattle.planner.specs.Names.{statesOf}
 use Rattle.planner.specs.declared.PlanAnswer.{PlanAnswer}
 use Rattle.planner.specs.declared.PlanAnswer.the-variants.{ArraySizeMismatch, IncompatibleDestructuringPatterns}
 use Rattle.base.specs.Refusal.{arraySizeMismatch, incompatibleDestructuringPatterns}
 use Rattle.planner.specs.Plan.{equalityExpr}
 use Rattle.planner.specs.Layout.{Entry, below, top, entry, entries}
 use Rattle.planner.specs.Operations.{Answered}
-use Rattle.planner.specs.Entries.{readEntries, Wrote}
-use Rattle.planner.specs.code.Post.{statesOf, Closed, GoodPair}
+use Rattle.planner.specs.Entries.{readEntries, Wrote, Closed}
+use Rattle.planner.specs.code.Post.{GoodPair}
 use Rattle.planner.proofs.fields.Objects.{node-of}
 use Rattle.assignment.specs.declared.flatten.Flattened.{Flattened}
 use Rattle.assignment.specs.declared.flatten.Flattened.the-variants.{Next, Refused}

@@ -20,14 +20,15 @@ use Rattle.table.specs.Decode.{expr, isWildcard}
 use Rattle.table.specs.Check.{TableAnswered}
 use Rattle.table.specs.code.Sound.{Node, WellFormed}
 use Rattle.table.proofs.trees.Trees.{expr-name, expr-array, expr-object}
+use Rattle.planner.specs.Names.{stateBy, statesOf}
 use Rattle.planner.specs.declared.PlanAnswer.{PlanAnswer}
 use Rattle.planner.specs.declared.PlanAnswer.the-variants.{Planned, RootOutside, ColonEqualsRequiresBindableLeft, VariableAlreadyDefined}
 use Rattle.base.specs.Refusal.{colonEqualsRequiresBindableLeft}
 use Rattle.planner.specs.Layout.{Entry, top, entryWords, entries, words, bindsAny, introducesBinding}
 use Rattle.planner.specs.Plan.{DestructuringPlan, plan}
-use Rattle.planner.specs.code.Passes.{stateBy, unboundIn}
+use Rattle.planner.specs.code.Passes.{unboundIn}
 use Rattle.planner.specs.Operations.{planned, answered, written, Answered, planOf}
-use Rattle.planner.specs.code.Post.{statesOf, PatternAsks, PatternPlanned, GoodPair}
+use Rattle.planner.specs.code.Post.{PatternAsks, PatternPlanned, GoodPair}
 use Rattle.planner.proofs.destructuring.NodeKinds.{Plain, plain-literal, plain-set, plain-other, plain-kind}
 use Rattle.planner.proofs.laws.SamePlan.{class-wild, states-wild, same-plan}
 use Rattle.planner.proofs.laws.Operations.{refuses, check-passes, roots-refuse, roots-pass}

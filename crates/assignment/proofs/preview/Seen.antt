@@ -17,9 +17,10 @@ use Rattle.table.proofs.trees.Trees.{expr-name}
 use Rattle.scope.specs.declared.Scope.{Scope}
 use Rattle.scope.specs.declared.ScopingMode.{ScopingMode}
 use Rattle.scope.specs.Scope.{isUnbound}
+use Rattle.planner.specs.Names.{statesOf}
 use Rattle.planner.specs.Plan.{DestructuringPlan, var, equalityExpr, arrayPlan, objectPlan, itemPlan, fieldPlan, fresh, plan, plans, fieldPlans, after, afterAll, afterFields}
 use Rattle.planner.specs.code.Passes.{unboundIn, bindersOf}
-use Rattle.planner.specs.code.Post.{States, statesOf}
+use Rattle.planner.specs.code.Post.{States}
 use Rattle.planner.proofs.laws.Binders.{AllNames, names-all, bound-agree-of}
 use Rattle.planner.proofs.laws.SamePlan.{SameOn, after-same, plan-same, states-wild, states-agree}
 use Rattle.assignment.specs.code.Previewing.{Scoped, Learnt}

@@ -12,7 +12,6 @@ use Rattle.planner.specs.declared.PlanAnswer.{PlanAnswer}
 use Rattle.base.specs.Refusal.{Refusal, arraySizeMismatch, objectFieldCountMismatch, refusalLine}
 use Rattle.planner.specs.Answer.{lineOf}
 use Rattle.planner.specs.Plan.{plan, after}
-use Rattle.planner.specs.Layout.{entries}
 use Rattle.assignment.specs.Pairs.{pair, Flat, failed, require, paired, distinctKeys, checkKeys, flatten, flattenAll, flattenFields}
 
 -- a refusal, and an answer that says it

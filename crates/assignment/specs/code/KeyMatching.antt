@@ -9,9 +9,9 @@ use lib.Dec.{eqb, leb}
 use Rattle.base.specs.Lists.{allFrom}
 use Rattle.literal.specs.Literal.{Literal}
 use Rattle.table.specs.Tables.{Tables, kindOf, firstOf, countOf, childAt}
-use Rattle.table.specs.Decode.{fields, literalAt, fieldsOf}
+use Rattle.table.specs.Decode.{literalAt, fieldsOf}
 use Rattle.table.specs.code.Sound.{Node, WellFormed}
-use Rattle.planner.specs.Layout.{entry, Slot}
+use Rattle.planner.specs.Layout.{Slot}
 use Rattle.planner.specs.code.Passes.{valueNode, orderOf}
 use Rattle.planner.specs.code.Post.{OrderedBy}
 use Rattle.assignment.specs.declared.flatten.Flattened.the-variants.{Refused}

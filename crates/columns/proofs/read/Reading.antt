@@ -14,8 +14,6 @@ use Rattle.literal.specs.Text.{value}
 use Rattle.literal.proofs.Numbers.{and-true}
 use Rattle.columns.specs.declared.decimal.Decimal.{Decimal}
 use Rattle.columns.specs.declared.decimal.Decimal.the-variants.{Number, NoNumber}
-use Rattle.columns.specs.declared.Column.{Column}
-use Rattle.columns.specs.declared.Column.the-variants as Column
 use Rattle.columns.specs.declared.SignedColumn.{SignedColumn}
 use Rattle.columns.specs.declared.SignedColumn.the-variants as SignedColumn
 use Rattle.columns.specs.Columns.{afterBlanks, isDigit, allDigits, isDecimal, columnBytes, signedNumber, afterSign, readSigned, signedColumnAt}

@@ -1,4 +1,5 @@
 -- What the code's search for a reserved name makes, and what its functions ask.
+use Rattle.planner.specs.Names.{statesOf}
 use Prim.Native.Nat.{ℕ, _+_}
 use mathlib.Core.Path.{_≡_}
 use mathlib.Core.Bool.{true, cond}
@@ -14,7 +15,6 @@ use Rattle.table.specs.Tables.{Tables, nameBytes}
 use Rattle.table.specs.Names.{classOf}
 use Rattle.table.specs.Check.{allNodes, checkedOr}
 use Rattle.table.specs.code.Sound.{WellFormed}
-use Rattle.planner.specs.code.Post.{statesOf}
 use Rattle.operation.specs.declared.Operation.{Operation}
 use Rattle.operation.specs.declared.patterns.Patterns.{Patterns}
 use Rattle.operation.specs.Version.{PatternRoot, patternRoot, rootsOf, firstReserved}

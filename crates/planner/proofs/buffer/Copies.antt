@@ -10,9 +10,9 @@ use lib.ListN.{length, getD, set, length-append}
 use lib.Seq.{length-sets}
 use Rattle.planner.specs.declared.PlanAnswer.{PlanAnswer}
 use Rattle.planner.specs.Layout.{Entry, entryWords, below, entry, words}
-use Rattle.planner.specs.Entries.{entryAt, readEntries, putEntry, putEntries, Wrote}
+use Rattle.planner.specs.Entries.{entryAt, readEntries, putEntry, putEntries, Wrote, Closed, wordAt}
 use Rattle.planner.specs.Operations.{planned, answered, written, Answered}
-use Rattle.planner.specs.code.Post.{Laid, Closed, wordAt}
+use Rattle.planner.specs.code.Post.{Laid}
 use Rattle.planner.proofs.buffer.Filling.{Filling, word-in}
 use Rattle.planner.proofs.buffer.Written.{put-stores, laid-put, laid-none, laid-append}
 use Rattle.planner.proofs.buffer.ReadBack.{length-read, read-laid, closed-read}

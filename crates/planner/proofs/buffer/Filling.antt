@@ -5,11 +5,11 @@ use mathlib.Core.List.{List, _∷_}
 use native.Mathlib.Omega.{arith}
 use borrow.Author.Tests.{le-leb, lt-leb, lt-ltb, le-ltb}
 use lib.ListN.{length, getD, replicate, List·getD-eq-default}
+use Rattle.planner.specs.Entries.{wordAt, Closed}
 use Rattle.planner.specs.Layout.{entryWords}
 use Rattle.planner.specs.declared.PlanAnswer.the-variants.{Planned, PlanTooLarge}
 use Rattle.base.specs.Lists.{tabulate}
 pub use Rattle.base.proofs.Filling.{Filling, filling-begin, filling-start, filling-on, filling-next, length-tabulate, getD-tabulate, tabulate-next, tabulate-same, filling-ends, zeros-end}
-use Rattle.planner.specs.code.Post.{wordAt, Closed}
 
 -- behind the end
 pub past-end : (l : List ℕ) (i : ℕ) → length l ≤ i → 0 ≡ getD l i 0

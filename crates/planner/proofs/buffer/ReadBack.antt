@@ -10,10 +10,10 @@ use lib.ListN.{length, getD, drop, replicate, length-replicate, getD-replicate, 
 use lib.Seq.{sets-eq, length-sets, ext-getD, getD-append-add, getD-drop}
 use Rattle.planner.specs.declared.PlanAnswer.{PlanAnswer}
 use Rattle.planner.specs.Layout.{Entry, entryWords, words}
-use Rattle.planner.specs.Entries.{readEntries}
+use Rattle.planner.specs.Entries.{readEntries, Closed, wordAt}
 use Rattle.planner.specs.Operations.{planned, answered, written, Answered}
 use Rattle.base.specs.Lists.{tabulate}
-use Rattle.planner.specs.code.Post.{Laid, Closed, wordAt}
+use Rattle.planner.specs.code.Post.{Laid}
 use Rattle.planner.proofs.buffer.Filling.{length-tabulate, getD-tabulate}
 use Rattle.planner.proofs.buffer.Written.{length-words}
 

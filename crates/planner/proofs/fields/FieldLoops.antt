@@ -15,7 +15,7 @@ use borrow.Author.Tests.{leb-true, leb-false}
 use lib.Dec.{leb}
 use types.Run.{OneOf}
 use denote.Enum.Declared.{tagOf}
-use Rattle.base.specs.code.Insertion.{moved}
+use Rattle.base.specs.Insertion.{moved}
 use Rattle.base.proofs.Moving.{moved-take, moved-drop}
 use Rattle.base.proofs.Search.{between-start, between-ends}
 use Rattle.literal.specs.Literal.{Literal}

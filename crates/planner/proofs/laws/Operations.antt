@@ -21,6 +21,7 @@ use Rattle.scope.specs.Scope.{isUnbound}
 use Rattle.table.specs.code.Sound.{Node, WellFormed}
 use Rattle.table.proofs.tests.Bools.{and-true}
 use Rattle.table.proofs.trees.Facts.{sound-table}
+use Rattle.planner.specs.Names.{statesOf}
 use Rattle.planner.specs.declared.PlanAnswer.{PlanAnswer}
 use Rattle.planner.specs.declared.PlanAnswer.the-variants.{TableRefused, RootOutside}
 use Rattle.base.specs.Refusal.{Refusal, refusalLine, passed, rootOutside}
@@ -28,10 +29,10 @@ use Rattle.planner.specs.Answer.{lineOf}
 use Rattle.planner.specs.Plan.{DestructuringPlan, after}
 use Rattle.planner.specs.Layout.{top, entries}
 use Rattle.planner.specs.Steps.{writtenSteps, planSteps, steps}
-use Rattle.planner.specs.Entries.{Wrote}
+use Rattle.planner.specs.Entries.{Wrote, Closed}
 use Rattle.planner.specs.Operations.{Outcome, refused, answered, written, Answered, tableFirst, checkedFirst, planOf, patternPlanned}
 use Rattle.planner.specs.code.Passes.{unboundIn}
-use Rattle.planner.specs.code.Post.{NameNumber, statesOf, PlanAsks, PlannedBy, PatternAsks, PatternPlanned, GoodRoot, Closed}
+use Rattle.planner.specs.code.Post.{NameNumber, PlanAsks, PlannedBy, PatternAsks, PatternPlanned, GoodRoot}
 use Rattle.planner.proofs.laws.Binders.{bound-agree-of}
 use Rattle.planner.proofs.laws.SamePlan.{states-wild, same-plan, same-binders}
 use Rattle.planner.proofs.buffer.Copies.{wrote-closed}

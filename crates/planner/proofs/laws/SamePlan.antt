@@ -13,9 +13,10 @@ use Rattle.table.specs.Expr.{Expr, literal, name, wildcard, array, object, othe
 use Rattle.table.specs.Expr as Expr
 use Rattle.table.specs.Decode.{expr}
 use Rattle.table.specs.code.Sound.{Node, WellFormed}
+use Rattle.planner.specs.Names.{stateBy, statesOf}
 use Rattle.planner.specs.Plan.{DestructuringPlan, itemPlan, fieldPlan, plan, plans, fieldPlans, after, afterAll, afterFields, arrayPlan, objectPlan}
-use Rattle.planner.specs.code.Passes.{stateBy, unboundIn, bindersOf, bindersAll, bindersFields}
-use Rattle.planner.specs.code.Post.{States, statesOf}
+use Rattle.planner.specs.code.Passes.{unboundIn, bindersOf, bindersAll, bindersFields}
+use Rattle.planner.specs.code.Post.{States}
 use Rattle.planner.proofs.laws.States.{states-each}
 use Rattle.planner.proofs.laws.Binders.{AllNames, AllNamesAll, AllNamesFields, names-all}
 

@@ -19,8 +19,9 @@ use Rattle.table.specs.declared.NameClass.{NameClass}
 use Rattle.table.specs.declared.NameClass.the-variants.{Underscore, InputOrData, Ordinary}
 use Rattle.table.specs.Tables.{nameBytes}
 use Rattle.table.specs.Names.{classOf}
-use Rattle.planner.specs.code.Passes.{binderOf, stateBy, nameState, unboundMark}
-use Rattle.planner.specs.code.Post.{NameNumber, statesOf}
+use Rattle.planner.specs.Names.{stateBy, nameState, unboundMark, statesOf}
+use Rattle.planner.specs.code.Passes.{binderOf}
+use Rattle.planner.specs.code.Post.{NameNumber}
 use Rattle.planner.specs.code.Validation.{markIf, flagBy, flagOf, flagsOf}
 use Rattle.planner.proofs.buffer.Filling.{Filling, filling-start, filling-on, filling-ends, length-tabulate, getD-tabulate, tabulate-next, tabulate-same}
 

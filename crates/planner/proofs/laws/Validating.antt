@@ -3,7 +3,6 @@ use Prim.Native.Nat.{ℕ, _-_}
 use mathlib.Core.Path.{_≡_, refl, sym, ap, _∙_}
 use mathlib.Core.List.{List, []}
 use mathlib.Core.Bool.{Bool, true, false, cond, _&&_, _||_, not}
-use mathlib.Core.Option as Option
 use native.Mathlib.Omega.{arith}
 use borrow.Author.Tests.{ne-eqb, not-true, not-false}
 use lib.Dec.{eqb}
@@ -14,10 +13,10 @@ use Rattle.scope.specs.declared.ScopingMode.the-variants.{RespectParent, AllowS
 use Rattle.scope.specs.Scope.{isUnbound}
 use Rattle.table.specs.Tables.{Tables, nameBytes}
 use Rattle.table.specs.Names.{classOf, sameBytes, underscoreBytes, inputBytes, dataBytes}
-use Rattle.table.specs.Expr.{name, other}
 use Rattle.table.specs.Decode.{expr, isWildcard}
 use Rattle.base.specs.Lists.{elem}
 use Rattle.table.specs.code.Sound.{Named}
+use Rattle.planner.specs.Entries.{Closed}
 use Rattle.planner.specs.declared.PlanAnswer.{PlanAnswer}
 use Rattle.planner.specs.declared.PlanAnswer.the-variants.{VariableAlreadyDefined}
 use Rattle.planner.specs.Plan.{after}
@@ -25,7 +24,7 @@ use Rattle.planner.specs.Names.{occurrences, firstNode}
 use Rattle.planner.specs.Parameters.{alreadyDefined}
 use Rattle.planner.specs.Operations.{isReserved, reserved, validated, patternOutcome, parameterOutcome, answered, written, Answered}
 use Rattle.planner.specs.code.Passes.{binderOf}
-use Rattle.planner.specs.code.Post.{Walks, GoodRoot, PatternPlanned, Closed}
+use Rattle.planner.specs.code.Post.{Walks, GoodRoot, PatternPlanned}
 use Rattle.planner.specs.code.Validation.{definedMark, flagBy, flagsOf, markedIn, definedIn, firstDefined, plannedIf, outcomeIf}
 use Rattle.planner.proofs.laws.Names.{first-agree}
 use Rattle.planner.proofs.laws.States.{flags-each}

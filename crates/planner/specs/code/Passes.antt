@@ -1,19 +1,13 @@
 -- What the code's two passes over a pattern make: `binders`, in written order, and the entries by binders, in plan order.
-use Prim.Native.Nat.{ℕ, zero, suc, _+_, _-_, _*_, _/_}
+use Prim.Native.Nat.{ℕ, zero, suc, _+_, _-_, _*_}
 use mathlib.Core.Bool.{Bool, cond, _&&_}
 use mathlib.Core.List.{List, [], _∷_, _++_}
 use mathlib.Core.Option.{Option}
 use lib.Dec.{eqb, leb}
 use lib.ListN.{length, getD, set}
 use Rattle.literal.specs.Literal.{Literal}
-use Rattle.scope.specs.declared.Scope.{Scope}
-use Rattle.scope.specs.declared.ScopingMode.{ScopingMode}
-use Rattle.scope.specs.Scope.{isUnbound}
-use Rattle.table.specs.Tables.{Tables, childAt, nameBytes}
-use Rattle.table.specs.Names.{classOf}
+use Rattle.table.specs.Tables.{Tables, childAt}
 use Rattle.table.specs.Decode.{expr, items, literalAt}
-use Rattle.table.specs.declared.NameClass.{NameClass}
-use Rattle.table.specs.declared.NameClass.the-variants.{Underscore, InputOrData, Ordinary}
 use Rattle.table.specs.Expr as Expr
 use Rattle.table.specs.Expr.{Expr, literal, name, wildcard, array, object, other, Exprs, none, item, Fields, done, field, nodeOf, count}
 use Rattle.planner.specs.Steps.{writtenSteps}
@@ -135,16 +129,3 @@ concatAt f order q (suc k) = f (getD order q 0) ++ concatAt f order (q + 1) k
 
 abbrev pub layOutOrdered : List ℕ → Tables → ℕ → List ℕ → ℕ → ℕ → List Entry
 layOutOrdered binders T first order q k = concatAt (fieldEntries binders T first) order q k
-
--- a name's state: `_` by its bytes, else by the scope's answer
-abbrev pub unboundMark : Bool → ℕ
-unboundMark unbound = cond unbound 1 0
-
-abbrev pub stateBy : NameClass → Bool → ℕ
-stateBy Underscore unbound = 2
-stateBy InputOrData unbound = unboundMark unbound
-stateBy Ordinary unbound = unboundMark unbound
-
--- the state of name x; 0 where the table does not have it
-abbrev pub nameState : List ℕ → List ℕ → Scope → ScopingMode → ℕ → ℕ
-nameState names text s mode x = cond (leb x (length names / 2)) (stateBy (classOf (nameBytes names text x)) (isUnbound s mode x)) 0

@@ -1,9 +1,8 @@
 -- What the planner's own functions ask of their caller.
-use Prim.Native.Nat.{ℕ, _+_, _-_, _*_, _/_, _^_, _≤_, _<_}
+use Prim.Native.Nat.{ℕ, _+_, _-_, _*_, _^_, _≤_, _<_}
 use mathlib.Core.Path.{_≡_}
-use mathlib.Core.Bool.{cond}
 use mathlib.Core.List.{List, [], _++_}
-use lib.Dec.{eqb, leb, ltb}
+use lib.Dec.{eqb}
 use lib.ListN.{length, getD, take, drop, replicate}
 use lib.Seq.{sets}
 use Rattle.table.specs.Tables.{Tables, kindOf, childAt}
@@ -16,12 +15,8 @@ use Rattle.scope.specs.Scope.{isUnbound}
 use Rattle.table.specs.Decode.{isWildcard, expr}
 use Rattle.planner.specs.Layout.{Entry, entryWords, Place, below, top, entries, words, inOrder}
 use Rattle.planner.specs.Entries.{Wrote}
-use Rattle.planner.specs.code.Passes.{layOut, layOutItems, layOutOrdered, keyNode, valueNode, orderOf, nameState, bindersOf, unboundIn}
+use Rattle.planner.specs.code.Passes.{layOut, layOutItems, layOutOrdered, keyNode, valueNode, orderOf, bindersOf, unboundIn}
 use Rattle.planner.specs.Plan.{plan}
-use Rattle.planner.specs.declared.PlanAnswer.{PlanAnswer}
-use Rattle.base.specs.Refusal.{planTooLarge, line, refusalLine}
-use Rattle.planner.specs.Answer.{lineOf}
-use Rattle.base.specs.Lists.{tabulate}
 use Rattle.table.specs.code.Sound.{Node, Named, WellFormed}
 
 pub record NameNumber (x : ℕ) : Type 0 where
@@ -113,19 +108,6 @@ pub record PlannedBy (T : Tables) (states : List ℕ) (root position at : ℕ) (
   pub few : r ≤ at + 512
   pub space : r ≤ at + root
 
--- word i of a buffer of which the first words are kept
-abbrev pub wordAt : List ℕ → ℕ → ℕ → ℕ
-wordAt before size i = cond (ltb i size) (getD before i 0) 0
-
--- the states of all names, by their numbers
-abbrev pub statesOf : List ℕ → List ℕ → Scope → ScopingMode → List ℕ
-statesOf names text s mode = tabulate (nameState names text s mode) 1 128
-
--- as many entries of a buffer, if it has space for them, and zeros behind them
-pub record Closed (form count : ℕ) (before after : List ℕ) (r : PlanAnswer) : Type 0 where
-  pub answer : lineOf r ≡ cond (leb count (length before / entryWords)) (line 0 form 0 count) (refusalLine (planTooLarge count))
-  pub buffer : after ≡ cond (leb count (length before / entryWords)) (tabulate (wordAt before (count * entryWords)) 0 (length before)) (replicate (length before) 0)
-
 -- a root in a good table
 pub record GoodRoot (T : Tables) (root : ℕ) : Type 0 where
   pub table : WellFormed T
@@ -152,9 +134,6 @@ pub record PatternPlanned (T : Tables) (s : Scope) (mode : ScopingMode) (root at
   pub space : r ≤ at + root
 
 -- the same of a `&mut` buffer and `&mut` binders, at entry and at exit
-abbrev pub ClosedIn : Slices → ℕ → ℕ → PlanAnswer → Type 0
-ClosedIn plan form count r = Closed form count (plan .entry .now) (plan .exit .now) r
-
 abbrev pub PlannedIn : Slices → Slices → Tables → List ℕ → ℕ → ℕ → ℕ → ℕ → Type 0
 PlannedIn plan binders T states root position at r = PlannedBy T states root position at (plan .entry .now) (binders .exit .now) (plan .exit .now) r
 

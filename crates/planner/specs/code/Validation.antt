@@ -15,9 +15,9 @@ use Rattle.table.specs.Tables.{Tables, kindOf, firstOf, countOf, childAt, nameB
 use Rattle.table.specs.Names.{classOf}
 use Rattle.table.specs.Expr.{Expr}
 use Rattle.table.specs.Decode.{expr}
-use Rattle.planner.specs.Names.{Occurrence, occurrences, firstNode}
+use Rattle.planner.specs.Names.{Occurrence, occurrences, firstNode, unboundMark}
 use Rattle.planner.specs.Operations.{Outcome, checkedFirst, reserved, validated, unlessDefined, patternPlanned}
-use Rattle.planner.specs.code.Passes.{binderOf, unboundMark}
+use Rattle.planner.specs.code.Passes.{binderOf}
 use Rattle.base.specs.Lists.{tabulate}
 
 -- 1 for a name with no binder that is known

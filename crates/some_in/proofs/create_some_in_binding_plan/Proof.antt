@@ -3,13 +3,6 @@ use Rattle.some_in.proofs.Answers.{value-outside, collection-outside, g
 use borrow.Author.Needs.{needs}
 use Rattle.some_in.proofs.create_some_in_binding_plan.Statement.{statement}
 use Rattle.some_in.proofs.create_some_in_binding_plan.Tie as tie
-use Rattle.some_in.proofs.create_some_in_binding_plan.Reads as reads
-use Rattle.some_in.proofs.create_some_in_binding_plan.Lts as lts
-use Rattle.planner.proofs.buffer.clear.Reads as clear-reads
-use Rattle.some_in.proofs.plan_key.Reads as plan-key-reads
-use Rattle.some_in.proofs.plan_without_key.Reads as plan-without-key-reads
-use Rattle.table.proofs.check.Reads as check-reads
-use Rattle.table.proofs.reading.is_node.Reads as is-node-reads
 
 check-requires : tie.Need-check-requires
 check-requires c κs = search needs

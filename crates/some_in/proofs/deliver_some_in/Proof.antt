@@ -2,10 +2,6 @@ use Rattle.some_in.proofs.Answers.{closed-match, closed-unknown, closed
 use borrow.Author.Needs.{needs}
 use Rattle.some_in.proofs.deliver_some_in.Statement.{statement}
 use Rattle.some_in.proofs.deliver_some_in.Tie as tie
-use Rattle.some_in.proofs.deliver_some_in.Reads as reads
-use Rattle.some_in.proofs.deliver_some_in.Lts as lts
-use Rattle.planner.proofs.buffer.clear.Reads as clear-reads
-use Rattle.planner.proofs.buffer.close.Reads as close-reads
 
 enum-told : tie.Need-enum-told
 enum-told c = search needs

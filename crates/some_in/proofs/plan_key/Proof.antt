@@ -2,11 +2,6 @@ use Rattle.some_in.proofs.Answers.{key-refused, key-answered}
 use borrow.Author.Needs.{needs}
 use Rattle.some_in.proofs.plan_key.Statement.{statement}
 use Rattle.some_in.proofs.plan_key.Tie as tie
-use Rattle.some_in.proofs.plan_key.Reads as reads
-use Rattle.some_in.proofs.plan_key.Lts as lts
-use Rattle.planner.proofs.buffer.clear.Reads as clear-reads
-use Rattle.some_in.proofs.plan_validated.Reads as plan-validated-reads
-use Rattle.some_in.proofs.plan_value.Reads as plan-value-reads
 
 plan-validated-requires : tie.Need-plan-validated-requires
 plan-validated-requires c κs = search needs

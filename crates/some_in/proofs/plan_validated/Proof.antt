@@ -2,10 +2,6 @@ use Rattle.some_in.proofs.Answers.{plan-validated}
 use borrow.Author.Needs.{needs}
 use Rattle.some_in.proofs.plan_validated.Statement.{statement}
 use Rattle.some_in.proofs.plan_validated.Tie as tie
-use Rattle.some_in.proofs.plan_validated.Reads as reads
-use Rattle.some_in.proofs.plan_validated.Lts as lts
-use Rattle.planner.proofs.inner.destructuring.plan_pattern.Reads as plan-pattern-reads
-use Rattle.planner.proofs.inner.parameters.validate_pattern_bindings.Reads as validate-pattern-bindings-reads
 
 plan-pattern-requires : tie.Need-plan-pattern-requires
 plan-pattern-requires c κs = search needs

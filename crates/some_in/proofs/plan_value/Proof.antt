@@ -2,12 +2,6 @@ use Rattle.some_in.proofs.Answers.{value-refused, value-closed}
 use borrow.Author.Needs.{needs}
 use Rattle.some_in.proofs.plan_value.Statement.{statement}
 use Rattle.some_in.proofs.plan_value.Tie as tie
-use Rattle.some_in.proofs.plan_value.Reads as reads
-use Rattle.some_in.proofs.plan_value.Lts as lts
-use Rattle.planner.proofs.buffer.clear.Reads as clear-reads
-use Rattle.some_in.proofs.collection.check_collection.Reads as check-collection-reads
-use Rattle.some_in.proofs.deliver_some_in.Reads as deliver-some-in-reads
-use Rattle.some_in.proofs.plan_validated.Reads as plan-validated-reads
 
 plan-validated-requires : tie.Need-plan-validated-requires
 plan-validated-requires c κs = search needs

@@ -2,9 +2,6 @@ use Rattle.some_in.proofs.Answers.{without-key}
 use borrow.Author.Needs.{needs}
 use Rattle.some_in.proofs.plan_without_key.Statement.{statement}
 use Rattle.some_in.proofs.plan_without_key.Tie as tie
-use Rattle.some_in.proofs.plan_without_key.Reads as reads
-use Rattle.some_in.proofs.plan_without_key.Lts as lts
-use Rattle.some_in.proofs.plan_value.Reads as plan-value-reads
 
 plan-value-requires : tie.Need-plan-value-requires
 plan-value-requires c κs = search needs

@@ -11,7 +11,7 @@ use Rattle.literal.specs.Order.{Order, less, same, more, opposite, bytesOrder, 
 use Rattle.literal.specs.declared.Comparison.{Comparison}
 use Rattle.literal.specs.declared.Comparison.the-variants.{Less, Equal, Greater, NoLiteral}
 use Rattle.literal.proofs.Orders.{three-ways, bytes-order}
-use Rattle.base.specs.code.Insertion.{moved}
+use Rattle.base.specs.Insertion.{moved}
 use Rattle.base.proofs.Moving.{moved-front, moved-here, moved-next, moved-length}
 use Rattle.base.proofs.Search.{between-start, between-up, between-down, between-ends}
 use Rattle.table.specs.Tables.{tables, nameBytes}

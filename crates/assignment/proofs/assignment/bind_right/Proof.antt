@@ -2,10 +2,6 @@ use Rattle.assignment.proofs.laws.Sides.{bound-right}
 use borrow.Author.Needs.{needs}
 use Rattle.assignment.proofs.assignment.bind_right.Statement.{statement}
 use Rattle.assignment.proofs.assignment.bind_right.Tie as tie
-use Rattle.assignment.proofs.assignment.bind_right.Reads as reads
-use Rattle.assignment.proofs.assignment.bind_right.Lts as lts
-use Rattle.assignment.proofs.assignment.bind_side.Reads as bind-side-reads
-use Rattle.assignment.proofs.preview.preview_binding_plan.Reads as preview-binding-plan-reads
 
 preview-binding-plan-requires : tie.Need-preview-binding-plan-requires
 preview-binding-plan-requires c κs = search needs

@@ -2,12 +2,6 @@ use Rattle.assignment.proofs.laws.Binding.{side-opposed, side-match, si
 use borrow.Author.Needs.{needs}
 use Rattle.assignment.proofs.assignment.bind_side.Statement.{statement}
 use Rattle.assignment.proofs.assignment.bind_side.Tie as tie
-use Rattle.assignment.proofs.assignment.bind_side.Reads as reads
-use Rattle.assignment.proofs.assignment.bind_side.Lts as lts
-use Rattle.assignment.proofs.assignment.structurally_incompatible.Reads as structurally-incompatible-reads
-use Rattle.assignment.proofs.entries.deliver.Reads as deliver-reads
-use Rattle.checks.proofs.inner.check_literal_structure.Reads as check-literal-structure-reads
-use Rattle.planner.proofs.buffer.clear.Reads as clear-reads
 
 structurally-incompatible-requires : tie.Need-structurally-incompatible-requires
 structurally-incompatible-requires c κs = search needs

@@ -2,12 +2,6 @@ use Rattle.assignment.proofs.laws.Sides.{colon-unbound, colon-defined, 
 use borrow.Author.Needs.{needs}
 use Rattle.assignment.proofs.assignment.colon_equals_from.Statement.{statement}
 use Rattle.assignment.proofs.assignment.colon_equals_from.Tie as tie
-use Rattle.assignment.proofs.assignment.colon_equals_from.Reads as reads
-use Rattle.assignment.proofs.assignment.colon_equals_from.Lts as lts
-use Rattle.assignment.proofs.assignment.bind_side.Reads as bind-side-reads
-use Rattle.assignment.proofs.entries.first_same_scope.Reads as first-same-scope-reads
-use Rattle.assignment.proofs.preview.introduces_binding.Reads as introduces-binding-reads
-use Rattle.planner.proofs.buffer.clear.Reads as clear-reads
 
 introduces-binding-requires : tie.Need-introduces-binding-requires
 introduces-binding-requires c κs = search needs

@@ -2,10 +2,6 @@ use Rattle.assignment.proofs.laws.Sides.{ask-first, ask-colon, colon-pl
 use borrow.Author.Needs.{needs}
 use Rattle.assignment.proofs.assignment.colon_equals_in.Statement.{statement}
 use Rattle.assignment.proofs.assignment.colon_equals_in.Tie as tie
-use Rattle.assignment.proofs.assignment.colon_equals_in.Reads as reads
-use Rattle.assignment.proofs.assignment.colon_equals_in.Lts as lts
-use Rattle.assignment.proofs.assignment.colon_equals_from.Reads as colon-equals-from-reads
-use Rattle.planner.proofs.inner.destructuring.plan_pattern.Reads as plan-pattern-reads
 
 plan-pattern-requires : tie.Need-plan-pattern-requires
 plan-pattern-requires c κs = search (ask-first, needs)

@@ -2,9 +2,6 @@ use Rattle.assignment.proofs.laws.Sides.{none-delivered}
 use borrow.Author.Needs.{needs}
 use Rattle.assignment.proofs.assignment.deliver_none.Statement.{statement}
 use Rattle.assignment.proofs.assignment.deliver_none.Tie as tie
-use Rattle.assignment.proofs.assignment.deliver_none.Reads as reads
-use Rattle.assignment.proofs.assignment.deliver_none.Lts as lts
-use Rattle.planner.proofs.buffer.clear.Reads as clear-reads
 
 clear-requires : tie.Need-clear-requires
 clear-requires c κs = search needs

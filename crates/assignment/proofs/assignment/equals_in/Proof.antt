@@ -3,14 +3,6 @@ use Rattle.assignment.proofs.laws.Sides.{ask-sides, equals-both, equals
 use borrow.Author.Needs.{needs}
 use Rattle.assignment.proofs.assignment.equals_in.Statement.{statement}
 use Rattle.assignment.proofs.assignment.equals_in.Tie as tie
-use Rattle.assignment.proofs.assignment.equals_in.Reads as reads
-use Rattle.assignment.proofs.assignment.equals_in.Lts as lts
-use Rattle.assignment.proofs.assignment.bind_right.Reads as bind-right-reads
-use Rattle.assignment.proofs.assignment.bind_side.Reads as bind-side-reads
-use Rattle.assignment.proofs.assignment.deliver_none.Reads as deliver-none-reads
-use Rattle.assignment.proofs.flatten.flatten_assignment_pairs.Reads as flatten-assignment-pairs-reads
-use Rattle.assignment.proofs.preview.preview_sides.Reads as preview-sides-reads
-use Rattle.planner.proofs.context.name_states.Reads as name-states-reads
 
 name-states-requires : tie.Need-name-states-requires
 name-states-requires c κs = search needs

@@ -2,11 +2,6 @@ use Rattle.assignment.proofs.laws.Sides.{underscore-yes, underscore-res
 use borrow.Author.Needs.{needs}
 use Rattle.assignment.proofs.assignment.is_underscore.Statement.{statement}
 use Rattle.assignment.proofs.assignment.is_underscore.Tie as tie
-use Rattle.assignment.proofs.assignment.is_underscore.Reads as reads
-use Rattle.assignment.proofs.assignment.is_underscore.Lts as lts
-use Rattle.table.proofs.reading.first_of.Reads as first-of-reads
-use Rattle.table.proofs.reading.kind_of.Reads as kind-of-reads
-use Rattle.table.proofs.reading.name_class.Reads as name-class-reads
 
 kind-of-requires : tie.Need-kind-of-requires
 kind-of-requires c κs = search needs

@@ -2,11 +2,6 @@ use Rattle.assignment.proofs.laws.Sides.{equals-wild, equals-sides}
 use borrow.Author.Needs.{needs}
 use Rattle.assignment.proofs.assignment.plan_equals.Statement.{statement}
 use Rattle.assignment.proofs.assignment.plan_equals.Tie as tie
-use Rattle.assignment.proofs.assignment.plan_equals.Reads as reads
-use Rattle.assignment.proofs.assignment.plan_equals.Lts as lts
-use Rattle.assignment.proofs.assignment.deliver_none.Reads as deliver-none-reads
-use Rattle.assignment.proofs.assignment.equals_in.Reads as equals-in-reads
-use Rattle.assignment.proofs.assignment.wildcard_side.Reads as wildcard-side-reads
 
 wildcard-side-requires : tie.Need-wildcard-side-requires
 wildcard-side-requires c κs = search needs

@@ -2,9 +2,6 @@ use Rattle.assignment.proofs.laws.Shapes.{array-against, object-against
 use borrow.Author.Needs.{needs}
 use Rattle.assignment.proofs.assignment.structurally_incompatible.Statement.{statement}
 use Rattle.assignment.proofs.assignment.structurally_incompatible.Tie as tie
-use Rattle.assignment.proofs.assignment.structurally_incompatible.Reads as reads
-use Rattle.assignment.proofs.assignment.structurally_incompatible.Lts as lts
-use Rattle.table.proofs.reading.kind_of.Reads as kind-of-reads
 
 kind-of-requires : tie.Need-kind-of-requires
 kind-of-requires c κs = search needs

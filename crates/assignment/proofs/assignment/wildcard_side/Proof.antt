@@ -2,9 +2,6 @@ use Rattle.assignment.proofs.laws.Sides.{side-both, side-left, side-rig
 use borrow.Author.Needs.{needs}
 use Rattle.assignment.proofs.assignment.wildcard_side.Statement.{statement}
 use Rattle.assignment.proofs.assignment.wildcard_side.Tie as tie
-use Rattle.assignment.proofs.assignment.wildcard_side.Reads as reads
-use Rattle.assignment.proofs.assignment.wildcard_side.Lts as lts
-use Rattle.assignment.proofs.assignment.is_underscore.Reads as is-underscore-reads
 
 is-underscore-requires : tie.Need-is-underscore-requires
 is-underscore-requires c κs = search needs

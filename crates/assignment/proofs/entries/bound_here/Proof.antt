@@ -2,10 +2,6 @@ use Rattle.assignment.proofs.entries.Reading.{here-yes, here-no, here-o
 use borrow.Author.Needs.{needs}
 use Rattle.assignment.proofs.entries.bound_here.Statement.{statement}
 use Rattle.assignment.proofs.entries.bound_here.Tie as tie
-use Rattle.assignment.proofs.entries.bound_here.Reads as reads
-use Rattle.assignment.proofs.entries.bound_here.Lts as lts
-use Rattle.scope.proofs.Scope.has_same_scope_binding.Reads as has-same-scope-binding-reads
-use Rattle.table.proofs.reading.first_of.Reads as first-of-reads
 
 first-of-requires : tie.Need-first-of-requires
 first-of-requires c κs = search needs

@@ -2,10 +2,6 @@ use Rattle.planner.proofs.buffer.Copies.{wrote-closed, wrote-first}
 use borrow.Author.Needs.{needs}
 use Rattle.assignment.proofs.entries.deliver.Statement.{statement}
 use Rattle.assignment.proofs.entries.deliver.Tie as tie
-use Rattle.assignment.proofs.entries.deliver.Reads as reads
-use Rattle.assignment.proofs.entries.deliver.Lts as lts
-use Rattle.planner.proofs.buffer.close.Reads as close-reads
-use Rattle.planner.proofs.buffer.copy_entries.Reads as copy-entries-reads
 
 copy-entries-requires : tie.Need-copy-entries-requires
 copy-entries-requires c κs = search needs

@@ -5,9 +5,6 @@ use Rattle.assignment.proofs.entries.Reading.{Scanning, scanning-start,
 use borrow.Author.Needs.{needs}
 use Rattle.assignment.proofs.entries.first_same_scope.Statement.{statement}
 use Rattle.assignment.proofs.entries.first_same_scope.Tie as tie
-use Rattle.assignment.proofs.entries.first_same_scope.Reads as reads
-use Rattle.assignment.proofs.entries.first_same_scope.Lts as lts
-use Rattle.assignment.proofs.entries.bound_here.Reads as bound-here-reads
 
 abbrev Inv-loop : tie.InvT-loop
 Inv-loop nodes scope scratch count i₀ i = Scanning (firstSameScope nodes scope) scratch count i × ReadAsks scratch count

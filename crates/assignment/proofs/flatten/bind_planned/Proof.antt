@@ -2,11 +2,6 @@ use Rattle.assignment.proofs.flatten.PairSides.{side-wrote}
 use borrow.Author.Needs.{needs}
 use Rattle.assignment.proofs.flatten.bind_planned.Statement.{statement}
 use Rattle.assignment.proofs.flatten.bind_planned.Tie as tie
-use Rattle.assignment.proofs.flatten.bind_planned.Reads as reads
-use Rattle.assignment.proofs.flatten.bind_planned.Lts as lts
-use Rattle.assignment.proofs.preview.learn_names.Reads as learn-names-reads
-use Rattle.planner.proofs.buffer.copy_entries.Reads as copy-entries-reads
-use Rattle.planner.proofs.buffer.put_entry.Reads as put-entry-reads
 
 put-entry-requires : tie.Need-put-entry-requires
 put-entry-requires c κs = search needs

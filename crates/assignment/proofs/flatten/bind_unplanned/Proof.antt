@@ -3,10 +3,6 @@ use Rattle.assignment.proofs.preview.Previews.{previewed-written}
 use borrow.Author.Needs.{needs}
 use Rattle.assignment.proofs.flatten.bind_unplanned.Statement.{statement}
 use Rattle.assignment.proofs.flatten.bind_unplanned.Tie as tie
-use Rattle.assignment.proofs.flatten.bind_unplanned.Reads as reads
-use Rattle.assignment.proofs.flatten.bind_unplanned.Lts as lts
-use Rattle.assignment.proofs.flatten.bind_planned.Reads as bind-planned-reads
-use Rattle.assignment.proofs.preview.preview_binding_plan.Reads as preview-binding-plan-reads
 
 preview-binding-plan-requires : tie.Need-preview-binding-plan-requires
 preview-binding-plan-requires c κs = search needs

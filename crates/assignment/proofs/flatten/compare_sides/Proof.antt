@@ -2,9 +2,6 @@ use Rattle.assignment.proofs.flatten.PairSides.{sides-compared}
 use borrow.Author.Needs.{needs}
 use Rattle.assignment.proofs.flatten.compare_sides.Statement.{statement}
 use Rattle.assignment.proofs.flatten.compare_sides.Tie as tie
-use Rattle.assignment.proofs.flatten.compare_sides.Reads as reads
-use Rattle.assignment.proofs.flatten.compare_sides.Lts as lts
-use Rattle.planner.proofs.buffer.put_entry.Reads as put-entry-reads
 
 put-entry-requires : tie.Need-put-entry-requires
 put-entry-requires c κs = search needs

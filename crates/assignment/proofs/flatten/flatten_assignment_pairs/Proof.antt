@@ -2,12 +2,6 @@ use Rattle.assignment.proofs.flatten.FlatNodes.{ask-flatten, pairs-plan
 use borrow.Author.Needs.{needs}
 use Rattle.assignment.proofs.flatten.flatten_assignment_pairs.Statement.{statement}
 use Rattle.assignment.proofs.flatten.flatten_assignment_pairs.Tie as tie
-use Rattle.assignment.proofs.flatten.flatten_assignment_pairs.Reads as reads
-use Rattle.assignment.proofs.flatten.flatten_assignment_pairs.Lts as lts
-use Rattle.assignment.proofs.flatten.flatten.Reads as flatten-reads
-use Rattle.planner.proofs.buffer.clear.Reads as clear-reads
-use Rattle.planner.proofs.buffer.close.Reads as close-reads
-use Rattle.planner.proofs.context.name_states.Reads as name-states-reads
 
 name-states-requires : tie.Need-name-states-requires
 name-states-requires c κs = search needs

@@ -2,10 +2,6 @@ use Rattle.assignment.proofs.judge.Judgements.{judges}
 use borrow.Author.Needs.{needs}
 use Rattle.assignment.proofs.judge.judge.Statement.{statement}
 use Rattle.assignment.proofs.judge.judge.Tie as tie
-use Rattle.assignment.proofs.judge.judge.Reads as reads
-use Rattle.assignment.proofs.judge.judge.Lts as lts
-use Rattle.assignment.proofs.judge.judge_sides.Reads as judge-sides-reads
-use Rattle.assignment.proofs.preview.preview_sides.Reads as preview-sides-reads
 
 preview-sides-requires : tie.Need-preview-sides-requires
 preview-sides-requires c κs = search needs

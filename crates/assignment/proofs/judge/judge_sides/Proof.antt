@@ -2,11 +2,6 @@ use Rattle.assignment.proofs.judge.Judgements.{judge-neither, judge-as-
 use borrow.Author.Needs.{needs}
 use Rattle.assignment.proofs.judge.judge_sides.Statement.{statement}
 use Rattle.assignment.proofs.judge.judge_sides.Tie as tie
-use Rattle.assignment.proofs.judge.judge_sides.Reads as reads
-use Rattle.assignment.proofs.judge.judge_sides.Lts as lts
-use Rattle.assignment.proofs.judge.either.Reads as either-reads
-use Rattle.assignment.proofs.judge.judge_whole.Reads as judge-whole-reads
-use Rattle.assignment.proofs.judge.pairing_of.Reads as pairing-of-reads
 
 either-requires : tie.Need-either-requires
 either-requires c κs = search needs

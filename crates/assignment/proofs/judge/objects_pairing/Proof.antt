@@ -2,9 +2,6 @@ use Rattle.assignment.proofs.judge.PairShapes.{objects-left, objects-ri
 use borrow.Author.Needs.{needs}
 use Rattle.assignment.proofs.judge.objects_pairing.Statement.{statement}
 use Rattle.assignment.proofs.judge.objects_pairing.Tie as tie
-use Rattle.assignment.proofs.judge.objects_pairing.Reads as reads
-use Rattle.assignment.proofs.judge.objects_pairing.Lts as lts
-use Rattle.assignment.proofs.keys.literal_keys.Reads as literal-keys-reads
 
 literal-keys-requires : tie.Need-literal-keys-requires
 literal-keys-requires c κs = search needs

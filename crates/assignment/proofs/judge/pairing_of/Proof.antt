@@ -2,10 +2,6 @@ use Rattle.assignment.proofs.judge.PairShapes.{pairing-items, pairing-a
 use borrow.Author.Needs.{needs}
 use Rattle.assignment.proofs.judge.pairing_of.Statement.{statement}
 use Rattle.assignment.proofs.judge.pairing_of.Tie as tie
-use Rattle.assignment.proofs.judge.pairing_of.Reads as reads
-use Rattle.assignment.proofs.judge.pairing_of.Lts as lts
-use Rattle.assignment.proofs.judge.objects_pairing.Reads as objects-pairing-reads
-use Rattle.table.proofs.reading.kind_of.Reads as kind-of-reads
 
 kind-of-requires : tie.Need-kind-of-requires
 kind-of-requires c κs = search needs

@@ -3,12 +3,6 @@ use Rattle.planner.proofs.fields.FieldLoops.{arranged-first}
 use borrow.Author.Needs.{needs}
 use Rattle.assignment.proofs.keys.collect_object_pairs.Statement.{statement}
 use Rattle.assignment.proofs.keys.collect_object_pairs.Tie as tie
-use Rattle.assignment.proofs.keys.collect_object_pairs.Reads as reads
-use Rattle.assignment.proofs.keys.collect_object_pairs.Lts as lts
-use Rattle.assignment.proofs.keys.first_missing.Reads as first-missing-reads
-use Rattle.planner.proofs.inner.fields.order_fields.Reads as order-fields-reads
-use Rattle.table.proofs.reading.count_of.Reads as count-of-reads
-use Rattle.table.proofs.reading.first_of.Reads as first-of-reads
 
 first-of-requires : tie.Need-first-of-requires
 first-of-requires c κs = search needs

@@ -2,10 +2,6 @@ use Rattle.assignment.proofs.keys.KeyLoops.{field-find, field-told}
 use borrow.Author.Needs.{needs}
 use Rattle.assignment.proofs.keys.field_sides.Statement.{statement}
 use Rattle.assignment.proofs.keys.field_sides.Tie as tie
-use Rattle.assignment.proofs.keys.field_sides.Reads as reads
-use Rattle.assignment.proofs.keys.field_sides.Lts as lts
-use Rattle.assignment.proofs.keys.find_value.Reads as find-value-reads
-use Rattle.table.proofs.reading.child_at.Reads as child-at-reads
 
 child-at-requires : tie.Need-child-at-requires
 child-at-requires c κs = search needs

@@ -4,12 +4,6 @@ use Rattle.assignment.proofs.keys.KeySearch.{Searching, searching-start
 use borrow.Author.Needs.{needs}
 use Rattle.assignment.proofs.keys.find_value.Statement.{statement}
 use Rattle.assignment.proofs.keys.find_value.Tie as tie
-use Rattle.assignment.proofs.keys.find_value.Reads as reads
-use Rattle.assignment.proofs.keys.find_value.Lts as lts
-use Rattle.planner.proofs.fields.field_at.Reads as field-at-reads
-use Rattle.table.proofs.reading.child_at.Reads as child-at-reads
-use Rattle.table.proofs.reading.compare_literals.Reads as compare-literals-reads
-use Rattle.table.proofs.reading.first_of.Reads as first-of-reads
 
 abbrev Inv-loop : tie.InvT-loop
 Inv-loop nodes children numbers names strings text object order total key first low₀ high₀ low high = Searching (tables nodes children numbers names strings text) object order total key first low high

@@ -3,10 +3,6 @@ use Rattle.assignment.proofs.keys.KeyLoops.{Missing, missing-start, mis
 use borrow.Author.Needs.{needs}
 use Rattle.assignment.proofs.keys.first_missing.Statement.{statement}
 use Rattle.assignment.proofs.keys.first_missing.Tie as tie
-use Rattle.assignment.proofs.keys.first_missing.Reads as reads
-use Rattle.assignment.proofs.keys.first_missing.Lts as lts
-use Rattle.assignment.proofs.keys.find_value.Reads as find-value-reads
-use Rattle.table.proofs.reading.child_at.Reads as child-at-reads
 
 abbrev Inv-loop : tie.InvT-loop
 Inv-loop nodes children numbers names strings text object order total from count place₀ more₀ place more = Missing (tables nodes children numbers names strings text) object order total from count place more

@@ -3,12 +3,6 @@ use Rattle.assignment.proofs.keys.KeyLoops.{Testing, testing-start, tes
 use borrow.Author.Needs.{needs}
 use Rattle.assignment.proofs.keys.literal_keys.Statement.{statement}
 use Rattle.assignment.proofs.keys.literal_keys.Tie as tie
-use Rattle.assignment.proofs.keys.literal_keys.Reads as reads
-use Rattle.assignment.proofs.keys.literal_keys.Lts as lts
-use Rattle.table.proofs.reading.child_at.Reads as child-at-reads
-use Rattle.table.proofs.reading.count_of.Reads as count-of-reads
-use Rattle.table.proofs.reading.first_of.Reads as first-of-reads
-use Rattle.table.proofs.reading.kind_of.Reads as kind-of-reads
 
 abbrev Inv-loop : tie.InvT-loop
 Inv-loop nodes children node first count i₀ i = Testing nodes children node first count i

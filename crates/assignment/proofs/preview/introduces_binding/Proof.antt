@@ -4,8 +4,6 @@ use Rattle.assignment.proofs.entries.Reading.{Scanning, scanning-start,
 use borrow.Author.Needs.{needs}
 use Rattle.assignment.proofs.preview.introduces_binding.Statement.{statement}
 use Rattle.assignment.proofs.preview.introduces_binding.Tie as tie
-use Rattle.assignment.proofs.preview.introduces_binding.Reads as reads
-use Rattle.assignment.proofs.preview.introduces_binding.Lts as lts
 
 abbrev Inv-loop : tie.InvT-loop
 Inv-loop scratch count i₀ i = Scanning bindsAny scratch count i

@@ -2,8 +2,6 @@ use Rattle.assignment.proofs.preview.Learning.{learnt-known, learnt-not
 use borrow.Author.Needs.{needs}
 use Rattle.assignment.proofs.preview.learn_name.Statement.{statement}
 use Rattle.assignment.proofs.preview.learn_name.Tie as tie
-use Rattle.assignment.proofs.preview.learn_name.Reads as reads
-use Rattle.assignment.proofs.preview.learn_name.Lts as lts
 
 element-copy-out-if1 : tie.Need-element-copy-out-if1
 element-copy-out-if1 c = search needs

@@ -3,9 +3,6 @@ use Rattle.assignment.proofs.preview.Learning.{Learning, learning-start
 use borrow.Author.Needs.{needs}
 use Rattle.assignment.proofs.preview.learn_names.Statement.{statement}
 use Rattle.assignment.proofs.preview.learn_names.Tie as tie
-use Rattle.assignment.proofs.preview.learn_names.Reads as reads
-use Rattle.assignment.proofs.preview.learn_names.Lts as lts
-use Rattle.assignment.proofs.preview.learn_name.Reads as learn-name-reads
 
 abbrev Inv-loop : tie.InvT-loop
 Inv-loop states₀ binders i₀ states i = Learning states₀ binders i states

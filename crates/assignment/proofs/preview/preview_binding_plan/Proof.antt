@@ -2,11 +2,6 @@ use Rattle.assignment.proofs.preview.Previews.{ask-preview, previewed}
 use borrow.Author.Needs.{needs}
 use Rattle.assignment.proofs.preview.preview_binding_plan.Statement.{statement}
 use Rattle.assignment.proofs.preview.preview_binding_plan.Tie as tie
-use Rattle.assignment.proofs.preview.preview_binding_plan.Reads as reads
-use Rattle.assignment.proofs.preview.preview_binding_plan.Lts as lts
-use Rattle.assignment.proofs.preview.introduces_binding.Reads as introduces-binding-reads
-use Rattle.planner.proofs.buffer.clear.Reads as clear-reads
-use Rattle.planner.proofs.inner.destructuring.create_destructuring_plan_with_tracking.Reads as create-destructuring-plan-with-tracking-reads
 
 clear-requires : tie.Need-clear-requires
 clear-requires c κs = search needs

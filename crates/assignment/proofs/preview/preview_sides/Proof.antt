@@ -2,9 +2,6 @@ use Rattle.assignment.proofs.preview.Previews.{roomy-kept, sides-told}
 use borrow.Author.Needs.{needs}
 use Rattle.assignment.proofs.preview.preview_sides.Statement.{statement}
 use Rattle.assignment.proofs.preview.preview_sides.Tie as tie
-use Rattle.assignment.proofs.preview.preview_sides.Reads as reads
-use Rattle.assignment.proofs.preview.preview_sides.Lts as lts
-use Rattle.assignment.proofs.preview.preview_binding_plan.Reads as preview-binding-plan-reads
 
 preview-binding-plan-requires : tie.Need-preview-binding-plan-requires
 preview-binding-plan-requires c κs = search needs

@@ -2,9 +2,6 @@ use Rattle.checks.proofs.Joins.{unknown-ends, unknown-mismatch, unknown
 use borrow.Author.Needs.{needs}
 use Rattle.checks.proofs.joining.after_unknown.Statement.{statement}
 use Rattle.checks.proofs.joining.after_unknown.Tie as tie
-use Rattle.checks.proofs.joining.after_unknown.Reads as reads
-use Rattle.checks.proofs.joining.after_unknown.Lts as lts
-use Rattle.checks.proofs.is_mismatch.Reads as is-mismatch-reads
 
 enum-told : tie.Need-enum-told
 enum-told c = search needs

@@ -2,9 +2,6 @@ use Rattle.checks.proofs.Joins.{after-match, after-unknown, after-array
 use borrow.Author.Needs.{needs}
 use Rattle.checks.proofs.joining.join.Statement.{statement}
 use Rattle.checks.proofs.joining.join.Tie as tie
-use Rattle.checks.proofs.joining.join.Reads as reads
-use Rattle.checks.proofs.joining.join.Lts as lts
-use Rattle.checks.proofs.joining.after_unknown.Reads as after-unknown-reads
 
 enum-told : tie.Need-enum-told
 enum-told c = search needs

@@ -2,8 +2,6 @@ use Rattle.checks.proofs.ObjectFields.{none-computed, none-paired, none
 use borrow.Author.Needs.{needs}
 use Rattle.checks.proofs.joining.no_field_yet.Statement.{statement}
 use Rattle.checks.proofs.joining.no_field_yet.Tie as tie
-use Rattle.checks.proofs.joining.no_field_yet.Reads as reads
-use Rattle.checks.proofs.joining.no_field_yet.Lts as lts
 
 returns : tie.Need-returns
 returns c = search (none-computed, needs)

@@ -2,11 +2,6 @@ use Rattle.checks.proofs.Joins.{taken-settled, taken-on}
 use borrow.Author.Needs.{needs}
 use Rattle.checks.proofs.joining.with_field.Statement.{statement}
 use Rattle.checks.proofs.joining.with_field.Tie as tie
-use Rattle.checks.proofs.joining.with_field.Reads as reads
-use Rattle.checks.proofs.joining.with_field.Lts as lts
-use Rattle.checks.proofs.joining.end_after.Reads as end-after-reads
-use Rattle.checks.proofs.joining.is_settled.Reads as is-settled-reads
-use Rattle.checks.proofs.joining.join.Reads as join-reads
 
 join-requires : tie.Need-join-requires
 join-requires c κs = search needs

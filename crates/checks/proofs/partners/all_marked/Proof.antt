@@ -3,8 +3,6 @@ use Rattle.checks.proofs.ObjectFields.{Looking, marks-start, marks-on, 
 use borrow.Author.Needs.{needs}
 use Rattle.checks.proofs.partners.all_marked.Statement.{statement}
 use Rattle.checks.proofs.partners.all_marked.Tie as tie
-use Rattle.checks.proofs.partners.all_marked.Reads as reads
-use Rattle.checks.proofs.partners.all_marked.Lts as lts
 
 abbrev Inv-loop : tie.InvT-loop
 Inv-loop marks size q₀ q = Looking marks size q

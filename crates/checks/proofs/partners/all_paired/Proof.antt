@@ -3,11 +3,6 @@ use Rattle.checks.proofs.PatternObjects.{slots-few}
 use borrow.Author.Needs.{needs}
 use Rattle.checks.proofs.partners.all_paired.Statement.{statement}
 use Rattle.checks.proofs.partners.all_paired.Tie as tie
-use Rattle.checks.proofs.partners.all_paired.Reads as reads
-use Rattle.checks.proofs.partners.all_paired.Lts as lts
-use Rattle.checks.proofs.partners.all_marked.Reads as all-marked-reads
-use Rattle.checks.proofs.partners.mark_partners.Reads as mark-partners-reads
-use Rattle.planner.proofs.buffer.clear.Reads as clear-reads
 
 clear-requires : tie.Need-clear-requires
 clear-requires c κs = search needs

@@ -2,9 +2,6 @@ use Rattle.checks.proofs.ObjectFields.{paired-present, paired-careful}
 use borrow.Author.Needs.{needs}
 use Rattle.checks.proofs.partners.each_paired.Statement.{statement}
 use Rattle.checks.proofs.partners.each_paired.Tie as tie
-use Rattle.checks.proofs.partners.each_paired.Reads as reads
-use Rattle.checks.proofs.partners.each_paired.Lts as lts
-use Rattle.checks.proofs.partners.all_paired.Reads as all-paired-reads
 
 enum-told : tie.Need-enum-told
 enum-told c = search needs

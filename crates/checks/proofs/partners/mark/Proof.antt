@@ -2,8 +2,6 @@ use Rattle.checks.proofs.ObjectFields.{mark-set, mark-none}
 use borrow.Author.Needs.{needs}
 use Rattle.checks.proofs.partners.mark.Statement.{statement}
 use Rattle.checks.proofs.partners.mark.Tie as tie
-use Rattle.checks.proofs.partners.mark.Reads as reads
-use Rattle.checks.proofs.partners.mark.Lts as lts
 
 mul-marks : tie.Need-mul-marks
 mul-marks c = search needs

@@ -4,13 +4,6 @@ use Rattle.checks.proofs.ObjectFields.{Marking, marking-start, marking-
 use borrow.Author.Needs.{needs}
 use Rattle.checks.proofs.partners.mark_partners.Statement.{statement}
 use Rattle.checks.proofs.partners.mark_partners.Tie as tie
-use Rattle.checks.proofs.partners.mark_partners.Reads as reads
-use Rattle.checks.proofs.partners.mark_partners.Lts as lts
-use Rattle.checks.proofs.partners.mark.Reads as mark-reads
-use Rattle.checks.proofs.partners.partner_place.Reads as partner-place-reads
-use Rattle.table.proofs.reading.child_at.Reads as child-at-reads
-use Rattle.table.proofs.reading.count_of.Reads as count-of-reads
-use Rattle.table.proofs.reading.first_of.Reads as first-of-reads
 
 abbrev Inv-loop : tie.InvT-loop
 Inv-loop nodes children numbers names strings text pattern value order literals total marks₀ first count i₀ marks i = Marking (tables nodes children numbers names strings text) pattern value order literals total first count marks i

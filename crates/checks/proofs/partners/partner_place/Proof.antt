@@ -2,11 +2,6 @@ use Rattle.checks.proofs.PatternObjects.{place-computed, place-find, pl
 use borrow.Author.Needs.{needs}
 use Rattle.checks.proofs.partners.partner_place.Statement.{statement}
 use Rattle.checks.proofs.partners.partner_place.Tie as tie
-use Rattle.checks.proofs.partners.partner_place.Reads as reads
-use Rattle.checks.proofs.partners.partner_place.Lts as lts
-use Rattle.planner.proofs.inner.fields.find_field.Reads as find-field-reads
-use Rattle.table.proofs.reading.extract_literal_key.Reads as extract-literal-key-reads
-use Rattle.table.proofs.reading.first_of.Reads as first-of-reads
 
 extract-literal-key-requires : tie.Need-extract-literal-key-requires
 extract-literal-key-requires c κs = search needs

@@ -2,11 +2,6 @@ use Rattle.checks.proofs.PatternObjects.{slot-double, slot-key, slot-va
 use borrow.Author.Needs.{needs}
 use Rattle.checks.proofs.partners.pattern_at.Statement.{statement}
 use Rattle.checks.proofs.partners.pattern_at.Tie as tie
-use Rattle.checks.proofs.partners.pattern_at.Reads as reads
-use Rattle.checks.proofs.partners.pattern_at.Lts as lts
-use Rattle.planner.proofs.fields.field_at.Reads as field-at-reads
-use Rattle.table.proofs.reading.child_at.Reads as child-at-reads
-use Rattle.table.proofs.reading.first_of.Reads as first-of-reads
 
 first-of-requires : tie.Need-first-of-requires
 first-of-requires c κs = search needs

@@ -2,11 +2,6 @@ use Rattle.checks.proofs.TextLoops.{added-none, ask-text, added-key}
 use borrow.Author.Needs.{needs}
 use Rattle.checks.proofs.texts.add_key.Statement.{statement}
 use Rattle.checks.proofs.texts.add_key.Tie as tie
-use Rattle.checks.proofs.texts.add_key.Reads as reads
-use Rattle.checks.proofs.texts.add_key.Lts as lts
-use Rattle.checks.proofs.texts.find_text.Reads as find-text-reads
-use Rattle.base.proofs.words.insert_at.Reads as insert-at-reads
-use Rattle.table.proofs.reading.extract_literal_key.Reads as extract-literal-key-reads
 
 extract-literal-key-requires : tie.Need-extract-literal-key-requires
 extract-literal-key-requires c κs = search needs

@@ -2,9 +2,6 @@ use Rattle.checks.proofs.TextLoops.{after-greater, after-less, after-eq
 use borrow.Author.Needs.{needs}
 use Rattle.checks.proofs.texts.comes_after.Statement.{statement}
 use Rattle.checks.proofs.texts.comes_after.Tie as tie
-use Rattle.checks.proofs.texts.comes_after.Reads as reads
-use Rattle.checks.proofs.texts.comes_after.Lts as lts
-use Rattle.table.proofs.reading.compare_key_text_to_node.Reads as compare-key-text-to-node-reads
 
 compare-key-text-to-node-requires : tie.Need-compare-key-text-to-node-requires
 compare-key-text-to-node-requires c κs = search needs

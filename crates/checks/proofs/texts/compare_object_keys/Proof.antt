@@ -3,12 +3,6 @@ use Rattle.planner.proofs.fields.FieldLoops.{arranged-first}
 use borrow.Author.Needs.{needs}
 use Rattle.checks.proofs.texts.compare_object_keys.Statement.{statement}
 use Rattle.checks.proofs.texts.compare_object_keys.Tie as tie
-use Rattle.checks.proofs.texts.compare_object_keys.Reads as reads
-use Rattle.checks.proofs.texts.compare_object_keys.Lts as lts
-use Rattle.checks.proofs.texts.compare_texts.Reads as compare-texts-reads
-use Rattle.planner.proofs.inner.fields.order_fields.Reads as order-fields-reads
-use Rattle.table.proofs.reading.count_of.Reads as count-of-reads
-use Rattle.table.proofs.reading.first_of.Reads as first-of-reads
 
 first-of-requires : tie.Need-first-of-requires
 first-of-requires c κs = search needs

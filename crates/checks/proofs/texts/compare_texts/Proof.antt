@@ -2,11 +2,6 @@ use Rattle.checks.proofs.TextLoops.{few-keys, texts-compared}
 use borrow.Author.Needs.{needs}
 use Rattle.checks.proofs.texts.compare_texts.Statement.{statement}
 use Rattle.checks.proofs.texts.compare_texts.Tie as tie
-use Rattle.checks.proofs.texts.compare_texts.Reads as reads
-use Rattle.checks.proofs.texts.compare_texts.Lts as lts
-use Rattle.checks.proofs.texts.same_texts.Reads as same-texts-reads
-use Rattle.checks.proofs.texts.sort_ordered.Reads as sort-ordered-reads
-use Rattle.checks.proofs.texts.sort_written.Reads as sort-written-reads
 
 sort-ordered-requires : tie.Need-sort-ordered-requires
 sort-ordered-requires c κs = search needs

@@ -5,9 +5,6 @@ use Rattle.checks.proofs.TextLoops.{Seeking, seeking-start, seeking-up,
 use borrow.Author.Needs.{needs}
 use Rattle.checks.proofs.texts.find_text.Statement.{statement}
 use Rattle.checks.proofs.texts.find_text.Tie as tie
-use Rattle.checks.proofs.texts.find_text.Reads as reads
-use Rattle.checks.proofs.texts.find_text.Lts as lts
-use Rattle.checks.proofs.texts.comes_after.Reads as comes-after-reads
 
 abbrev Inv-loop : tie.InvT-loop
 Inv-loop nodes numbers strings text keys size key low₀ high₀ low high = Seeking (literalNode nodes numbers strings text) keys size (literalOf numbers strings text key) low high

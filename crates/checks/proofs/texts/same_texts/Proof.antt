@@ -4,9 +4,6 @@ use Rattle.checks.proofs.TextLoops.{Agreeing, sizes-differ, agreeing-st
 use borrow.Author.Needs.{needs}
 use Rattle.checks.proofs.texts.same_texts.Statement.{statement}
 use Rattle.checks.proofs.texts.same_texts.Tie as tie
-use Rattle.checks.proofs.texts.same_texts.Reads as reads
-use Rattle.checks.proofs.texts.same_texts.Lts as lts
-use Rattle.table.proofs.reading.compare_key_texts.Reads as compare-key-texts-reads
 
 abbrev Inv-loop : tie.InvT-loop
 Inv-loop nodes numbers strings text a m b n q₀ q = Agreeing (literalNode nodes numbers strings text) a m b n q

@@ -3,11 +3,6 @@ use Rattle.checks.proofs.TextLoops.{SortingOrdered, ordered-start, orde
 use borrow.Author.Needs.{needs}
 use Rattle.checks.proofs.texts.sort_ordered.Statement.{statement}
 use Rattle.checks.proofs.texts.sort_ordered.Tie as tie
-use Rattle.checks.proofs.texts.sort_ordered.Reads as reads
-use Rattle.checks.proofs.texts.sort_ordered.Lts as lts
-use Rattle.checks.proofs.texts.add_key.Reads as add-key-reads
-use Rattle.planner.proofs.fields.field_at.Reads as field-at-reads
-use Rattle.table.proofs.reading.child_at.Reads as child-at-reads
 
 abbrev Inv-loop : tie.InvT-loop
 Inv-loop nodes children numbers names strings text first order total keys₀ size₀ q₀ keys size q = SortingOrdered (tables nodes children numbers names strings text) first order total keys₀ keys size q

@@ -3,10 +3,6 @@ use Rattle.checks.proofs.TextLoops.{SortingWritten, written-start, writ
 use borrow.Author.Needs.{needs}
 use Rattle.checks.proofs.texts.sort_written.Statement.{statement}
 use Rattle.checks.proofs.texts.sort_written.Tie as tie
-use Rattle.checks.proofs.texts.sort_written.Reads as reads
-use Rattle.checks.proofs.texts.sort_written.Lts as lts
-use Rattle.checks.proofs.texts.add_key.Reads as add-key-reads
-use Rattle.table.proofs.reading.child_at.Reads as child-at-reads
 
 abbrev Inv-loop : tie.InvT-loop
 Inv-loop nodes children numbers names strings text first count keys₀ size₀ i₀ keys size i = SortingWritten (tables nodes children numbers names strings text) first count keys₀ keys size i

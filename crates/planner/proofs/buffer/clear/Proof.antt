@@ -2,9 +2,6 @@ use Rattle.planner.proofs.buffer.Filling.{all-cleared}
 use borrow.Author.Needs.{needs}
 use Rattle.planner.proofs.buffer.clear.Statement.{statement}
 use Rattle.planner.proofs.buffer.clear.Tie as tie
-use Rattle.planner.proofs.buffer.clear.Reads as reads
-use Rattle.planner.proofs.buffer.clear.Lts as lts
-use Rattle.planner.proofs.buffer.clear_after.Reads as clear-after-reads
 
 clear-after-requires : tie.Need-clear-after-requires
 clear-after-requires c κs = search needs

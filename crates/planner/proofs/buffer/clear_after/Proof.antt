@@ -1,13 +1,11 @@
+use Rattle.planner.specs.Entries.{wordAt}
 use Prim.Native.Nat.{_-_, _≤_}
 use lib.ListN.{length}
-use Rattle.planner.specs.code.Post.{wordAt}
 use Rattle.planner.proofs.buffer.Filling.{Filling, filling-next, filling-ends, word-out}
 use Rattle.planner.proofs.buffer.Copies.{clearing-start}
 use borrow.Author.Needs.{needs}
 use Rattle.planner.proofs.buffer.clear_after.Statement.{statement}
 use Rattle.planner.proofs.buffer.clear_after.Tie as tie
-use Rattle.planner.proofs.buffer.clear_after.Reads as reads
-use Rattle.planner.proofs.buffer.clear_after.Lts as lts
 
 abbrev Inv-loop : tie.InvT-loop
 Inv-loop plan₀ from i₀ plan i = Filling (wordAt plan₀ from) (length plan₀) i plan × (from ≤ i)

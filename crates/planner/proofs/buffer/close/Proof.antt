@@ -2,10 +2,6 @@ use Rattle.planner.proofs.buffer.Filling.{closed-small, closed-fits}
 use borrow.Author.Needs.{needs}
 use Rattle.planner.proofs.buffer.close.Statement.{statement}
 use Rattle.planner.proofs.buffer.close.Tie as tie
-use Rattle.planner.proofs.buffer.close.Reads as reads
-use Rattle.planner.proofs.buffer.close.Lts as lts
-use Rattle.planner.proofs.buffer.clear_after.Reads as clear-after-reads
-use Rattle.planner.proofs.buffer.clear.Reads as clear-reads
 
 clear-requires : tie.Need-clear-requires
 clear-requires c κs = search needs

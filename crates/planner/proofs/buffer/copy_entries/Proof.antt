@@ -3,10 +3,6 @@ use Rattle.planner.proofs.buffer.Copies.{Copying, copying-start, copyin
 use borrow.Author.Needs.{needs}
 use Rattle.planner.proofs.buffer.copy_entries.Statement.{statement}
 use Rattle.planner.proofs.buffer.copy_entries.Tie as tie
-use Rattle.planner.proofs.buffer.copy_entries.Reads as reads
-use Rattle.planner.proofs.buffer.copy_entries.Lts as lts
-use Rattle.planner.proofs.buffer.put_entry.Reads as put-entry-reads
-use Rattle.planner.proofs.buffer.word_of.Reads as word-of-reads
 
 abbrev Inv-loop : tie.InvT-loop
 Inv-loop plan₀ at scratch count i₀ to₀ plan i to = Copying scratch plan₀ at count i to plan

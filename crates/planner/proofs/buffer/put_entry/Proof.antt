@@ -3,8 +3,6 @@ use Rattle.planner.proofs.buffer.Copies.{word-2, word-3, word-4, word-5
 use borrow.Author.Needs.{needs}
 use Rattle.planner.proofs.buffer.put_entry.Statement.{statement}
 use Rattle.planner.proofs.buffer.put_entry.Tie as tie
-use Rattle.planner.proofs.buffer.put_entry.Reads as reads
-use Rattle.planner.proofs.buffer.put_entry.Lts as lts
 
 mul-base : tie.Need-mul-base
 mul-base c = search needs

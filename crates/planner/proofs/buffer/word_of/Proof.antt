@@ -2,8 +2,6 @@ use Rattle.planner.proofs.buffer.Filling.{past-end}
 use borrow.Author.Needs.{needs}
 use Rattle.planner.proofs.buffer.word_of.Statement.{statement}
 use Rattle.planner.proofs.buffer.word_of.Tie as tie
-use Rattle.planner.proofs.buffer.word_of.Reads as reads
-use Rattle.planner.proofs.buffer.word_of.Lts as lts
 
 mul-result : tie.Need-mul-result
 mul-result c = search needs

@@ -3,9 +3,6 @@ use Rattle.planner.proofs.laws.States.{Flagging, flagging-start, flaggi
 use borrow.Author.Needs.{needs}
 use Rattle.planner.proofs.context.name_flags.Statement.{statement}
 use Rattle.planner.proofs.context.name_flags.Tie as tie
-use Rattle.planner.proofs.context.name_flags.Reads as reads
-use Rattle.planner.proofs.context.name_flags.Lts as lts
-use Rattle.planner.proofs.context.name_state.Reads as name-state-reads
 
 abbrev Inv-loop : tie.InvT-loop
 Inv-loop names text scope scoping defined binders flags₀ i₀ flags i = Flagging names text scope scoping defined binders i flags

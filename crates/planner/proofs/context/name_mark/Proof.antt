@@ -2,9 +2,6 @@ use Rattle.planner.proofs.laws.States.{mark-unbound, mark-planned, mark
 use borrow.Author.Needs.{needs}
 use Rattle.planner.proofs.context.name_mark.Statement.{statement}
 use Rattle.planner.proofs.context.name_mark.Tie as tie
-use Rattle.planner.proofs.context.name_mark.Reads as reads
-use Rattle.planner.proofs.context.name_mark.Lts as lts
-use Rattle.planner.proofs.context.unbound_mark.Reads as unbound-mark-reads
 
 unbound-mark-requires : tie.Need-unbound-mark-requires
 unbound-mark-requires c κs = search needs

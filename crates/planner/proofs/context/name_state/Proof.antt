@@ -2,10 +2,6 @@ use Rattle.planner.proofs.laws.States.{state-none, state-underscore, st
 use borrow.Author.Needs.{needs}
 use Rattle.planner.proofs.context.name_state.Statement.{statement}
 use Rattle.planner.proofs.context.name_state.Tie as tie
-use Rattle.planner.proofs.context.name_state.Reads as reads
-use Rattle.planner.proofs.context.name_state.Lts as lts
-use Rattle.planner.proofs.context.name_mark.Reads as name-mark-reads
-use Rattle.table.proofs.reading.name_class.Reads as name-class-reads
 
 returns : tie.Need-returns
 returns c = search (state-none, needs)

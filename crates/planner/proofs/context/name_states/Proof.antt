@@ -2,9 +2,6 @@ use Rattle.planner.proofs.laws.States.{states-flags}
 use borrow.Author.Needs.{needs}
 use Rattle.planner.proofs.context.name_states.Statement.{statement}
 use Rattle.planner.proofs.context.name_states.Tie as tie
-use Rattle.planner.proofs.context.name_states.Reads as reads
-use Rattle.planner.proofs.context.name_states.Lts as lts
-use Rattle.planner.proofs.context.name_flags.Reads as name-flags-reads
 
 name-flags-requires : tie.Need-name-flags-requires
 name-flags-requires c κs = search needs

@@ -2,9 +2,6 @@ use Rattle.planner.proofs.laws.States.{mark-yes, mark-no, mark-never}
 use borrow.Author.Needs.{needs}
 use Rattle.planner.proofs.context.unbound_mark.Statement.{statement}
 use Rattle.planner.proofs.context.unbound_mark.Tie as tie
-use Rattle.planner.proofs.context.unbound_mark.Reads as reads
-use Rattle.planner.proofs.context.unbound_mark.Lts as lts
-use Rattle.scope.proofs.Scope.is_var_unbound.Reads as is-var-unbound-reads
 
 is-var-unbound-requires : tie.Need-is-var-unbound-requires
 is-var-unbound-requires c κs = search needs

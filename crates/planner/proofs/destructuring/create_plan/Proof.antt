@@ -2,12 +2,6 @@ use Rattle.planner.proofs.laws.Operations.{good-root, table-refuses, ro
 use borrow.Author.Needs.{needs}
 use Rattle.planner.proofs.destructuring.create_plan.Statement.{statement}
 use Rattle.planner.proofs.destructuring.create_plan.Tie as tie
-use Rattle.planner.proofs.destructuring.create_plan.Reads as reads
-use Rattle.planner.proofs.destructuring.create_plan.Lts as lts
-use Rattle.planner.proofs.buffer.clear.Reads as clear-reads
-use Rattle.planner.proofs.destructuring.deliver_pattern.Reads as deliver-pattern-reads
-use Rattle.table.proofs.check.Reads as check-reads
-use Rattle.table.proofs.reading.is_node.Reads as is-node-reads
 
 check-requires : tie.Need-check-requires
 check-requires c κs = search needs

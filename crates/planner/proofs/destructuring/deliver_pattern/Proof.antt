@@ -3,12 +3,6 @@ use Rattle.planner.proofs.laws.Validating.{unvalidated-closed, plan-ref
 use borrow.Author.Needs.{needs}
 use Rattle.planner.proofs.destructuring.deliver_pattern.Statement.{statement}
 use Rattle.planner.proofs.destructuring.deliver_pattern.Tie as tie
-use Rattle.planner.proofs.destructuring.deliver_pattern.Reads as reads
-use Rattle.planner.proofs.destructuring.deliver_pattern.Lts as lts
-use Rattle.planner.proofs.buffer.clear.Reads as clear-reads
-use Rattle.planner.proofs.buffer.close.Reads as close-reads
-use Rattle.planner.proofs.inner.destructuring.plan_pattern.Reads as plan-pattern-reads
-use Rattle.planner.proofs.inner.parameters.validate_pattern_bindings.Reads as validate-pattern-bindings-reads
 
 plan-pattern-requires : tie.Need-plan-pattern-requires
 plan-pattern-requires c κs = search (ask-pattern, needs)

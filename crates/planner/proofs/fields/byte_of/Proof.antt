@@ -2,8 +2,6 @@ use Rattle.planner.proofs.buffer.Filling.{past-end}
 use borrow.Author.Needs.{needs}
 use Rattle.planner.proofs.fields.byte_of.Statement.{statement}
 use Rattle.planner.proofs.fields.byte_of.Tie as tie
-use Rattle.planner.proofs.fields.byte_of.Reads as reads
-use Rattle.planner.proofs.fields.byte_of.Lts as lts
 
 shared-slice-read-result : tie.Need-shared-slice-read-result
 shared-slice-read-result c = search needs

@@ -2,9 +2,6 @@ use Rattle.planner.proofs.laws.Validating.{parameter-respects, paramete
 use borrow.Author.Needs.{needs}
 use Rattle.planner.proofs.parameters.create_parameter_binding_plan.Statement.{statement}
 use Rattle.planner.proofs.parameters.create_parameter_binding_plan.Tie as tie
-use Rattle.planner.proofs.parameters.create_parameter_binding_plan.Reads as reads
-use Rattle.planner.proofs.parameters.create_parameter_binding_plan.Lts as lts
-use Rattle.planner.proofs.destructuring.create_plan.Reads as create-plan-reads
 
 enum-told : tie.Need-enum-told
 enum-told c = search needs

@@ -3,11 +3,6 @@ use Rattle.some_in.proofs.Collections.{Looking, looking-start, looking-
 use borrow.Author.Needs.{needs}
 use Rattle.some_in.proofs.collection.any_fits.Statement.{statement}
 use Rattle.some_in.proofs.collection.any_fits.Tie as tie
-use Rattle.some_in.proofs.collection.any_fits.Reads as reads
-use Rattle.some_in.proofs.collection.any_fits.Lts as lts
-use Rattle.checks.proofs.inner.check_literal_structure.Reads as check-literal-structure-reads
-use Rattle.checks.proofs.is_mismatch.Reads as is-mismatch-reads
-use Rattle.table.proofs.reading.child_at.Reads as child-at-reads
 
 abbrev Inv-loop : tie.InvT-loop
 Inv-loop nodes children numbers names strings text pattern at left reading place₀ more₀ place more = Looking reading (tables nodes children numbers names strings text) pattern at left place more

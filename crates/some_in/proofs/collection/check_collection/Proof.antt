@@ -2,12 +2,6 @@ use Rattle.some_in.proofs.Collections.{collection-other, ask-items, col
 use borrow.Author.Needs.{needs}
 use Rattle.some_in.proofs.collection.check_collection.Statement.{statement}
 use Rattle.some_in.proofs.collection.check_collection.Tie as tie
-use Rattle.some_in.proofs.collection.check_collection.Reads as reads
-use Rattle.some_in.proofs.collection.check_collection.Lts as lts
-use Rattle.some_in.proofs.collection.check_collection_items.Reads as check-collection-items-reads
-use Rattle.table.proofs.reading.count_of.Reads as count-of-reads
-use Rattle.table.proofs.reading.first_of.Reads as first-of-reads
-use Rattle.table.proofs.reading.kind_of.Reads as kind-of-reads
 
 kind-of-requires : tie.Need-kind-of-requires
 kind-of-requires c κs = search needs

@@ -2,11 +2,6 @@ use Rattle.some_in.proofs.Collections.{items-empty, items-fit, first-pa
 use borrow.Author.Needs.{needs}
 use Rattle.some_in.proofs.collection.check_collection_items.Statement.{statement}
 use Rattle.some_in.proofs.collection.check_collection_items.Tie as tie
-use Rattle.some_in.proofs.collection.check_collection_items.Reads as reads
-use Rattle.some_in.proofs.collection.check_collection_items.Lts as lts
-use Rattle.checks.proofs.inner.check_literal_structure.Reads as check-literal-structure-reads
-use Rattle.some_in.proofs.collection.any_fits.Reads as any-fits-reads
-use Rattle.table.proofs.reading.child_at.Reads as child-at-reads
 
 returns : tie.Need-returns
 returns c = search (items-empty, needs)

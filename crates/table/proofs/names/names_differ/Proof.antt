@@ -4,11 +4,6 @@ use Prim.Native.Nat.{_-_}
 use borrow.Author.Needs.{needs}
 use Rattle.table.proofs.names.names_differ.Statement.{statement}
 use Rattle.table.proofs.names.names_differ.Tie as tie
-use Rattle.table.proofs.names.names_differ.Reads as reads
-use Rattle.table.proofs.names.names_differ.Lts as lts
-use Rattle.base.proofs.bytes.insert_at.Reads as insert-at-reads
-use Rattle.table.proofs.names.find_name.Reads as find-name-reads
-use Rattle.table.proofs.reading.name_bytes.Reads as name-bytes-reads
 
 abbrev Inv-loop : tie.InvT-loop
 Inv-loop names text order₀ total i₀ order i = Naming names text order i

@@ -4,10 +4,6 @@ use Rattle.planner.proofs.inner.destructuring.create_destructuring_plan
   statement,
 }
 use Rattle.planner.proofs.inner.destructuring.create_destructuring_plan_with_tracking.Tie as tie
-use Rattle.planner.proofs.inner.destructuring.create_destructuring_plan_with_tracking.Reads as reads
-use Rattle.planner.proofs.inner.destructuring.create_destructuring_plan_with_tracking.Lts as lts
-use Rattle.planner.proofs.inner.destructuring.decide.Reads as decide-reads
-use Rattle.planner.proofs.inner.plans.lay_out.Reads as lay-out-reads
 
 decide-requires : tie.Need-decide-requires
 decide-requires c κs = (search needs, search (written-room, needs))

@@ -2,8 +2,6 @@ use Rattle.planner.proofs.destructuring.FirstPass.{name-known, name-see
 use borrow.Author.Needs.{needs}
 use Rattle.planner.proofs.inner.destructuring.decide_name.Statement.{statement}
 use Rattle.planner.proofs.inner.destructuring.decide_name.Tie as tie
-use Rattle.planner.proofs.inner.destructuring.decide_name.Reads as reads
-use Rattle.planner.proofs.inner.destructuring.decide_name.Lts as lts
 
 sub-at : tie.Need-sub-at
 sub-at c = search needs

@@ -2,10 +2,6 @@ use Rattle.planner.proofs.laws.Operations.{ask-plan, pattern-planned, p
 use borrow.Author.Needs.{needs}
 use Rattle.planner.proofs.inner.destructuring.plan_pattern.Statement.{statement}
 use Rattle.planner.proofs.inner.destructuring.plan_pattern.Tie as tie
-use Rattle.planner.proofs.inner.destructuring.plan_pattern.Reads as reads
-use Rattle.planner.proofs.inner.destructuring.plan_pattern.Lts as lts
-use Rattle.planner.proofs.context.name_states.Reads as name-states-reads
-use Rattle.planner.proofs.inner.destructuring.create_destructuring_plan_with_tracking.Reads as create-destructuring-plan-with-tracking-reads
 
 name-states-requires : tie.Need-name-states-requires
 name-states-requires c κs = search needs

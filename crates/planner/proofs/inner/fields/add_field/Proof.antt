@@ -2,12 +2,6 @@ use Rattle.planner.proofs.fields.FieldLoops.{total-fits, literals-fit, 
 use borrow.Author.Needs.{needs}
 use Rattle.planner.proofs.inner.fields.add_field.Statement.{statement}
 use Rattle.planner.proofs.inner.fields.add_field.Tie as tie
-use Rattle.planner.proofs.inner.fields.add_field.Reads as reads
-use Rattle.planner.proofs.inner.fields.add_field.Lts as lts
-use Rattle.planner.proofs.inner.fields.find_field.Reads as find-field-reads
-use Rattle.base.proofs.bytes.insert_at.Reads as insert-at-reads
-use Rattle.table.proofs.reading.child_at.Reads as child-at-reads
-use Rattle.table.proofs.reading.extract_literal_key.Reads as extract-literal-key-reads
 
 mul-child-at : tie.Need-mul-child-at
 mul-child-at c = search needs

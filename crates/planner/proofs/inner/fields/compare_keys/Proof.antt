@@ -2,10 +2,6 @@ use Rattle.planner.proofs.fields.FieldLoops.{compared-keys}
 use borrow.Author.Needs.{needs}
 use Rattle.planner.proofs.inner.fields.compare_keys.Statement.{statement}
 use Rattle.planner.proofs.inner.fields.compare_keys.Tie as tie
-use Rattle.planner.proofs.inner.fields.compare_keys.Reads as reads
-use Rattle.planner.proofs.inner.fields.compare_keys.Lts as lts
-use Rattle.table.proofs.reading.child_at.Reads as child-at-reads
-use Rattle.table.proofs.reading.compare_literal_to_node.Reads as compare-literal-to-node-reads
 
 mul-child-at : tie.Need-mul-child-at
 mul-child-at c = search needs

@@ -4,10 +4,6 @@ use Rattle.planner.proofs.fields.FieldLoops.{Finding, finding-start, fi
 use borrow.Author.Needs.{needs}
 use Rattle.planner.proofs.inner.fields.find_field.Statement.{statement}
 use Rattle.planner.proofs.inner.fields.find_field.Tie as tie
-use Rattle.planner.proofs.inner.fields.find_field.Reads as reads
-use Rattle.planner.proofs.inner.fields.find_field.Lts as lts
-use Rattle.planner.proofs.inner.fields.compare_keys.Reads as compare-keys-reads
-use Rattle.planner.proofs.fields.wide.Reads as wide-reads
 
 abbrev Inv-loop : tie.InvT-loop
 Inv-loop nodes children numbers names strings text first order literals key low₀ high₀ low high = Finding (tables nodes children numbers names strings text) first order literals key low high

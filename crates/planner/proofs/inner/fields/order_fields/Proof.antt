@@ -4,9 +4,6 @@ use Rattle.planner.proofs.fields.FieldLoops.{Arranging, arranging-start
 use borrow.Author.Needs.{needs}
 use Rattle.planner.proofs.inner.fields.order_fields.Statement.{statement}
 use Rattle.planner.proofs.inner.fields.order_fields.Tie as tie
-use Rattle.planner.proofs.inner.fields.order_fields.Reads as reads
-use Rattle.planner.proofs.inner.fields.order_fields.Lts as lts
-use Rattle.planner.proofs.inner.fields.add_field.Reads as add-field-reads
 
 abbrev Inv-loop : tie.InvT-loop
 Inv-loop nodes children numbers names strings text first count order₀ sizes₀ i₀ order sizes i = Arranging (tables nodes children numbers names strings text) first count i order₀ order (sizes .literals) (sizes .total)

@@ -2,8 +2,6 @@ use Rattle.planner.proofs.laws.Names.{node-marked, node-free}
 use borrow.Author.Needs.{needs}
 use Rattle.planner.proofs.inner.names.marked_node.Statement.{statement}
 use Rattle.planner.proofs.inner.names.marked_node.Tie as tie
-use Rattle.planner.proofs.inner.names.marked_node.Reads as reads
-use Rattle.planner.proofs.inner.names.marked_node.Lts as lts
 
 sub-if1 : tie.Need-sub-if1
 sub-if1 c = search needs

@@ -2,11 +2,6 @@ use Rattle.planner.proofs.laws.Names.{span-items, span-members, span-se
 use borrow.Author.Needs.{needs}
 use Rattle.planner.proofs.inner.names.span_of.Statement.{statement}
 use Rattle.planner.proofs.inner.names.span_of.Tie as tie
-use Rattle.planner.proofs.inner.names.span_of.Reads as reads
-use Rattle.planner.proofs.inner.names.span_of.Lts as lts
-use Rattle.table.proofs.reading.count_of.Reads as count-of-reads
-use Rattle.table.proofs.reading.first_of.Reads as first-of-reads
-use Rattle.table.proofs.reading.kind_of.Reads as kind-of-reads
 
 kind-of-requires : tie.Need-kind-of-requires
 kind-of-requires c κs = search needs

@@ -2,10 +2,6 @@ use Rattle.planner.proofs.laws.Validating.{ask-first, first-validated}
 use borrow.Author.Needs.{needs}
 use Rattle.planner.proofs.inner.parameters.validate_pattern_bindings.Statement.{statement}
 use Rattle.planner.proofs.inner.parameters.validate_pattern_bindings.Tie as tie
-use Rattle.planner.proofs.inner.parameters.validate_pattern_bindings.Reads as reads
-use Rattle.planner.proofs.inner.parameters.validate_pattern_bindings.Lts as lts
-use Rattle.planner.proofs.context.name_flags.Reads as name-flags-reads
-use Rattle.planner.proofs.inner.names.first_name.Reads as first-name-reads
 
 name-flags-requires : tie.Need-name-flags-requires
 name-flags-requires c κs = search needs

@@ -2,8 +2,6 @@ use Rattle.planner.proofs.destructuring.SecondPass.{leaf-low, leaf-high
 use borrow.Author.Needs.{needs}
 use Rattle.planner.proofs.inner.plans.leaf_kind.Statement.{statement}
 use Rattle.planner.proofs.inner.plans.leaf_kind.Tie as tie
-use Rattle.planner.proofs.inner.plans.leaf_kind.Reads as reads
-use Rattle.planner.proofs.inner.plans.leaf_kind.Lts as lts
 
 returns : tie.Need-returns
 returns c = search (leaf-low, needs)

@@ -2,8 +2,6 @@ use Rattle.planner.proofs.destructuring.SecondPass.{kind-ignores, kind-
 use borrow.Author.Needs.{needs}
 use Rattle.planner.proofs.inner.plans.name_kind.Statement.{statement}
 use Rattle.planner.proofs.inner.plans.name_kind.Tie as tie
-use Rattle.planner.proofs.inner.plans.name_kind.Reads as reads
-use Rattle.planner.proofs.inner.plans.name_kind.Lts as lts
 
 sub-at : tie.Need-sub-at
 sub-at c = search needs
