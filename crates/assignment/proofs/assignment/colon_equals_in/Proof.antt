@@ -9,16 +9,10 @@ plan-pattern-requires c κs = search (ask-first, needs)
 colon-equals-from-requires : tie.Need-colon-equals-from-requires
 colon-equals-from-requires c κs = search (ask-colon, c .before .before .before .before .before .before .before .before .before .before .before .before .before .before .before .pre .0, c .before .before .before .before .before .before .before .before .before .before .before .before .before .before .before .pre .1, c .before .before .before .before .plan-pattern .ensures, needs)
 
-same-length : tie.Need-same-length
-same-length c = search needs
-
-same-length-2 : tie.Need-same-length-2
-same-length-2 c = search needs
-
 returns : tie.Need-returns
 returns c = (search (colon-planned, needs), search needs)
 
 pub colon-equals-in-spec : {M : Type 1} → statement M
 colon-equals-in-spec =
     tie.close
-    (tie.spec plan-pattern-requires colon-equals-from-requires same-length same-length-2 returns)
+    (tie.spec plan-pattern-requires colon-equals-from-requires (λ c. search needs) (λ c. search needs) returns)

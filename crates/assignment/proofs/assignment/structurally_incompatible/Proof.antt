@@ -3,12 +3,6 @@ use borrow.Author.Needs.{needs}
 use Rattle.assignment.proofs.assignment.structurally_incompatible.Statement.{statement}
 use Rattle.assignment.proofs.assignment.structurally_incompatible.Tie as tie
 
-kind-of-requires : tie.Need-kind-of-requires
-kind-of-requires c κs = search needs
-
-kind-of-requires-2 : tie.Need-kind-of-requires-2
-kind-of-requires-2 c κs = search needs
-
 returns : tie.Need-returns
 returns c = search (array-against, needs)
 
@@ -20,4 +14,4 @@ returns-3 c = search (single-against, needs)
 
 pub structurally-incompatible-spec : {M : Type 1} → statement M
 structurally-incompatible-spec =
-    tie.close (tie.spec kind-of-requires kind-of-requires-2 returns returns-2 returns-3)
+    tie.close (tie.spec (λ c κs. search needs) (λ c κs. search needs) returns returns-2 returns-3)

@@ -3,12 +3,6 @@ use borrow.Author.Needs.{needs}
 use Rattle.assignment.proofs.assignment.wildcard_side.Statement.{statement}
 use Rattle.assignment.proofs.assignment.wildcard_side.Tie as tie
 
-is-underscore-requires : tie.Need-is-underscore-requires
-is-underscore-requires c κs = search needs
-
-is-underscore-requires-2 : tie.Need-is-underscore-requires-2
-is-underscore-requires-2 c κs = search needs
-
 returns : tie.Need-returns
 returns c = search (side-both, needs)
 
@@ -25,8 +19,8 @@ pub wildcard-side-spec : {M : Type 1} → statement M
 wildcard-side-spec =
     tie.close
     (tie.spec
-    is-underscore-requires
-    is-underscore-requires-2
+    (λ c κs. search needs)
+    (λ c κs. search needs)
     returns
     returns-2
     returns-3

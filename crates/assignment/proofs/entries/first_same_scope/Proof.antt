@@ -15,38 +15,8 @@ abbrev μ-loop : tie.MeasureT-loop
 loop-holds : tie.Need-loop-holds Inv-loop μ-loop
 loop-holds c = (search (scanning-start, needs), search needs)
 
-mul-node : tie.Need-mul-node Inv-loop μ-loop
-mul-node c = search needs
-
-add-node : tie.Need-add-node Inv-loop μ-loop
-add-node c = search needs
-
-mul-node-2 : tie.Need-mul-node-2 Inv-loop μ-loop
-mul-node-2 c = search needs
-
-shared-slice-read-node : tie.Need-shared-slice-read-node Inv-loop μ-loop
-shared-slice-read-node c = search needs
-
-mul-bound-here : tie.Need-mul-bound-here Inv-loop μ-loop
-mul-bound-here c = search needs
-
-mul-bound-here-2 : tie.Need-mul-bound-here-2 Inv-loop μ-loop
-mul-bound-here-2 c = search needs
-
-shared-slice-read-bound-here : tie.Need-shared-slice-read-bound-here Inv-loop μ-loop
-shared-slice-read-bound-here c = search needs
-
-bound-here-requires : tie.Need-bound-here-requires Inv-loop μ-loop
-bound-here-requires c κs = search needs
-
 returns : tie.Need-returns Inv-loop μ-loop
 returns c = search (first-found, needs)
-
-add-i : tie.Need-add-i Inv-loop μ-loop
-add-i c = search needs
-
-loop-less : tie.Need-loop-less Inv-loop μ-loop
-loop-less c = search needs
 
 loop-again : tie.Need-loop-again Inv-loop μ-loop
 loop-again c = (first-on _ _ (c .before .before .before .before .before .loop .inv .0) (c .before .before .before .before .loop-test .taken) (c .before .bound-here .ensures) (c .if1 .left), search needs)
@@ -61,16 +31,16 @@ first-same-scope-spec =
     Inv-loop
     μ-loop
     loop-holds
-    mul-node
-    add-node
-    mul-node-2
-    shared-slice-read-node
-    mul-bound-here
-    mul-bound-here-2
-    shared-slice-read-bound-here
-    bound-here-requires
+    (λ c. search needs)
+    (λ c. search needs)
+    (λ c. search needs)
+    (λ c. search needs)
+    (λ c. search needs)
+    (λ c. search needs)
+    (λ c. search needs)
+    (λ c κs. search needs)
     returns
-    add-i
-    loop-less
+    (λ c. search needs)
+    (λ c. search needs)
     loop-again
     returns-2)

@@ -3,14 +3,8 @@ use borrow.Author.Needs.{needs}
 use Rattle.assignment.proofs.judge.objects_pairing.Statement.{statement}
 use Rattle.assignment.proofs.judge.objects_pairing.Tie as tie
 
-literal-keys-requires : tie.Need-literal-keys-requires
-literal-keys-requires c κs = search needs
-
 returns : tie.Need-returns
 returns c = search (objects-left, needs)
-
-literal-keys-requires-2 : tie.Need-literal-keys-requires-2
-literal-keys-requires-2 c κs = search needs
 
 returns-2 : tie.Need-returns-2
 returns-2 c = search (objects-right, needs)
@@ -20,4 +14,4 @@ returns-3 c = search (objects-both, needs)
 
 pub objects-pairing-spec : {M : Type 1} → statement M
 objects-pairing-spec =
-    tie.close (tie.spec literal-keys-requires returns literal-keys-requires-2 returns-2 returns-3)
+    tie.close (tie.spec (λ c κs. search needs) returns (λ c κs. search needs) returns-2 returns-3)

@@ -3,12 +3,6 @@ use borrow.Author.Needs.{needs}
 use Rattle.assignment.proofs.judge.pairing_of.Statement.{statement}
 use Rattle.assignment.proofs.judge.pairing_of.Tie as tie
 
-kind-of-requires : tie.Need-kind-of-requires
-kind-of-requires c κs = search needs
-
-kind-of-requires-2 : tie.Need-kind-of-requires-2
-kind-of-requires-2 c κs = search needs
-
 returns : tie.Need-returns
 returns c = search (pairing-items, needs)
 
@@ -20,9 +14,6 @@ returns-3 c = search (pairing-array, needs)
 
 returns-4 : tie.Need-returns-4
 returns-4 c = search (pairing-object-array, needs)
-
-objects-pairing-requires : tie.Need-objects-pairing-requires
-objects-pairing-requires c κs = search needs
 
 returns-5 : tie.Need-returns-5
 returns-5 c = search (pairing-objects, needs)
@@ -37,13 +28,13 @@ pub pairing-of-spec : {M : Type 1} → statement M
 pairing-of-spec =
     tie.close
     (tie.spec
-    kind-of-requires
-    kind-of-requires-2
+    (λ c κs. search needs)
+    (λ c κs. search needs)
     returns
     returns-2
     returns-3
     returns-4
-    objects-pairing-requires
+    (λ c κs. search needs)
     returns-5
     returns-6
     returns-7)

@@ -13,15 +13,6 @@ abbrev μ-loop : tie.MeasureT-loop
 loop-holds : tie.Need-loop-holds Inv-loop μ-loop
 loop-holds c = search (learning-start, needs)
 
-learn-name-requires : tie.Need-learn-name-requires Inv-loop μ-loop
-learn-name-requires c κs = search needs
-
-add-i : tie.Need-add-i Inv-loop μ-loop
-add-i c = search needs
-
-loop-less : tie.Need-loop-less Inv-loop μ-loop
-loop-less c = search needs
-
 loop-again : tie.Need-loop-again Inv-loop μ-loop
 loop-again c = search (learning-on, needs)
 
@@ -31,4 +22,4 @@ returns c = search (learning-ends, needs)
 pub learn-names-spec : {M : Type 1} → statement M
 learn-names-spec =
     tie.close
-    (tie.spec Inv-loop μ-loop loop-holds learn-name-requires add-i loop-less loop-again returns)
+    (tie.spec Inv-loop μ-loop loop-holds (λ c κs. search needs) (λ c. search needs) (λ c. search needs) loop-again returns)

@@ -3,15 +3,6 @@ use borrow.Author.Needs.{needs}
 use Rattle.checks.proofs.partners.mark.Statement.{statement}
 use Rattle.checks.proofs.partners.mark.Tie as tie
 
-mul-marks : tie.Need-mul-marks
-mul-marks c = search needs
-
-slice-write-marks : tie.Need-slice-write-marks
-slice-write-marks c = search needs
-
-same-length : tie.Need-same-length
-same-length c = search needs
-
 returns : tie.Need-returns
 returns c = search (mark-set, needs)
 
@@ -19,4 +10,4 @@ returns-2 : tie.Need-returns-2
 returns-2 c = search (mark-none, needs)
 
 pub mark-spec : {M : Type 1} → statement M
-mark-spec = tie.close (tie.spec mul-marks slice-write-marks same-length returns returns-2)
+mark-spec = tie.close (tie.spec (λ c. search needs) (λ c. search needs) (λ c. search needs) returns returns-2)

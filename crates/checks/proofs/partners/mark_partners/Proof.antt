@@ -11,18 +11,6 @@ Inv-loop nodes children numbers names strings text pattern value order literals 
 abbrev μ-loop : tie.MeasureT-loop
 μ-loop nodes children numbers names strings text pattern value order literals total marks₀ first count i₀ marks i = count - i
 
-first-of-requires : tie.Need-first-of-requires Inv-loop μ-loop
-first-of-requires c κs = search needs
-
-cast-first : tie.Need-cast-first Inv-loop μ-loop
-cast-first c = search needs
-
-count-of-requires : tie.Need-count-of-requires Inv-loop μ-loop
-count-of-requires c κs = search needs
-
-cast-count : tie.Need-cast-count Inv-loop μ-loop
-cast-count c = search needs
-
 loop-holds : tie.Need-loop-holds Inv-loop μ-loop
 loop-holds c = search (marking-start, needs)
 
@@ -32,20 +20,11 @@ mul-child-at c = search (marking-double, needs)
 add-child-at : tie.Need-add-child-at Inv-loop μ-loop
 add-child-at c = search (marking-place, needs)
 
-child-at-requires : tie.Need-child-at-requires Inv-loop μ-loop
-child-at-requires c κs = search needs
-
 partner-place-requires : tie.Need-partner-place-requires Inv-loop μ-loop
 partner-place-requires c κs = search (marking-ask, needs)
 
-mark-requires : tie.Need-mark-requires Inv-loop μ-loop
-mark-requires c κs = search needs
-
 add-i : tie.Need-add-i Inv-loop μ-loop
 add-i c = search (marking-next, needs)
-
-loop-less : tie.Need-loop-less Inv-loop μ-loop
-loop-less c = search needs
 
 loop-again : tie.Need-loop-again Inv-loop μ-loop
 loop-again c = search (marking-on, needs)
@@ -59,17 +38,17 @@ mark-partners-spec =
     (tie.spec
     Inv-loop
     μ-loop
-    first-of-requires
-    cast-first
-    count-of-requires
-    cast-count
+    (λ c κs. search needs)
+    (λ c. search needs)
+    (λ c κs. search needs)
+    (λ c. search needs)
     loop-holds
     mul-child-at
     add-child-at
-    child-at-requires
+    (λ c κs. search needs)
     partner-place-requires
-    mark-requires
+    (λ c κs. search needs)
     add-i
-    loop-less
+    (λ c. search needs)
     loop-again
     returns)

@@ -3,15 +3,6 @@ use borrow.Author.Needs.{needs}
 use Rattle.checks.proofs.partners.pattern_at.Statement.{statement}
 use Rattle.checks.proofs.partners.pattern_at.Tie as tie
 
-first-of-requires : tie.Need-first-of-requires
-first-of-requires c κs = search needs
-
-cast-first : tie.Need-cast-first
-cast-first c = search needs
-
-field-at-requires : tie.Need-field-at-requires
-field-at-requires c κs = search needs
-
 mul-child-at : tie.Need-mul-child-at
 mul-child-at c = search (slot-double, needs)
 
@@ -21,9 +12,6 @@ add-child-at c = search (slot-key, needs)
 add-child-at-2 : tie.Need-add-child-at-2
 add-child-at-2 c = search (slot-value, needs)
 
-child-at-requires : tie.Need-child-at-requires
-child-at-requires c κs = search needs
-
 returns : tie.Need-returns
 returns c = search (slot-node, needs)
 
@@ -31,11 +19,11 @@ pub pattern-at-spec : {M : Type 1} → statement M
 pattern-at-spec =
     tie.close
     (tie.spec
-    first-of-requires
-    cast-first
-    field-at-requires
+    (λ c κs. search needs)
+    (λ c. search needs)
+    (λ c κs. search needs)
     mul-child-at
     add-child-at
     add-child-at-2
-    child-at-requires
+    (λ c κs. search needs)
     returns)

@@ -3,12 +3,6 @@ use borrow.Author.Needs.{needs}
 use Rattle.checks.proofs.texts.compare_texts.Statement.{statement}
 use Rattle.checks.proofs.texts.compare_texts.Tie as tie
 
-sort-ordered-requires : tie.Need-sort-ordered-requires
-sort-ordered-requires c κs = search needs
-
-sort-written-requires : tie.Need-sort-written-requires
-sort-written-requires c κs = search needs
-
 same-texts-requires : tie.Need-same-texts-requires
 same-texts-requires c κs = search (few-keys, needs)
 
@@ -17,4 +11,4 @@ returns c = search (texts-compared, needs)
 
 pub compare-texts-spec : {M : Type 1} → statement M
 compare-texts-spec =
-    tie.close (tie.spec sort-ordered-requires sort-written-requires same-texts-requires returns)
+    tie.close (tie.spec (λ c κs. search needs) (λ c κs. search needs) same-texts-requires returns)

@@ -13,26 +13,14 @@ abbrev μ-loop : tie.MeasureT-loop
 loop-holds : tie.Need-loop-holds Inv-loop μ-loop
 loop-holds c = search (ordered-start, needs)
 
-sub-q : tie.Need-sub-q Inv-loop μ-loop
-sub-q c = search needs
-
-field-at-requires : tie.Need-field-at-requires Inv-loop μ-loop
-field-at-requires c κs = search needs
-
 mul-child-at : tie.Need-mul-child-at Inv-loop μ-loop
 mul-child-at c = search (ordered-double, needs)
 
 add-child-at : tie.Need-add-child-at Inv-loop μ-loop
 add-child-at c = search (ordered-place, needs)
 
-child-at-requires : tie.Need-child-at-requires Inv-loop μ-loop
-child-at-requires c κs = search needs
-
 add-key-requires : tie.Need-add-key-requires Inv-loop μ-loop
 add-key-requires c κs = search (ordered-key, needs)
-
-loop-less : tie.Need-loop-less Inv-loop μ-loop
-loop-less c = search needs
 
 loop-again : tie.Need-loop-again Inv-loop μ-loop
 loop-again c = search (ordered-on, needs)
@@ -47,12 +35,12 @@ sort-ordered-spec =
     Inv-loop
     μ-loop
     loop-holds
-    sub-q
-    field-at-requires
+    (λ c. search needs)
+    (λ c κs. search needs)
     mul-child-at
     add-child-at
-    child-at-requires
+    (λ c κs. search needs)
     add-key-requires
-    loop-less
+    (λ c. search needs)
     loop-again
     returns)

@@ -13,23 +13,8 @@ abbrev μ-loop : tie.MeasureT-loop
 loop-holds : tie.Need-loop-holds Inv-loop μ-loop
 loop-holds c = search (written-start, needs)
 
-sub-i : tie.Need-sub-i Inv-loop μ-loop
-sub-i c = search needs
-
-mul-child-at : tie.Need-mul-child-at Inv-loop μ-loop
-mul-child-at c = search needs
-
-add-child-at : tie.Need-add-child-at Inv-loop μ-loop
-add-child-at c = search needs
-
-child-at-requires : tie.Need-child-at-requires Inv-loop μ-loop
-child-at-requires c κs = search needs
-
 add-key-requires : tie.Need-add-key-requires Inv-loop μ-loop
 add-key-requires c κs = search (written-key, needs)
-
-loop-less : tie.Need-loop-less Inv-loop μ-loop
-loop-less c = search needs
 
 loop-again : tie.Need-loop-again Inv-loop μ-loop
 loop-again c = search (written-on, needs)
@@ -44,11 +29,11 @@ sort-written-spec =
     Inv-loop
     μ-loop
     loop-holds
-    sub-i
-    mul-child-at
-    add-child-at
-    child-at-requires
+    (λ c. search needs)
+    (λ c. search needs)
+    (λ c. search needs)
+    (λ c κs. search needs)
     add-key-requires
-    loop-less
+    (λ c. search needs)
     loop-again
     returns)

@@ -12,9 +12,6 @@ abbrev μ-loop : tie.MeasureT-loop
 loop-holds : tie.Need-loop-holds Inv-loop μ-loop
 loop-holds c = search (linking-start, needs)
 
-sub-at : tie.Need-sub-at Inv-loop μ-loop
-sub-at c = search needs
-
 mul-wide : tie.Need-mul-wide Inv-loop μ-loop
 mul-wide c = search (linking-index, needs)
 
@@ -27,17 +24,11 @@ mul-wide-2 c = search (linking-index, needs)
 element-copy-out-wide : tie.Need-element-copy-out-wide Inv-loop μ-loop
 element-copy-out-wide c = search (linking-word, needs)
 
-wide-requires : tie.Need-wide-requires Inv-loop μ-loop
-wide-requires c κs = search needs
-
 sub-free : tie.Need-sub-free Inv-loop μ-loop
 sub-free c = search (linking-room, needs)
 
 cast-starts : tie.Need-cast-starts Inv-loop μ-loop
 cast-starts c = search (linking-small, needs)
-
-mul-starts : tie.Need-mul-starts Inv-loop μ-loop
-mul-starts c = search needs
 
 array-write-starts : tie.Need-array-write-starts Inv-loop μ-loop
 array-write-starts c = search (linking-index, needs)
@@ -48,14 +39,8 @@ link-children-requires c κs = search (linking-asks, needs)
 cast-nexts : tie.Need-cast-nexts Inv-loop μ-loop
 cast-nexts c = search (linking-next, needs)
 
-mul-nexts : tie.Need-mul-nexts Inv-loop μ-loop
-mul-nexts c = search needs
-
 array-write-nexts : tie.Need-array-write-nexts Inv-loop μ-loop
 array-write-nexts c = search (linking-index, needs)
-
-loop-less : tie.Need-loop-less Inv-loop μ-loop
-loop-less c = search needs
 
 loop-again : tie.Need-loop-again Inv-loop μ-loop
 loop-again c = search (linking-on, needs)
@@ -70,20 +55,20 @@ link-entries-spec =
     Inv-loop
     μ-loop
     loop-holds
-    sub-at
+    (λ c. search needs)
     mul-wide
     add-wide
     mul-wide-2
     element-copy-out-wide
-    wide-requires
+    (λ c κs. search needs)
     sub-free
     cast-starts
-    mul-starts
+    (λ c. search needs)
     array-write-starts
     link-children-requires
     cast-nexts
-    mul-nexts
+    (λ c. search needs)
     array-write-nexts
-    loop-less
+    (λ c. search needs)
     loop-again
     returns)

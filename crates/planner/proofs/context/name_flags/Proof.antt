@@ -16,24 +16,6 @@ loop-holds c = search (flagging-start, needs)
 returns : tie.Need-returns Inv-loop μ-loop
 returns c = search (flags-stop, needs)
 
-add-name-state : tie.Need-add-name-state Inv-loop μ-loop
-add-name-state c = search needs
-
-cast-name-state : tie.Need-cast-name-state Inv-loop μ-loop
-cast-name-state c = search needs
-
-name-state-requires : tie.Need-name-state-requires Inv-loop μ-loop
-name-state-requires c κs = search needs
-
-array-write-flags : tie.Need-array-write-flags Inv-loop μ-loop
-array-write-flags c = search needs
-
-add-i : tie.Need-add-i Inv-loop μ-loop
-add-i c = search needs
-
-loop-less : tie.Need-loop-less Inv-loop μ-loop
-loop-less c = search needs
-
 loop-again : tie.Need-loop-again Inv-loop μ-loop
 loop-again c = search (flagging-on, needs)
 
@@ -48,11 +30,11 @@ name-flags-spec =
     μ-loop
     loop-holds
     returns
-    add-name-state
-    cast-name-state
-    name-state-requires
-    array-write-flags
-    add-i
-    loop-less
+    (λ c. search needs)
+    (λ c. search needs)
+    (λ c κs. search needs)
+    (λ c. search needs)
+    (λ c. search needs)
+    (λ c. search needs)
     loop-again
     returns-2)

@@ -3,18 +3,6 @@ use borrow.Author.Needs.{needs}
 use Rattle.planner.proofs.context.unbound_mark.Statement.{statement}
 use Rattle.planner.proofs.context.unbound_mark.Tie as tie
 
-is-var-unbound-requires : tie.Need-is-var-unbound-requires
-is-var-unbound-requires c κs = search needs
-
-enum-told : tie.Need-enum-told
-enum-told c = search needs
-
-enum-told-2 : tie.Need-enum-told-2
-enum-told-2 c = search needs
-
-enum-told-3 : tie.Need-enum-told-3
-enum-told-3 c = search needs
-
 returns : tie.Need-returns
 returns c = search (mark-yes, needs)
 
@@ -28,10 +16,10 @@ pub unbound-mark-spec : {M : Type 1} → statement M
 unbound-mark-spec =
     tie.close
     (tie.spec
-    is-var-unbound-requires
-    enum-told
-    enum-told-2
-    enum-told-3
+    (λ c κs. search needs)
+    (λ c. search needs)
+    (λ c. search needs)
+    (λ c. search needs)
     returns
     returns-2
     returns-3)

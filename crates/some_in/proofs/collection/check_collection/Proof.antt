@@ -3,23 +3,8 @@ use borrow.Author.Needs.{needs}
 use Rattle.some_in.proofs.collection.check_collection.Statement.{statement}
 use Rattle.some_in.proofs.collection.check_collection.Tie as tie
 
-kind-of-requires : tie.Need-kind-of-requires
-kind-of-requires c κs = search needs
-
 returns : tie.Need-returns
 returns c = search (collection-other, needs)
-
-first-of-requires : tie.Need-first-of-requires
-first-of-requires c κs = search needs
-
-cast-at : tie.Need-cast-at
-cast-at c = search needs
-
-count-of-requires : tie.Need-count-of-requires
-count-of-requires c κs = search needs
-
-cast-left : tie.Need-cast-left
-cast-left c = search needs
 
 check-collection-items-requires : tie.Need-check-collection-items-requires
 check-collection-items-requires c κs = search (ask-items, needs)
@@ -31,11 +16,11 @@ pub check-collection-spec : {M : Type 1} → statement M
 check-collection-spec =
     tie.close
     (tie.spec
-    kind-of-requires
+    (λ c κs. search needs)
     returns
-    first-of-requires
-    cast-at
-    count-of-requires
-    cast-left
+    (λ c κs. search needs)
+    (λ c. search needs)
+    (λ c κs. search needs)
+    (λ c. search needs)
     check-collection-items-requires
     returns-2)

@@ -6,14 +6,8 @@ use Rattle.some_in.proofs.collection.check_collection_items.Tie as tie
 returns : tie.Need-returns
 returns c = search (items-empty, needs)
 
-any-fits-requires : tie.Need-any-fits-requires
-any-fits-requires c κs = search needs
-
 returns-2 : tie.Need-returns-2
 returns-2 c = search (items-fit, needs)
-
-child-at-requires : tie.Need-child-at-requires
-child-at-requires c κs = search needs
 
 check-literal-structure-requires : tie.Need-check-literal-structure-requires
 check-literal-structure-requires c κs = search (first-pair, needs)
@@ -26,8 +20,8 @@ check-collection-items-spec =
     tie.close
     (tie.spec
     returns
-    any-fits-requires
+    (λ c κs. search needs)
     returns-2
-    child-at-requires
+    (λ c κs. search needs)
     check-literal-structure-requires
     returns-3)

@@ -3,12 +3,6 @@ use borrow.Author.Needs.{needs}
 use Rattle.planner.proofs.inner.names.marked_node.Statement.{statement}
 use Rattle.planner.proofs.inner.names.marked_node.Tie as tie
 
-sub-if1 : tie.Need-sub-if1
-sub-if1 c = search needs
-
-element-copy-out-if1 : tie.Need-element-copy-out-if1
-element-copy-out-if1 c = search needs
-
 returns : tie.Need-returns
 returns c = search (node-marked, needs)
 
@@ -16,4 +10,4 @@ returns-2 : tie.Need-returns-2
 returns-2 c = search (node-free, needs)
 
 pub marked-node-spec : {M : Type 1} → statement M
-marked-node-spec = tie.close (tie.spec sub-if1 element-copy-out-if1 returns returns-2)
+marked-node-spec = tie.close (tie.spec (λ c. search needs) (λ c. search needs) returns returns-2)

@@ -13,23 +13,11 @@ abbrev μ-loop : tie.MeasureT-loop
 loop-holds : tie.Need-loop-holds Inv-loop μ-loop
 loop-holds c = search (fields-start, needs)
 
-child-at-requires : tie.Need-child-at-requires Inv-loop μ-loop
-child-at-requires c κs = search needs
-
-kind-of-requires : tie.Need-kind-of-requires Inv-loop μ-loop
-kind-of-requires c κs = search needs
-
 returns : tie.Need-returns Inv-loop μ-loop
 returns c = search (field-computed, needs)
 
 add-child-at : tie.Need-add-child-at Inv-loop μ-loop
 add-child-at c = search (field-value-fits, needs)
-
-child-at-requires-2 : tie.Need-child-at-requires-2 Inv-loop μ-loop
-child-at-requires-2 c κs = search needs
-
-cast-value : tie.Need-cast-value Inv-loop μ-loop
-cast-value c = search needs
 
 sub-if2 : tie.Need-sub-if2 Inv-loop μ-loop
 sub-if2 c = search (field-low, needs)
@@ -42,12 +30,6 @@ returns-2 c = search (field-unmarked, needs)
 
 add-place : tie.Need-add-place Inv-loop μ-loop
 add-place c = search (field-next-fits, needs)
-
-sub-more : tie.Need-sub-more Inv-loop μ-loop
-sub-more c = search needs
-
-loop-less : tie.Need-loop-less Inv-loop μ-loop
-loop-less c = search needs
 
 loop-again : tie.Need-loop-again Inv-loop μ-loop
 loop-again c = search (field-marked, needs)
@@ -62,17 +44,17 @@ fields-marked-spec =
     Inv-loop
     μ-loop
     loop-holds
-    child-at-requires
-    kind-of-requires
+    (λ c κs. search needs)
+    (λ c κs. search needs)
     returns
     add-child-at
-    child-at-requires-2
-    cast-value
+    (λ c κs. search needs)
+    (λ c. search needs)
     sub-if2
     element-copy-out-if2
     returns-2
     add-place
-    sub-more
-    loop-less
+    (λ c. search needs)
+    (λ c. search needs)
     loop-again
     returns-3)

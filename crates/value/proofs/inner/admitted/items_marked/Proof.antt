@@ -13,12 +13,6 @@ abbrev μ-loop : tie.MeasureT-loop
 loop-holds : tie.Need-loop-holds Inv-loop μ-loop
 loop-holds c = search (items-start, needs)
 
-child-at-requires : tie.Need-child-at-requires Inv-loop μ-loop
-child-at-requires c κs = search needs
-
-cast-child : tie.Need-cast-child Inv-loop μ-loop
-cast-child c = search needs
-
 sub-if1 : tie.Need-sub-if1 Inv-loop μ-loop
 sub-if1 c = search (item-low, needs)
 
@@ -27,15 +21,6 @@ element-copy-out-if1 c = search (item-place, needs)
 
 returns : tie.Need-returns Inv-loop μ-loop
 returns c = search (item-unmarked, needs)
-
-add-place : tie.Need-add-place Inv-loop μ-loop
-add-place c = search needs
-
-sub-more : tie.Need-sub-more Inv-loop μ-loop
-sub-more c = search needs
-
-loop-less : tie.Need-loop-less Inv-loop μ-loop
-loop-less c = search needs
 
 loop-again : tie.Need-loop-again Inv-loop μ-loop
 loop-again c = search (item-marked, needs)
@@ -50,13 +35,13 @@ items-marked-spec =
     Inv-loop
     μ-loop
     loop-holds
-    child-at-requires
-    cast-child
+    (λ c κs. search needs)
+    (λ c. search needs)
     sub-if1
     element-copy-out-if1
     returns
-    add-place
-    sub-more
-    loop-less
+    (λ c. search needs)
+    (λ c. search needs)
+    (λ c. search needs)
     loop-again
     returns-2)

@@ -14,29 +14,14 @@ abbrev μ-loop : tie.MeasureT-loop
 loop-holds : tie.Need-loop-holds Inv-loop μ-loop
 loop-holds c = search (seeking-start, needs)
 
-child-at-requires : tie.Need-child-at-requires Inv-loop μ-loop
-child-at-requires c κs = search needs
-
-same-literals-requires : tie.Need-same-literals-requires Inv-loop μ-loop
-same-literals-requires c κs = search needs
-
 add-child-at : tie.Need-add-child-at Inv-loop μ-loop
 add-child-at c = search (seeking-value-fits, needs)
-
-child-at-requires-2 : tie.Need-child-at-requires-2 Inv-loop μ-loop
-child-at-requires-2 c κs = search needs
 
 returns : tie.Need-returns Inv-loop μ-loop
 returns c = search (seeking-found, needs)
 
 add-place : tie.Need-add-place Inv-loop μ-loop
 add-place c = search (seeking-next-fits, needs)
-
-sub-more : tie.Need-sub-more Inv-loop μ-loop
-sub-more c = search needs
-
-loop-less : tie.Need-loop-less Inv-loop μ-loop
-loop-less c = search needs
 
 loop-again : tie.Need-loop-again Inv-loop μ-loop
 loop-again c = search (seeking-on, needs)
@@ -51,13 +36,13 @@ scan-under-spec =
     Inv-loop
     μ-loop
     loop-holds
-    child-at-requires
-    same-literals-requires
+    (λ c κs. search needs)
+    (λ c κs. search needs)
     add-child-at
-    child-at-requires-2
+    (λ c κs. search needs)
     returns
     add-place
-    sub-more
-    loop-less
+    (λ c. search needs)
+    (λ c. search needs)
     loop-again
     returns-2)
