@@ -36,12 +36,12 @@ bindSide T form binding value reading es =
     (unlessMismatch (structure reading (expr T value) (expr T binding)) (planned form 0 es))
 
 -- the first bind entry whose name is bound in this very scope, or 0
-abbrev pub boundHere : List ℕ → Scope → ℕ → ℕ → Bool
-boundHere nodes s kind node = eqb kind 1 && (isName (firstOf nodes node) && sameScope s (firstOf nodes node))
+abbrev pub bindsAgain : List ℕ → Scope → ℕ → ℕ → Bool
+bindsAgain nodes s kind node = eqb kind 1 && (isName (firstOf nodes node) && sameScope s (firstOf nodes node))
 
 unfoldable pub firstSameScope : List ℕ → Scope → List Entry → ℕ
 firstSameScope nodes s [] = 0
-firstSameScope nodes s (e ∷ es) = cond (boundHere nodes s (e .kind) (e .node)) (e .node) (firstSameScope nodes s es)
+firstSameScope nodes s (e ∷ es) = cond (bindsAgain nodes s (e .kind) (e .node)) (e .node) (firstSameScope nodes s es)
 
 -- `:=`, from the entries of the left side's plan
 abbrev pub colonEqualsFrom : Tables → Scope → ℕ → ℕ → Reading → List Entry → Outcome
@@ -53,14 +53,14 @@ abbrev pub colonEqualsPlanned : Tables → Scope → ℕ → ℕ → Reading →
 colonEqualsPlanned T s left right reading = colonEqualsFrom T s left right reading (entries (planOf T s AllowShadowing left) top)
 
 -- `=`
-abbrev pub isUnderscore : Expr → Bool
-isUnderscore (literal n l) = false
-isUnderscore (name n x) = false
-isUnderscore (wildcard n) = true
-isUnderscore (array n es) = false
-isUnderscore (set n es) = false
-isUnderscore (object n fs) = false
-isUnderscore (other n) = false
+abbrev pub isWildcardExpr : Expr → Bool
+isWildcardExpr (literal n l) = false
+isWildcardExpr (name n x) = false
+isWildcardExpr (wildcard n) = true
+isWildcardExpr (array n es) = false
+isWildcardExpr (set n es) = false
+isWildcardExpr (object n fs) = false
+isWildcardExpr (other n) = false
 
 -- 1 left, 2 right, 3 both, 0 neither
 abbrev pub wildcardSide : Bool → Bool → ℕ
@@ -87,7 +87,7 @@ abbrev pub equalsSides : Tables → Scope → ℕ → ℕ → Reading → Outcom
 equalsSides T s left right reading = equalsFrom T s left right reading (entries (planOf T s RespectParent left) top) (entries (planOf T s RespectParent right) top)
 
 abbrev pub sideOf : Tables → ℕ → ℕ → ℕ
-sideOf T left right = wildcardSide (isUnderscore (expr T left)) (isUnderscore (expr T right))
+sideOf T left right = wildcardSide (isWildcardExpr (expr T left)) (isWildcardExpr (expr T right))
 
 abbrev pub equalsPlanned : Tables → Scope → ℕ → ℕ → Reading → Outcome
 equalsPlanned T s left right reading = cond (eqb (sideOf T left right) 0) (equalsSides T s left right reading) (planned 6 (sideOf T left right) [])

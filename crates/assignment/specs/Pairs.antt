@@ -40,13 +40,13 @@ abbrev pub require : Bool → Refusal → Flat → Flat
 require = requireOr failed
 
 -- the first refusal ends the rest
-abbrev pub before : List Pair → Flat → Flat
-before ps (failed r) = failed r
-before ps (paired qs newlyBound) = paired (ps ++ qs) newlyBound
+abbrev pub prepended : List Pair → Flat → Flat
+prepended ps (failed r) = failed r
+prepended ps (paired qs newlyBound) = paired (ps ++ qs) newlyBound
 
 abbrev pub further : Flat → (List ℕ → Flat) → Flat
 further (failed r) f = failed r
-further (paired ps newlyBound) f = before ps (f newlyBound)
+further (paired ps newlyBound) f = prepended ps (f newlyBound)
 
 -- form 4 with the pairs, or the refusal
 abbrev pub flatOutcome : Flat → Outcome

@@ -4,7 +4,7 @@ ghost use mathlib.Core.Path.{_≡_};
 ghost use Rattle.planner.specs.Entries.{readEntries};
 ghost use Rattle.planner.specs.Operations.{planned, AnsweredIn};
 ghost use Rattle.assignment.specs.code.Previewing.{ReadAsks};
-ghost use Rattle.assignment.specs.Assignment.{boundHere, firstSameScope};
+ghost use Rattle.assignment.specs.Assignment.{bindsAgain, firstSameScope};
 use planner::PlanAnswer;
 use planner::buffer::ENTRY_WORDS;
 use planner::buffer::close;
@@ -16,7 +16,7 @@ use table::reading::first_of;
 
 // Does an entry bind a name that this very scope has bound?
 fn bound_here(nodes: &[u32], scope: Scope, kind: u32, node: u32) -> bool
-    ensures { λ r. ⌜ r ≡ boundHere (old nodes) scope kind node ⌝ }
+    ensures { λ r. ⌜ r ≡ bindsAgain (old nodes) scope kind node ⌝ }
 {
     if kind == entry_kind::BIND {
         let binding = scope.has_same_scope_binding(first_of(nodes, node));

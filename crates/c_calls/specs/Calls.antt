@@ -19,7 +19,7 @@ use Rattle.operation.specs.declared.numbers.OperationNumbers.{OperationNumbers}
 use Rattle.operation.specs.Numbers.{scopingOf, operationOf}
 use Rattle.operation.specs.Version.{versionOutcome}
 use Rattle.operation.specs.Rows.{Told}
-use Rattle.c_calls.specs.Given.{scopeOf, numbersOf, patternNumbers, givenFirst}
+use Rattle.c_calls.specs.Given.{scopeOf, givenNumbers, patternNumbers, givenFirst}
 
 -- Planning: what is given beside the tables is tested first (`givenFirst`).
 abbrev pub planCall : Tables → List ℕ → OperationNumbers → ℕ → Outcome
@@ -32,7 +32,7 @@ pub record PlanCalled (o : Outcome) (buffer words bufferExit wordsExit : List �
 -- the same of what is lent, at entry and at exit
 abbrev pub PlanCalledIn : Slices → Slices → Tables → Slices → ℕ → ℕ → ℕ → ℕ → ℕ → ℕ → ℕ → ℕ → Type 0
 PlanCalledIn plan answer T marks operation scheduler scoping first second key version r =
-    PlanCalled (planCall T (old marks) (numbersOf operation scheduler scoping first second key) version) (old plan) (old answer) (new plan) (new answer) r
+    PlanCalled (planCall T (old marks) (givenNumbers operation scheduler scoping first second key) version) (old plan) (old answer) (new plan) (new answer) r
 
 -- Run: the same first.
 abbrev pub runCall : Tables → List ℕ → ℕ → ℕ → ℕ → ℕ → List ℕ → RunOutcome

@@ -25,13 +25,13 @@ byteScopeOf marks scheduler = record { marks = marksOf marks; underscore = 0; sc
 abbrev pub scopeOf : List ℕ → ℕ → Scope
 scopeOf marks scheduler = ofBytes (byteScopeOf marks scheduler)
 
-abbrev pub numbersOf : ℕ → ℕ → ℕ → ℕ → ℕ → ℕ → OperationNumbers
-numbersOf operation scheduler scoping first second key =
+abbrev pub givenNumbers : ℕ → ℕ → ℕ → ℕ → ℕ → ℕ → OperationNumbers
+givenNumbers operation scheduler scoping first second key =
     record { number = operation; scheduler = scheduler; scoping = scoping; first = first; second = second; key = key }
 
 -- Run and the names report are of a pattern, whose operation is 1.
 abbrev pub patternNumbers : ℕ → ℕ → ℕ → OperationNumbers
-patternNumbers scheduler scoping pattern = numbersOf 1 scheduler scoping pattern 0 0
+patternNumbers scheduler scoping pattern = givenNumbers 1 scheduler scoping pattern 0 0
 
 -- What comes before the operation, in document 01's order: 7 for numbers that are not listed, as on a sheet, then 1 of the table check, then what
 -- the conversion of the marks says, its 2. All else of the table check is the operation's.

@@ -18,7 +18,7 @@ use Rattle.planner.specs.code.Passes.{keyNode, fieldKey, orderFrom, orderOf}
 use Rattle.planner.specs.code.Post.{OrderedBy}
 use Rattle.planner.proofs.fields.FieldOrder.{AllSlots, Keyed, ordered-first}
 use Rattle.planner.proofs.fields.Objects.{key-literal, order-below, below-at}
-use Rattle.checks.specs.Structure.{slotText, textOr, keyTexts, before, insertText, sortTexts}
+use Rattle.checks.specs.Structure.{slotText, textOr, keyTexts, insertedBy, insertText, sortTexts}
 use Rattle.checks.specs.code.Texts.{insertOr, textsFrom, orderedKey}
 
 -- the texts of literal keys by field numbers
@@ -118,7 +118,7 @@ unfolding insertText
 insert-length t [] = refl
 insert-length t (u ∷ us) = go (bytesOrder t u) (insert-length t us)
   where
-    go : (o : Order) → length (insertText t us) ≡ suc (length us) → length (before o t u us (insertText t us)) ≡ suc (suc (length us))
+    go : (o : Order) → length (insertText t us) ≡ suc (length us) → length (insertedBy o t u us (insertText t us)) ≡ suc (suc (length us))
     go less h = refl
     go same h = refl
     go more h = ap suc h

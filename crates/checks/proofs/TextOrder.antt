@@ -10,19 +10,19 @@ use lib.Dec.{eqb}
 use lib.ListN.{length, getD, take, drop, length-append, length-map, take-append-drop, List·getD-map}
 use lib.Seq.{getD-take, take-take, drop-cons}
 use Rattle.literal.specs.Literal.{Literal, null}
-use Rattle.literal.specs.Order.{Order, less, same, more, opposite, bytesOrder, told}
+use Rattle.literal.specs.Order.{Order, less, same, more, opposite, bytesOrder, comparisonOf}
 use Rattle.literal.specs.Text.{keyText, textCompared, textsCompared}
 use Rattle.literal.proofs.Orders.{bytes-order, never}
 use Rattle.table.specs.Names.{isSame, sameBytes}
 use Rattle.planner.proofs.fields.FieldOrder.{map-take, map-drop, drop-take}
-use Rattle.checks.specs.Structure.{before, insertText, sortTexts, sameTexts}
+use Rattle.checks.specs.Structure.{insertedBy, insertText, sortTexts, sameTexts}
 use Rattle.checks.specs.code.Texts.{isGreater, isEqual, KeysOf, textAt, agreeFrom, textsAgree}
 
 -- does t come after u?
 abbrev pub after : List ℕ → List ℕ → Bool
-after t u = isGreater (told (bytesOrder t u))
+after t u = isGreater (comparisonOf (bytesOrder t u))
 
-after-more : (o : Order) → isGreater (told o) ≡ true → o ≡ more
+after-more : (o : Order) → isGreater (comparisonOf o) ≡ true → o ≡ more
 after-more less e = never cc
 after-more same e = never cc
 after-more more e = refl
@@ -31,14 +31,14 @@ pub after-trans : (t u v : List ℕ) → after t u ≡ false → after u v ≡ f
 after-trans t u v a b = go (bytesOrder t u) refl (bytesOrder u v) refl
   where
     go : (x : Order) → bytesOrder t u ≡ x → (y : Order) → bytesOrder u v ≡ y → after t v ≡ false
-    go less p less q = ap (λ (o : Order). isGreater (told o)) (bytes-order .transitive t u v p q)
+    go less p less q = ap (λ (o : Order). isGreater (comparisonOf o)) (bytes-order .transitive t u v p q)
     go less p same q = let e = bytes-order .equal u v q in rw e at a
-    go less p more q = let z = sym (ap (λ (o : Order). isGreater (told o)) q) ∙ b in never cc
+    go less p more q = let z = sym (ap (λ (o : Order). isGreater (comparisonOf o)) q) ∙ b in never cc
     go same p y q = let e = bytes-order .equal t u p in rw e b
-    go more p y q = let z = sym (ap (λ (o : Order). isGreater (told o)) p) ∙ a in never cc
+    go more p y q = let z = sym (ap (λ (o : Order). isGreater (comparisonOf o)) p) ∙ a in never cc
 
 after-self : (t : List ℕ) → after t t ≡ false
-after-self t = ap (λ (o : Order). isGreater (told o)) (bytes-order .reflexive t)
+after-self t = ap (λ (o : Order). isGreater (comparisonOf o)) (bytes-order .reflexive t)
 
 -- t comes after none of them
 unfoldable pub NotAfter : List ℕ → List (List ℕ) → Type 0
@@ -59,7 +59,7 @@ unfolding NotAfter insertText
 not-after-insert u t [] a n = (a, tt)
 not-after-insert u t (v ∷ ts) a n = go (bytesOrder t v) (not-after-insert u t ts a (n .1))
   where
-    go : (o : Order) → NotAfter u (insertText t ts) → NotAfter u (before o t v ts (insertText t ts))
+    go : (o : Order) → NotAfter u (insertText t ts) → NotAfter u (insertedBy o t v ts (insertText t ts))
     go less h = (a, n)
     go same h = (a, n)
     go more h = (n .0, h)
@@ -72,10 +72,10 @@ insert-ascending t (u ∷ us) h = go (bytesOrder t u) refl (insert-ascending t u
     behind : after t u ≡ false → Ascending (t ∷ (u ∷ us))
     behind a = ((a, not-after-trans t u us a (h .0)), h)
 
-    go : (o : Order) → bytesOrder t u ≡ o → Ascending (insertText t us) → Ascending (before o t u us (insertText t us))
-    go less e r = behind (ap (λ (o : Order). isGreater (told o)) e)
-    go same e r = behind (ap (λ (o : Order). isGreater (told o)) e)
-    go more e r = (not-after-insert u t us (ap (λ (o : Order). isGreater (told o)) (bytes-order .antisymmetric t u ∙ ap opposite e)) (h .0), r)
+    go : (o : Order) → bytesOrder t u ≡ o → Ascending (insertText t us) → Ascending (insertedBy o t u us (insertText t us))
+    go less e r = behind (ap (λ (o : Order). isGreater (comparisonOf o)) e)
+    go same e r = behind (ap (λ (o : Order). isGreater (comparisonOf o)) e)
+    go more e r = (not-after-insert u t us (ap (λ (o : Order). isGreater (comparisonOf o)) (bytes-order .antisymmetric t u ∙ ap opposite e)) (h .0), r)
 
 pub sort-ascending : (ts : List (List ℕ)) → Ascending (sortTexts ts)
 unfolding Ascending sortTexts
@@ -117,10 +117,10 @@ module _ (d : List ℕ) where
   insert-place t [] (suc p) le front here = absurd (omega arith)
   insert-place t (u ∷ us) zero le front here = go (bytesOrder t u) refl
     where
-      go : (o : Order) → bytesOrder t u ≡ o → before (bytesOrder t u) t u us (insertText t us) ≡ t ∷ (u ∷ us)
+      go : (o : Order) → bytesOrder t u ≡ o → insertedBy (bytesOrder t u) t u us (insertText t us) ≡ t ∷ (u ∷ us)
       go less e = rw e
       go same e = rw e
-      go more e = let z = sym (ap (λ (o : Order). isGreater (told o)) e) ∙ here (omega arith) in never cc
+      go more e = let z = sym (ap (λ (o : Order). isGreater (comparisonOf o)) e) ∙ here (omega arith) in never cc
   insert-place t (u ∷ us) (suc p) le front here =
       let e = after-more (bytesOrder t u) (front 0 (omega arith)) in
       let r = insert-place t us p (omega arith) (λ q lt. front (suc q) (omega arith)) (λ lt. here (omega arith)) in
@@ -155,7 +155,7 @@ module _ {lit : ℕ → Option Literal} {keys : List ℕ} {size : ℕ} {ts : Lis
   text-at : (q : ℕ) → q < size → getD ts q blankText ≡ keyText (getD (k .own) q null)
   text-at q lt = sym (ap (λ (r : List (List ℕ)). getD r q blankText) (k .texts)) ∙ List·getD-map keyText (k .own) q null
 
-  pub compared-at : {key : Option Literal} {l : Literal} → key ≡ some l → (q : ℕ) → q < size → textAt lit key keys q ≡ told (bytesOrder (keyText l) (getD ts q blankText))
+  pub compared-at : {key : Option Literal} {l : Literal} → key ≡ some l → (q : ℕ) → q < size → textAt lit key keys q ≡ comparisonOf (bytesOrder (keyText l) (getD ts q blankText))
   unfolding textsCompared textCompared
   compared-at own q lt = rw (own, own-at q lt, text-at q lt)
 
@@ -202,7 +202,7 @@ module _ {lit : ℕ → Option Literal} {keys : List ℕ} {size : ℕ} {ts : Lis
 
 -- two arrays held against each other
 
-equal-same : (o : Order) → isEqual (told o) ≡ isSame o
+equal-same : (o : Order) → isEqual (comparisonOf o) ≡ isSame o
 equal-same less = refl
 equal-same same = refl
 equal-same more = refl

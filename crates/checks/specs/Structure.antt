@@ -33,14 +33,14 @@ abbrev pub slotText : {A : Type 0} → Slot A → List ℕ
 slotText s = keyText (s .at)
 
 -- Texts are sorted by their bytes.
-abbrev pub before : Order → List ℕ → List ℕ → List (List ℕ) → List (List ℕ) → List (List ℕ)
-before less t u rest further = t ∷ (u ∷ rest)
-before same t u rest further = t ∷ (u ∷ rest)
-before more t u rest further = u ∷ further
+abbrev pub insertedBy : Order → List ℕ → List ℕ → List (List ℕ) → List (List ℕ) → List (List ℕ)
+insertedBy less t u rest further = t ∷ (u ∷ rest)
+insertedBy same t u rest further = t ∷ (u ∷ rest)
+insertedBy more t u rest further = u ∷ further
 
 unfoldable pub insertText : List ℕ → List (List ℕ) → List (List ℕ)
 insertText t [] = t ∷ []
-insertText t (u ∷ us) = before (bytesOrder t u) t u us (insertText t us)
+insertText t (u ∷ us) = insertedBy (bytesOrder t u) t u us (insertText t us)
 
 unfoldable pub sortTexts : List (List ℕ) → List (List ℕ)
 sortTexts [] = []

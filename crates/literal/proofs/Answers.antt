@@ -10,7 +10,7 @@ use borrow.Author.Tests.{eqb-true}
 use lib.ListN.{length, getD, take, drop, length-append}
 use lib.Seq.{take-append-seam, length-take-le}
 use Rattle.literal.specs.Literal.{Literal, null, boolean, number, string, isNumber}
-use Rattle.literal.specs.Order.{bytesOrder, told}
+use Rattle.literal.specs.Order.{bytesOrder, comparisonOf}
 use Rattle.literal.specs.Text.{decimal, signed, keyText, textCompared, textsCompared}
 use Rattle.literal.specs.Reading.{stringBytes, literalOf, bytesOf, keyTextOf, writtenOver, TextDone}
 use Rattle.literal.specs.code.Written.{Written}
@@ -143,7 +143,7 @@ pub written-length : (l : Option Literal) {r : KeyText} {n : ℕ} (before after 
 written-length l {r} {n} before after d k = sym (length-take-le n after (written-room l before after d k))
 
 -- comparing it
-pub compare-text : {l : Option Literal} (bytes : List ℕ) {text : List ℕ} {r : Comparison} → TextIs l text → r ≡ told (bytesOrder bytes text) → r ≡ textCompared bytes l
+pub compare-text : {l : Option Literal} (bytes : List ℕ) {text : List ℕ} {r : Comparison} → TextIs l text → r ≡ comparisonOf (bytesOrder bytes text) → r ≡ textCompared bytes l
 unfolding textCompared
 compare-text bytes t e = e ∙ rw (t .is, t .text)
 

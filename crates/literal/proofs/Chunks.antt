@@ -10,7 +10,7 @@ use borrow.Author.Tests.{eqb-true, ltb-true, ltb-false, not-false}
 use lib.Dec.{eqb, ltb}
 use lib.ListN.{length, getD, drop, drop-of-length-le}
 use lib.Seq.{drop-cons}
-use Rattle.literal.specs.Order.{Order, then, natOrder, bytesOrder, told}
+use Rattle.literal.specs.Order.{Order, then, natOrder, bytesOrder, comparisonOf}
 use Rattle.literal.specs.code.Chunks.{Prefix, sameFrom, said, Said}
 use Rattle.literal.specs.declared.Comparison.{Comparison}
 use Rattle.literal.proofs.Orders.{three-ways, nat-less, nat-same, nat-more, nat-like, nat-pairs, then-assoc}
@@ -148,17 +148,17 @@ module _ {a b : List ℕ} {i shorter : ℕ} (p : Prefix a b i) (s : shorter ≡ 
     pub word-on : x ≡ y → Prefix a b (i + 8)
     word-on e = record { left = omega arith; right = omega arith; rest = sym (rw (nat-same x y e) at word-order) }
 
-    pub word-differs : (x ≡ y → ⊥) → {r : Comparison} → r ≡ told (natOrder x y) → r ≡ told (bytesOrder a b)
-    word-differs ne is = is ∙ sym (ap told (word-order ∙ then-other x y _ ne))
+    pub word-differs : (x ≡ y → ⊥) → {r : Comparison} → r ≡ comparisonOf (natOrder x y) → r ≡ comparisonOf (bytesOrder a b)
+    word-differs ne is = is ∙ sym (ap comparisonOf (word-order ∙ then-other x y _ ne))
 
   pub byte-on : i < shorter → getD a i 0 ≡ getD b i 0 → Prefix a b (i + 1)
   byte-on lt e = prefix-on p (omega arith) (omega arith) e
 
-  pub byte-differs : i < shorter → (getD a i 0 ≡ getD b i 0 → ⊥) → {x y : ℕ} → x ≡ getD a i 0 → y ≡ getD b i 0 → {r : Comparison} → r ≡ told (natOrder x y) → r ≡ told (bytesOrder a b)
+  pub byte-differs : i < shorter → (getD a i 0 ≡ getD b i 0 → ⊥) → {x y : ℕ} → x ≡ getD a i 0 → y ≡ getD b i 0 → {r : Comparison} → r ≡ comparisonOf (natOrder x y) → r ≡ comparisonOf (bytesOrder a b)
   byte-differs lt ne {x} {y} ex ey is =
       let here = then-other (getD a i 0) (getD b i 0) (bytesOrder (drop (i + 1) a) (drop (i + 1) b)) ne in
       let e : natOrder x y ≡ bytesOrder a b = rw (ex, ey) (sym here ∙ sym (front a b i (omega arith) (omega arith)) ∙ p .rest) in
-      is ∙ ap told e
+      is ∙ ap comparisonOf e
 
   -- one of the two has ended
   ended : shorter ≤ i → natOrder (length a) (length b) ≡ bytesOrder a b
@@ -170,5 +170,5 @@ module _ {a b : List ℕ} {i shorter : ℕ} (p : Prefix a b i) (s : shorter ≡ 
       go (inr (inl e)) = nat-same (length a) (length b) e ∙ rw (drop-of-length-le a {i = i} (omega arith), drop-of-length-le b {i = i} (omega arith)) at (p .rest)
       go (inr (inr gt)) = nat-more (length a) (length b) gt ∙ rw (drop-cons a i 0 (omega arith), drop-of-length-le b {i = i} (omega arith)) at (p .rest)
 
-  pub bytes-ended : shorter ≤ i → {r : Comparison} → r ≡ told (natOrder (length a) (length b)) → r ≡ told (bytesOrder a b)
-  bytes-ended ge is = is ∙ ap told (ended ge)
+  pub bytes-ended : shorter ≤ i → {r : Comparison} → r ≡ comparisonOf (natOrder (length a) (length b)) → r ≡ comparisonOf (bytesOrder a b)
+  bytes-ended ge is = is ∙ ap comparisonOf (ended ge)

@@ -11,7 +11,7 @@ use mir.Syntax.{w64}
 use mir.Val.{Fits}
 use borrow.Author.Tests.{leb-true, leb-false, le-leb, lt-leb}
 use Rattle.literal.specs.Literal.{Literal, null, boolean, number, string, isNumber}
-use Rattle.literal.specs.Order.{same, then, natOrder, numberOrder, bytesOrder, rank, withinRank, keyOrder, told, compared}
+use Rattle.literal.specs.Order.{same, then, natOrder, numberOrder, bytesOrder, rank, withinRank, keyOrder, comparisonOf, compared}
 use Rattle.literal.specs.Reading.{numberAt, stringAt, stringBytes, literalOf}
 use Rattle.literal.specs.code.SortKey.{plainKey, keyOf}
 use Rattle.literal.specs.declared.key.SortKey.{SortKey}
@@ -139,7 +139,7 @@ unfolding keyOf
 found none e h = absurd (h (ap (λ (k : SortKey). k .rank) e))
 found (some a) e h = record { literal = a; is = refl; ranked = ap (λ (k : SortKey). k .rank) e ∙ key-rank a }
 
-by-rank : (l m : Option Literal) (a b : Literal) → l ≡ some a → m ≡ some b → compared l m ≡ told (then (natOrder (rank a) (rank b)) (withinRank a b))
+by-rank : (l m : Option Literal) (a b : Literal) → l ≡ some a → m ≡ some b → compared l m ≡ comparisonOf (then (natOrder (rank a) (rank b)) (withinRank a b))
 unfolding compared keyOrder
 by-rank l m a b e f = rw (e, f)
 
@@ -171,8 +171,8 @@ module _ (l m : Option Literal) {x y : SortKey} (ex : x ≡ keyOf l) (ey : y ≡
         rw (by-rank l m (f .literal) (g .literal) (f .is) (g .is), nat-same (rank (f .literal)) (rank (g .literal)) (omega arith), plain)
 
   module _ (h : y .rank ≤ x .rank) (k : x .rank ≤ y .rank) where
-    pub compare-numbers : {r : Comparison} → x .rank ≡ 3 → r ≡ told (numberOrder (x .below) (x .size) (y .below) (y .size)) → r ≡ compared l m
+    pub compare-numbers : {r : Comparison} → x .rank ≡ 3 → r ≡ comparisonOf (numberOrder (x .below) (x .size) (y .below) (y .size)) → r ≡ compared l m
     compare-numbers i e = e ∙ sym (by-rank l m _ _ (shown-key l 3 ex i) (shown-key m 3 ey (omega arith)))
 
-    pub compare-bytes : {r : Comparison} → x .rank ≡ 4 → r ≡ told (bytesOrder (stringBytes l) (stringBytes m)) → r ≡ compared l m
+    pub compare-bytes : {r : Comparison} → x .rank ≡ 4 → r ≡ comparisonOf (bytesOrder (stringBytes l) (stringBytes m)) → r ≡ compared l m
     compare-bytes i e = e ∙ sym (by-rank l m _ _ (shown-key l 4 ex i) (shown-key m 4 ey (omega arith)))

@@ -8,7 +8,7 @@ use native.Mathlib.Omega.{arith}
 use lib.Dec.{ltb}
 use borrow.Author.Tests.{ltb-true, ltb-false, lt-ltb, le-ltb, eq-eqb, ne-eqb}
 use Rattle.literal.specs.Literal.{Literal, null, boolean, number, string}
-use Rattle.literal.specs.Order.{Order, less, same, more, then, opposite, natOrder, bytesOrder, numberOrder, rank, withinRank, keyOrder, told}
+use Rattle.literal.specs.Order.{Order, less, same, more, then, opposite, natOrder, bytesOrder, numberOrder, rank, withinRank, keyOrder, comparisonOf}
 use Rattle.literal.specs.Laws.{TotalOrder}
 use Rattle.literal.specs.declared.Comparison.{Comparison}
 use Rattle.literal.specs.declared.Comparison.the-variants.{Less, Equal, Greater}
@@ -285,18 +285,18 @@ pub key-order : TotalOrder keyOrder
 key-order = by-laws keyOrder key-reflexive key-equal key-antisymmetric key-transitive
 
 -- the code's answer for two numbers
-pub told-less : (a b : ℕ) → a < b → Less ≡ told (natOrder a b)
+pub told-less : (a b : ℕ) → a < b → Less ≡ comparisonOf (natOrder a b)
 told-less a b h = rw (nat-less a b h)
 
-pub told-same : (a b : ℕ) → a ≡ b → Equal ≡ told (natOrder a b)
+pub told-same : (a b : ℕ) → a ≡ b → Equal ≡ comparisonOf (natOrder a b)
 told-same a b h = rw (nat-same a b h)
 
-pub told-more : (a b : ℕ) → b ≤ a → (a ≡ b → ⊥) → Greater ≡ told (natOrder a b)
+pub told-more : (a b : ℕ) → b ≤ a → (a ≡ b → ⊥) → Greater ≡ comparisonOf (natOrder a b)
 told-more a b h k = rw (nat-more a b (omega arith))
 
 module _ {s t : Bool} (a b : ℕ) {r : Comparison} where
-  pub told-below : s ≡ true → t ≡ true → r ≡ told (natOrder b a) → r ≡ told (numberOrder s a t b)
+  pub told-below : s ≡ true → t ≡ true → r ≡ comparisonOf (natOrder b a) → r ≡ comparisonOf (numberOrder s a t b)
   told-below h k e = e ∙ rw (h, k, nat-antisymmetric a b)
 
-  pub told-above : s ≡ false → t ≡ false → r ≡ told (natOrder a b) → r ≡ told (numberOrder s a t b)
+  pub told-above : s ≡ false → t ≡ false → r ≡ comparisonOf (natOrder a b) → r ≡ comparisonOf (numberOrder s a t b)
   told-above h k e = e ∙ rw (h, k)

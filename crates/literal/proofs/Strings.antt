@@ -12,7 +12,7 @@ use types.Run.{OneOf}
 use denote.Enum.Declared.{tagOf}
 use Rattle.literal.proofs.LiteralRef.{the-type}
 use Rattle.literal.specs.Literal.{number}
-use Rattle.literal.specs.Order.{bytesOrder, told, compared}
+use Rattle.literal.specs.Order.{bytesOrder, comparisonOf, compared}
 use Rattle.literal.specs.Reading.{hasNumber, numberAt, stringAt, stringBytes, literalOf, bytesOf}
 use Rattle.literal.specs.code.SortKey.{keyOf}
 use Rattle.literal.specs.declared.key.SortKey.{SortKey}
@@ -65,13 +65,13 @@ bytes-same numbers strings text (String start count) = refl
 bytes-same numbers strings text (RawString start count) = refl
 
 -- a comparison with equal bytes
-pub told-right : (xs : List ℕ) {ys zs : List ℕ} {r : Comparison} → ys ≡ zs → r ≡ told (bytesOrder xs ys) → r ≡ told (bytesOrder xs zs)
-told-right xs e h = h ∙ ap (λ (bs : List ℕ). told (bytesOrder xs bs)) e
+pub told-right : (xs : List ℕ) {ys zs : List ℕ} {r : Comparison} → ys ≡ zs → r ≡ comparisonOf (bytesOrder xs ys) → r ≡ comparisonOf (bytesOrder xs zs)
+told-right xs e h = h ∙ ap (λ (bs : List ℕ). comparisonOf (bytesOrder xs bs)) e
 
-pub told-left : {xs zs : List ℕ} (ys : List ℕ) {r : Comparison} → xs ≡ zs → r ≡ told (bytesOrder xs ys) → r ≡ told (bytesOrder zs ys)
-told-left ys e h = h ∙ ap (λ (bs : List ℕ). told (bytesOrder bs ys)) e
+pub told-left : {xs zs : List ℕ} (ys : List ℕ) {r : Comparison} → xs ≡ zs → r ≡ comparisonOf (bytesOrder xs ys) → r ≡ comparisonOf (bytesOrder zs ys)
+told-left ys e h = h ∙ ap (λ (bs : List ℕ). comparisonOf (bytesOrder bs ys)) e
 
-pub compare-strings : (numbers strings text : List ℕ) (a b : LiteralRef) {x y : SortKey} {r : Comparison} → x ≡ keyOf (literalOf numbers strings text a) → y ≡ keyOf (literalOf numbers strings text b) → y .rank ≤ x .rank → x .rank ≤ y .rank → x .rank ≡ 4 → r ≡ told (bytesOrder (bytesOf strings text a) (bytesOf strings text b)) → r ≡ compared (literalOf numbers strings text a) (literalOf numbers strings text b)
+pub compare-strings : (numbers strings text : List ℕ) (a b : LiteralRef) {x y : SortKey} {r : Comparison} → x ≡ keyOf (literalOf numbers strings text a) → y ≡ keyOf (literalOf numbers strings text b) → y .rank ≤ x .rank → x .rank ≤ y .rank → x .rank ≡ 4 → r ≡ comparisonOf (bytesOrder (bytesOf strings text a) (bytesOf strings text b)) → r ≡ compared (literalOf numbers strings text a) (literalOf numbers strings text b)
 compare-strings numbers strings text a b ex ey h k i e =
     compare-bytes (literalOf numbers strings text a) (literalOf numbers strings text b) ex ey h k i
     (e ∙ rw (bytes-same numbers strings text a, bytes-same numbers strings text b))

@@ -11,7 +11,7 @@ use lib.ListN.{length}
 use mir.Syntax.{w64}
 use mir.Val.{Fits}
 use borrow.Author.Tests.{eqb-true, ltb-true, ltb-false, eq-eqb, ne-eqb, not-true, not-false}
-use Rattle.literal.specs.Order.{then, natOrder, bytesOrder, told}
+use Rattle.literal.specs.Order.{then, natOrder, bytesOrder, comparisonOf}
 use Rattle.literal.specs.Text.{digit, digits, decimal, signed, keyText, textCompared, textsCompared}
 use Rattle.literal.specs.Reading.{literalOf}
 use Rattle.literal.specs.code.SortKey.{keyOf, sameForm}
@@ -152,7 +152,7 @@ module _ (x y : SortKey) where
     form-by-digits k e = e ∙ rw (eq-eqb (x .rank) (y .rank) h, not-false (Bool·beq (x .below) (y .below)) k)
 
 module _ (numbers strings text : List ℕ) (l m : LiteralRef) {x y : SortKey} (ex : x ≡ keyOf (literalOf numbers strings text l)) (ey : y ≡ keyOf (literalOf numbers strings text m)) where
-  pub texts-by-size : x .rank ≡ 3 → {t : Bool} → t ≡ sameForm x y → t ≡ true → {r : Comparison} → r ≡ told (natOrder (x .size) (y .size)) → r ≡ textsCompared (literalOf numbers strings text l) (literalOf numbers strings text m)
+  pub texts-by-size : x .rank ≡ 3 → {t : Bool} → t ≡ sameForm x y → t ≡ true → {r : Comparison} → r ≡ comparisonOf (natOrder (x .size) (y .size)) → r ≡ textsCompared (literalOf numbers strings text l) (literalOf numbers strings text m)
   unfolding textsCompared textCompared keyText
   texts-by-size h f t is =
       let both = and-true (eqb (x .rank) (y .rank)) (Bool·beq (x .below) (y .below) && eqb (length (decimal (x .size))) (length (decimal (y .size)))) (sym f ∙ t) in

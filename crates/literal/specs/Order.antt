@@ -67,12 +67,12 @@ unfoldable pub keyOrder : Literal → Literal → Order
 keyOrder a b = then (natOrder (rank a) (rank b)) (withinRank a b)
 
 -- The code's answers.
-abbrev pub told : Order → Comparison
-told less = Less
-told same = Equal
-told more = Greater
+abbrev pub comparisonOf : Order → Comparison
+comparisonOf less = Less
+comparisonOf same = Equal
+comparisonOf more = Greater
 
 unfoldable pub compared : Option Literal → Option Literal → Comparison
 compared none b = NoLiteral
 compared (some a) none = NoLiteral
-compared (some a) (some b) = told (keyOrder a b)
+compared (some a) (some b) = comparisonOf (keyOrder a b)

@@ -5,7 +5,7 @@ use mathlib.Core.List.{List, [], _∷_, _++_}
 use mathlib.Core.Option.{Option, none, some}
 use lib.Dec.{ltb}
 use Rattle.literal.specs.Literal.{Literal, null, boolean, number, string}
-use Rattle.literal.specs.Order.{bytesOrder, told}
+use Rattle.literal.specs.Order.{bytesOrder, comparisonOf}
 use Rattle.literal.specs.declared.Comparison.{Comparison}
 use Rattle.literal.specs.declared.Comparison.the-variants.{NoLiteral}
 
@@ -40,7 +40,7 @@ keyText (string bs) = bs
 -- bytes with the text of a key
 unfoldable pub textCompared : List ℕ → Option Literal → Comparison
 textCompared bs none = NoLiteral
-textCompared bs (some b) = told (bytesOrder bs (keyText b))
+textCompared bs (some b) = comparisonOf (bytesOrder bs (keyText b))
 
 unfoldable pub textsCompared : Option Literal → Option Literal → Comparison
 textsCompared none b = NoLiteral

@@ -7,12 +7,12 @@ ghost use Rattle.base.specs.Lent.{old};
 ghost use mathlib.Core.Path.{_≡_};
 ghost use Prim.Native.Nat.{_+_, _^_, _<_, _≤_, min};
 ghost use lib.ListN.{length};
-ghost use Rattle.literal.specs.Order.{natOrder, numberOrder, bytesOrder, told, compared};
+ghost use Rattle.literal.specs.Order.{natOrder, numberOrder, bytesOrder, comparisonOf, compared};
 ghost use Rattle.literal.specs.Reading.{literalOf, bytesOf};
 ghost use Rattle.literal.specs.code.Chunks.{Prefix, sameFrom, Said};
 
 pub(crate) fn compare_sizes(a: u64, b: u64) -> Comparison
-    ensures { λ r. ⌜ r ≡ told (natOrder a b) ⌝ }
+    ensures { λ r. ⌜ r ≡ comparisonOf (natOrder a b) ⌝ }
 {
     if a < b {
         return Comparison::Less;
@@ -24,7 +24,7 @@ pub(crate) fn compare_sizes(a: u64, b: u64) -> Comparison
 }
 
 fn compare_numbers(a_below: bool, a_size: u64, b_below: bool, b_size: u64) -> Comparison
-    ensures { λ r. ⌜ r ≡ told (numberOrder «a_below» «a_size» «b_below» «b_size») ⌝ }
+    ensures { λ r. ⌜ r ≡ comparisonOf (numberOrder «a_below» «a_size» «b_below» «b_size») ⌝ }
 {
     if a_below {
         if b_below {
@@ -104,7 +104,7 @@ fn word_at(bytes: &[u8], at: usize) -> u64
 // The bytes from `from` on, where those before are the same.
 fn compare_rest(a: &[u8], b: &[u8], from: usize) -> Comparison
     requires { ⌜ Prefix (now a) (now b) from ⌝ }
-    ensures { λ r. ⌜ r ≡ told (bytesOrder (old a) (old b)) ⌝ }
+    ensures { λ r. ⌜ r ≡ comparisonOf (bytesOrder (old a) (old b)) ⌝ }
 {
     let shorter = lesser(a.len(), b.len());
     let mut i = from;
@@ -119,7 +119,7 @@ fn compare_rest(a: &[u8], b: &[u8], from: usize) -> Comparison
 
 fn compare_words(a: &[u8], b: &[u8], from: usize) -> Comparison
     requires { ⌜ Prefix (now a) (now b) from ⌝ }
-    ensures { λ r. ⌜ r ≡ told (bytesOrder (old a) (old b)) ⌝ }
+    ensures { λ r. ⌜ r ≡ comparisonOf (bytesOrder (old a) (old b)) ⌝ }
 {
     let shorter = lesser(a.len(), b.len());
     let mut i = from;
@@ -136,7 +136,7 @@ fn compare_words(a: &[u8], b: &[u8], from: usize) -> Comparison
 
 // The first byte that differs decides; a prefix comes first.
 pub fn compare_bytes(a: &[u8], b: &[u8]) -> Comparison
-    ensures { λ r. ⌜ r ≡ told (bytesOrder (old a) (old b)) ⌝ }
+    ensures { λ r. ⌜ r ≡ comparisonOf (bytesOrder (old a) (old b)) ⌝ }
 {
     compare_words(a, b, same_chunks(a, b))
 }
@@ -148,7 +148,7 @@ pub(crate) fn compare_to_string<'a>(
     text: &'a [u8],
     l: LiteralRef,
 ) -> Comparison
-    ensures { λ r. ⌜ r ≡ told (bytesOrder (old bytes) (bytesOf (old strings) (old text) l)) ⌝ }
+    ensures { λ r. ⌜ r ≡ comparisonOf (bytesOrder (old bytes) (bytesOf (old strings) (old text) l)) ⌝ }
 {
     compare_bytes(bytes, string_bytes(strings, text, l))
 }
@@ -159,7 +159,7 @@ fn compare_strings<'a>(
     a: LiteralRef,
     b: LiteralRef,
 ) -> Comparison
-    ensures { λ r. ⌜ r ≡ told (bytesOrder (bytesOf (old strings) (old text) a) (bytesOf (old strings) (old text) b)) ⌝ }
+    ensures { λ r. ⌜ r ≡ comparisonOf (bytesOrder (bytesOf (old strings) (old text) a) (bytesOf (old strings) (old text) b)) ⌝ }
 {
     compare_to_string(string_bytes(strings, text, a), strings, text, b)
 }

@@ -33,7 +33,7 @@ use Rattle.operation.specs.declared.numbers.OperationNumbers.{OperationN
 use Rattle.operation.specs.Operation.{operationOutcome}
 use Rattle.operation.specs.Version.{patternsOf, rootsOf, firstReserved, unlessReserved, version1Outcome, versionOutcome}
 use Rattle.operation.specs.Numbers.{scopingOf, readingOf, operationOf}
-use Rattle.operation.specs.ReadingLaws.{readAs, withScoping, isShapeRefusal, ReadingLaws}
+use Rattle.operation.specs.ReadingLaws.{readAs, withScoping, isShapeRefusal, OperationReadings}
 
 -- refused in one way, refused in the other
 abbrev Again : Outcome → Outcome → Type 0
@@ -219,7 +219,7 @@ module _ (o : OperationNumbers) where
       go false false false false true = refl
       go false false false false false = ap (λ x. Parameter x (o .first)) mode
 
-pub operation-readings : ReadingLaws
+pub operation-readings : OperationReadings
 operation-readings = record {
   present = λ o lt. by-number o Present (simp (lt-leb 3 (o .scoping) lt));
   third = λ o. as-other o 3 1 refl refl;

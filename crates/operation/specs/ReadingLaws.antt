@@ -32,7 +32,7 @@ abbrev pub isShapeRefusal : Outcome → Bool
 isShapeRefusal (refused r) = eqb (r .number) 13 || eqb (r .number) 14
 isShapeRefusal (planned form side es) = false
 
-pub record ReadingLaws : Type 0 where
+pub record OperationReadings : Type 0 where
   -- scoping 1 and 2: the present reading
   pub present : (o : OperationNumbers) → o .scoping < 3 → operationOf o ≡ readAs Present (operationOf o)
   -- scoping 3 and 4: the operation of 1 and 2, read carefully

@@ -22,11 +22,11 @@ use Rattle.planner.specs.Plan.{plan}
 use Rattle.planner.specs.Layout.{insert, concat, entries}
 use Rattle.operation.specs.Operation.{operationOutcome}
 use Rattle.operation.specs.Numbers.{areListed, operationOf}
-use Rattle.sheet.specs.Lines.{columnNumber, isLine, isNumberLine, wordAt, numberWord}
-use Rattle.sheet.specs.Sheet.{withinLimits, layoutOk, parse}
+use Rattle.sheet.specs.Lines.{columnNumber, isLine, isNumberLine, columnWordAt, numberWord}
+use Rattle.sheet.specs.Sheet.{countsOk, layoutOk, parse}
 use Rattle.sheet.specs.Trial.{exampleSheet}
 use Rattle.sheet.specs.Source.{sourceText}
-use Rattle.page.specs.Page.{sourceWidth, keyWidth, kindWidth, blanks, leftIn, cell, kindName, entryLines, pageCount, cellsBytes, linesBytes}
+use Rattle.page.specs.Page.{sourceWidth, keyWidth, kindWidth, blanks, leftIn, cell, kindName, entryLines, pageCount, cellsBytes, pageBytes}
 use Rattle.page.specs.Answer.{pagesOfSheet, pagesAnswer, pagesAfter, pageLine}
 use Rattle.base.specs.Refusal.{line}
 use Rattle.page.specs.Trial.{examplePages}
@@ -88,18 +88,18 @@ largest = refl
 
 -- [x, x]: three lines and 57 blank ones, then a zero
 pub example-pages : pagesAfter (pagesOfSheet (parse exampleSheet)) (replicate 4381 7) ≡ examplePages ++ (0 ∷ [])
-unfolding isNumber digits value literalOf bytesOrder keyOrder afterBlanks allDigits isDecimal readColumn columnBytes signedNumber readSigned justified isName contains says isUnderscore isUnbound wordFrom marked ofBytes recordWord widthOf nameBytes sameBytes depth refOf literalNode items fields headed exprAt expr allFrom elem noRepeat Rules.withinLimits wholeRecords spanOk nameTextOk wordsOk childrenBelow nodeOk placesFrom usedPlaces nameOk scopeOk followsRules shallow namesDiffer checked tabulate plan insert concat entries columnNumber isLine isNumberLine wordAt numberWord withinLimits areListed layoutOk parse operationOf operationOutcome sourceText leftIn entryLines cellsBytes linesBytes pagesAnswer pagesAfter
+unfolding isNumber digits value literalOf bytesOrder keyOrder afterBlanks allDigits isDecimal readColumn columnBytes signedNumber readSigned justified isName contains says isUnderscore isUnbound wordFrom marked ofBytes recordWord widthOf nameBytes sameBytes depth refOf literalNode items fields headed exprAt expr allFrom elem noRepeat Rules.withinLimits wholeRecords spanOk nameTextOk wordsOk childrenBelow nodeOk placesFrom usedPlaces nameOk scopeOk followsRules shallow namesDiffer checked tabulate plan insert concat entries columnNumber isLine isNumberLine columnWordAt numberWord countsOk areListed layoutOk parse operationOf operationOutcome sourceText leftIn entryLines cellsBytes pageBytes pagesAnswer pagesAfter
 example-pages = refl
 
 pub example-answer : pageLine (pagesAnswer (pagesOfSheet (parse exampleSheet)) (replicate 4380 7)) ≡ line 0 1 0 0
-unfolding isNumber digits value literalOf bytesOrder keyOrder afterBlanks allDigits isDecimal readColumn columnBytes signedNumber readSigned justified isName contains says isUnderscore isUnbound wordFrom marked ofBytes recordWord widthOf nameBytes sameBytes depth refOf literalNode items fields headed exprAt expr allFrom elem noRepeat Rules.withinLimits wholeRecords spanOk nameTextOk wordsOk childrenBelow nodeOk placesFrom usedPlaces nameOk scopeOk followsRules shallow namesDiffer checked tabulate plan insert concat entries columnNumber isLine isNumberLine wordAt numberWord withinLimits areListed layoutOk parse operationOf operationOutcome sourceText leftIn entryLines cellsBytes linesBytes pagesAnswer pagesAfter
+unfolding isNumber digits value literalOf bytesOrder keyOrder afterBlanks allDigits isDecimal readColumn columnBytes signedNumber readSigned justified isName contains says isUnderscore isUnbound wordFrom marked ofBytes recordWord widthOf nameBytes sameBytes depth refOf literalNode items fields headed exprAt expr allFrom elem noRepeat Rules.withinLimits wholeRecords spanOk nameTextOk wordsOk childrenBelow nodeOk placesFrom usedPlaces nameOk scopeOk followsRules shallow namesDiffer checked tabulate plan insert concat entries columnNumber isLine isNumberLine columnWordAt numberWord countsOk areListed layoutOk parse operationOf operationOutcome sourceText leftIn entryLines cellsBytes pageBytes pagesAnswer pagesAfter
 example-answer = refl
 
 -- one byte short
 pub example-short : pageLine (pagesAnswer (pagesOfSheet (parse exampleSheet)) (replicate 4379 7)) ≡ line 30 0 0 0
-unfolding isNumber digits value literalOf bytesOrder keyOrder afterBlanks allDigits isDecimal readColumn columnBytes signedNumber readSigned justified isName contains says isUnderscore isUnbound wordFrom marked ofBytes recordWord widthOf nameBytes sameBytes depth refOf literalNode items fields headed exprAt expr allFrom elem noRepeat Rules.withinLimits wholeRecords spanOk nameTextOk wordsOk childrenBelow nodeOk placesFrom usedPlaces nameOk scopeOk followsRules shallow namesDiffer checked tabulate plan insert concat entries columnNumber isLine isNumberLine wordAt numberWord withinLimits areListed layoutOk parse operationOf operationOutcome sourceText leftIn entryLines cellsBytes linesBytes pagesAnswer pagesAfter
+unfolding isNumber digits value literalOf bytesOrder keyOrder afterBlanks allDigits isDecimal readColumn columnBytes signedNumber readSigned justified isName contains says isUnderscore isUnbound wordFrom marked ofBytes recordWord widthOf nameBytes sameBytes depth refOf literalNode items fields headed exprAt expr allFrom elem noRepeat Rules.withinLimits wholeRecords spanOk nameTextOk wordsOk childrenBelow nodeOk placesFrom usedPlaces nameOk scopeOk followsRules shallow namesDiffer checked tabulate plan insert concat entries columnNumber isLine isNumberLine columnWordAt numberWord countsOk areListed layoutOk parse operationOf operationOutcome sourceText leftIn entryLines cellsBytes pageBytes pagesAnswer pagesAfter
 example-short = refl
 
 pub example-untouched : pagesAfter (pagesOfSheet (parse exampleSheet)) (replicate 4379 7) ≡ replicate 4379 7
-unfolding isNumber digits value literalOf bytesOrder keyOrder afterBlanks allDigits isDecimal readColumn columnBytes signedNumber readSigned justified isName contains says isUnderscore isUnbound wordFrom marked ofBytes recordWord widthOf nameBytes sameBytes depth refOf literalNode items fields headed exprAt expr allFrom elem noRepeat Rules.withinLimits wholeRecords spanOk nameTextOk wordsOk childrenBelow nodeOk placesFrom usedPlaces nameOk scopeOk followsRules shallow namesDiffer checked tabulate plan insert concat entries columnNumber isLine isNumberLine wordAt numberWord withinLimits areListed layoutOk parse operationOf operationOutcome sourceText leftIn entryLines cellsBytes linesBytes pagesAnswer pagesAfter
+unfolding isNumber digits value literalOf bytesOrder keyOrder afterBlanks allDigits isDecimal readColumn columnBytes signedNumber readSigned justified isName contains says isUnderscore isUnbound wordFrom marked ofBytes recordWord widthOf nameBytes sameBytes depth refOf literalNode items fields headed exprAt expr allFrom elem noRepeat Rules.withinLimits wholeRecords spanOk nameTextOk wordsOk childrenBelow nodeOk placesFrom usedPlaces nameOk scopeOk followsRules shallow namesDiffer checked tabulate plan insert concat entries columnNumber isLine isNumberLine columnWordAt numberWord countsOk areListed layoutOk parse operationOf operationOutcome sourceText leftIn entryLines cellsBytes pageBytes pagesAnswer pagesAfter
 example-untouched = refl

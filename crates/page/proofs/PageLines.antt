@@ -9,7 +9,7 @@ use lib.Seq.{take-all, take-suc-set}
 use Rattle.columns.specs.Columns.{writeColumn, stored, columnStored}
 use Rattle.columns.proofs.ReadBack.{read-back}
 use Rattle.columns.proofs.write.Storing.{stored-long, stored-none, stored-on, stored-one}
-use Rattle.page.specs.Page.{numberWidth, kindWidth, sourceWidth, keyWidth, lineWidth, lineLength, leftIn, cell, kindName, lineCells, blankCells, cellsBytes, linesBytes}
+use Rattle.page.specs.Page.{numberWidth, kindWidth, sourceWidth, keyWidth, lineWidth, pageLineLength, leftIn, cell, kindName, lineCells, blankCells, cellsBytes, pageBytes}
 use Rattle.page.specs.code.Lines.{frontBytes, textsBytes, linesFrom}
 use Rattle.page.proofs.CellBytes.{cell-long}
 
@@ -51,10 +51,10 @@ module _ (number kind : ℕ) (source key : List ℕ) where
   unfolding whole frontBytes textsBytes cellsBytes
   line-is = simp append-assoc
 
-  pub line-long : length (cellsBytes (lineCells number kind source key)) ≡ lineLength
+  pub line-long : length (cellsBytes (lineCells number kind source key)) ≡ pageLineLength
   line-long = ap length (sym line-is) ∙ (length-append whole (10 ∷ []) ∙ omega (arith, whole-long))
 
-  pub line-written : (out : List ℕ) (at : ℕ) {one two : List ℕ} → at + lineLength ≤ length out → one ≡ stored out at (frontBytes number kind) → two ≡ stored one (at + (numberWidth + kindWidth)) (textsBytes source key)
+  pub line-written : (out : List ℕ) (at : ℕ) {one two : List ℕ} → at + pageLineLength ≤ length out → one ≡ stored out at (frontBytes number kind) → two ≡ stored one (at + (numberWidth + kindWidth)) (textsBytes source key)
       → set two (at + lineWidth) 10 ≡ stored out at (cellsBytes (lineCells number kind source key))
   unfolding whole
   line-written out at {one} {two} room first second =
@@ -67,11 +67,11 @@ pub blank-is : cell lineWidth [] ++ (10 ∷ []) ≡ cellsBytes blankCells
 unfolding leftIn cellsBytes
 blank-is = refl
 
-pub blank-long : length (cellsBytes blankCells) ≡ lineLength
+pub blank-long : length (cellsBytes blankCells) ≡ pageLineLength
 unfolding cellsBytes
 blank-long = refl
 
-pub blank-written : (out : List ℕ) (at : ℕ) {one : List ℕ} → at + lineLength ≤ length out → one ≡ stored out at (cell lineWidth []) → set one (at + lineWidth) 10 ≡ stored out at (cellsBytes blankCells)
+pub blank-written : (out : List ℕ) (at : ℕ) {one : List ℕ} → at + pageLineLength ≤ length out → one ≡ stored out at (cell lineWidth []) → set one (at + lineWidth) 10 ≡ stored out at (cellsBytes blankCells)
 blank-written out at {one} room first =
     let kept : length one ≡ length out = ap length first ∙ stored-long out at (cell lineWidth []) in
     stored-one one (at + lineWidth) 10 (omega arith)
@@ -83,36 +83,36 @@ byte-kept out one i b e = length-set one i b ∙ e
 pub line-kept : (out one two : List ℕ) (i b : ℕ) → length one ≡ length out → length two ≡ length one → length (set two i b) ≡ length out
 line-kept out one two i b c d = length-set two i b ∙ (d ∙ c)
 
--- Lines, each of `lineLength` bytes: those left make of the output what all of them make of it as it was.
+-- Lines, each of `pageLineLength` bytes: those left make of the output what all of them make of it as it was.
 pub record Lining (f : ℕ → List ℕ) (out₀ : List ℕ) (at count i : ℕ) (out : List ℕ) : Type 0 where
   pub inside : i ≤ count
-  pub room : at + count * lineLength ≤ length out₀
+  pub room : at + count * pageLineLength ≤ length out₀
   pub kept : length out ≡ length out₀
-  pub same : stored out (at + i * lineLength) (linesFrom f i (count - i)) ≡ stored out₀ at (linesFrom f 0 count)
+  pub same : stored out (at + i * pageLineLength) (linesFrom f i (count - i)) ≡ stored out₀ at (linesFrom f 0 count)
 
-pub lining-start : (f : ℕ → List ℕ) (out : List ℕ) (at count : ℕ) → at + count * lineLength ≤ length out → Lining f out at count 0 out
+pub lining-start : (f : ℕ → List ℕ) (out : List ℕ) (at count : ℕ) → at + count * pageLineLength ≤ length out → Lining f out at count 0 out
 lining-start f out at count room =
     let z : count - 0 ≡ count = omega arith in
-    let y : at + 0 * lineLength ≡ at = omega arith in
+    let y : at + 0 * pageLineLength ≡ at = omega arith in
     record { inside = omega arith; room = room; kept = refl; same = rw (z, y) }
 
-module _ (f : ℕ → List ℕ) (wide : (i : ℕ) → length (f i) ≡ lineLength) where
-  pub lines-long : (i k : ℕ) → length (linesFrom f i k) ≡ k * lineLength
+module _ (f : ℕ → List ℕ) (wide : (i : ℕ) → length (f i) ≡ pageLineLength) where
+  pub lines-long : (i k : ℕ) → length (linesFrom f i k) ≡ k * pageLineLength
   unfolding linesFrom
   lines-long i zero = refl
   lines-long i (suc k) = length-append (f i) (linesFrom f (i + 1) k) ∙ omega (arith, wide i, lines-long (i + 1) k)
 
   module _ {out₀ : List ℕ} {at count i : ℕ} {out : List ℕ} (w : Lining f out₀ at count i out) where
-    pub lining-on : {later : List ℕ} → i < count → later ≡ stored out (at + i * lineLength) (f i) → Lining f out₀ at count (i + 1) later
+    pub lining-on : {later : List ℕ} → i < count → later ≡ stored out (at + i * pageLineLength) (f i) → Lining f out₀ at count (i + 1) later
     unfolding linesFrom
     lining-on {later} lt e =
-        let place = at + i * lineLength in
+        let place = at + i * pageLineLength in
         let rest = linesFrom f (i + 1) (count - (i + 1)) in
         let left : count - i ≡ suc (count - (i + 1)) = omega arith in
         let split : linesFrom f i (count - i) ≡ f i ++ rest = rw left in
-        let next : at + (i + 1) * lineLength ≡ place + lineLength = omega arith in
+        let next : at + (i + 1) * pageLineLength ≡ place + pageLineLength = omega arith in
         let size = lines-long (i + 1) (count - (i + 1)) in
-        let on = after out place (f i) rest lineLength (wide i) (omega (arith, w .room, w .kept)) in
+        let on = after out place (f i) rest pageLineLength (wide i) (omega (arith, w .room, w .kept)) in
         record {
           inside = omega arith;
           room = w .room;
@@ -124,25 +124,25 @@ pub lining-ends : {f : ℕ → List ℕ} {out₀ : List ℕ} {at count i : ℕ} 
 unfolding linesFrom
 lining-ends {at = at} {count = count} {i = i} {out = out} w le =
     let z : count - i ≡ 0 = omega arith in
-    sym (stored-none out (at + i * lineLength) (omega (arith, w .inside, w .room, w .kept))) ∙ rw z at (w .same)
+    sym (stored-none out (at + i * pageLineLength) (omega (arith, w .inside, w .room, w .kept))) ∙ rw z at (w .same)
 
 -- blank lines
 abbrev pub blankLine : ℕ → List ℕ
 blankLine i = cellsBytes blankCells
 
-blanks-are : (i k : ℕ) → linesFrom blankLine i k ≡ linesBytes (replicate k blankCells)
-unfolding linesFrom linesBytes
+blanks-are : (i k : ℕ) → linesFrom blankLine i k ≡ pageBytes (replicate k blankCells)
+unfolding linesFrom pageBytes
 blanks-are i zero = refl
 blanks-are i (suc k) = ap (λ (l : List ℕ). cellsBytes blankCells ++ l) (blanks-are (i + 1) k)
 
-pub blanks-long : (k : ℕ) → length (linesBytes (replicate k blankCells)) ≡ k * lineLength
+pub blanks-long : (k : ℕ) → length (pageBytes (replicate k blankCells)) ≡ k * pageLineLength
 blanks-long k = ap length (sym (blanks-are 0 k)) ∙ lines-long blankLine (λ i. blank-long) 0 k
 
 module _ {out₀ : List ℕ} {at count i : ℕ} {out : List ℕ} (w : Lining blankLine out₀ at count i out) where
-  pub blanks-on : {later : List ℕ} → i < count → later ≡ stored out (at + i * lineLength) (cellsBytes blankCells) → Lining blankLine out₀ at count (i + 1) later
+  pub blanks-on : {later : List ℕ} → i < count → later ≡ stored out (at + i * pageLineLength) (cellsBytes blankCells) → Lining blankLine out₀ at count (i + 1) later
   blanks-on = lining-on blankLine (λ i. blank-long) w
 
-  pub blanks-end : count ≤ i → out ≡ stored out₀ at (linesBytes (replicate count blankCells))
+  pub blanks-end : count ≤ i → out ≡ stored out₀ at (pageBytes (replicate count blankCells))
   blanks-end le = lining-ends w le ∙ ap (stored out₀ at) (blanks-are 0 count)
 
 -- zeros from a place on

@@ -20,13 +20,13 @@ use Rattle.sheet.specs.Outcome.{outcomeOfSheet}
 use Rattle.sheet.proofs.laws.CutShort.{parsed-alike}
 use Rattle.page.specs.declared.PageAnswer.{PageAnswer}
 use Rattle.page.specs.declared.PageAnswer.the-variants.{Pages, Refused, BufferTooShort}
-use Rattle.page.specs.Page.{lineLength, pageLines, keySource, Cells, pagesLines, linesBytes}
-use Rattle.page.specs.Answer.{Paged, refused, paged, pagesOf, sourceOfSheet, pagesOfSheet, pagesAnswer, fits, LaidOut}
-use Rattle.page.specs.Laws.{LineLaws, PagesSize, CutShort}
+use Rattle.page.specs.Page.{pageLineLength, pageLines, keySource, Cells, pagesLines, pageBytes}
+use Rattle.page.specs.Answer.{Paged, refused, paged, pagesOf, sourceOfSheet, pagesOfSheet, pagesAnswer, pagesFit, LaidOut}
+use Rattle.page.specs.Laws.{PageLineLaws, PagesSize, PagesCutShort}
 use Rattle.page.proofs.PageLines.{line-long, blank-long}
 use Rattle.page.proofs.EntryLines.{pages-many, pages-long}
 
-pub line-laws : LineLaws
+pub line-laws : PageLineLaws
 line-laws = record {
   entry = λ source number e. line-long number (e .kind) (source (e .node)) (keySource source (e .key));
   blank = blank-long;
@@ -58,12 +58,12 @@ pages-few source (Plan.planned form side es) {lines} e = go (leb (length es) 153
     go false p = let other : refused (planTooLarge (length es)) ≡ paged lines = rw p at e in absurd (false≢true (ap isPaged other))
 
 module _ (source : ℕ → List ℕ) (o : Outcome) {lines : List Cells} (comes : pagesOf source o ≡ paged lines) where
-  long : length (linesBytes lines) ≡ length lines * lineLength
+  long : length (pageBytes lines) ≡ length lines * pageLineLength
   long =
       let f = pages-few source o comes in
       rw (f .is) (pages-long source (f .es) ∙ rw (pages-many source (f .es)))
 
-  most : length (linesBytes lines) ≤ 113880
+  most : length (pageBytes lines) ≤ 113880
   most =
       let f = pages-few source o comes in
       rw (f .is, pages-long source (f .es)) (omega (arith, f .few))
@@ -75,7 +75,7 @@ module _ (source : ℕ → List ℕ) (o : Outcome) {lines : List Cells} (comes :
 
 -- pages that fit: their bytes, and how many there are
 record Counted (lines : List Cells) (buffer : List ℕ) (n : ℕ) : Type 0 where
-  inside : length (linesBytes lines) ≤ length buffer
+  inside : length (pageBytes lines) ≤ length buffer
   count : length lines / pageLines ≡ n
 
 abbrev isPages : PageAnswer → Bool
@@ -95,22 +95,22 @@ count-in BufferTooShort = 0
 
 fits-count : (lines : List Cells) (buffer : List ℕ) {n : ℕ} → pagesAnswer (paged lines) buffer ≡ Pages n → Counted lines buffer n
 unfolding pagesAnswer
-fits-count lines buffer {n} e = go (fits lines buffer) refl
+fits-count lines buffer {n} e = go (pagesFit lines buffer) refl
   where
-    go : (b : Bool) → fits lines buffer ≡ b → Counted lines buffer n
+    go : (b : Bool) → pagesFit lines buffer ≡ b → Counted lines buffer n
     go true p =
         let same : Pages (length lines / pageLines) ≡ Pages n = rw p at e in
-        record { inside = leb-true (length (linesBytes lines)) (length buffer) p; count = ap count-in same }
+        record { inside = leb-true (length (pageBytes lines)) (length buffer) p; count = ap count-in same }
     go false p = let other : BufferTooShort ≡ Pages n = rw p at e in absurd (false≢true (ap isPages other))
 
 no-page : (r : Refusal) (buffer : List ℕ) {n : ℕ} → pagesAnswer (refused r) buffer ≡ Pages n → ⊥
 unfolding pagesAnswer
 no-page r buffer e = false≢true (ap isPages e)
 
-not-short : (lines : List Cells) (buffer : List ℕ) → length (linesBytes lines) ≤ length buffer → pagesAnswer (paged lines) buffer ≡ BufferTooShort → ⊥
+not-short : (lines : List Cells) (buffer : List ℕ) → length (pageBytes lines) ≤ length buffer → pagesAnswer (paged lines) buffer ≡ BufferTooShort → ⊥
 unfolding pagesAnswer
 not-short lines buffer inside e =
-    let p = le-leb (length (linesBytes lines)) (length buffer) inside in
+    let p = le-leb (length (pageBytes lines)) (length buffer) inside in
     let other : Pages (length lines / pageLines) ≡ BufferTooShort = rw p at e in
     false≢true (ap isShort other)
 
@@ -137,8 +137,8 @@ pages-size = record {
 
 -- pages that were laid out lie within the buffer, and are few
 record Printed (n : ℕ) (before : List ℕ) : Type 0 where
-  inside : n * (pageLines * lineLength) ≤ length before
-  few : n * (pageLines * lineLength) ≤ 113880
+  inside : n * (pageLines * pageLineLength) ≤ length before
+  few : n * (pageLines * pageLineLength) ≤ 113880
 
 pages-printed : (source : ℕ → List ℕ) (o : Outcome) {before after : List ℕ} {n : ℕ} → LaidOut (pagesOf source o) before after (Pages n) → Printed n before
 pages-printed source o {before} {after} {n} laid = go (pagesOf source o) refl
@@ -155,20 +155,20 @@ module _ (sheet : List ℕ) {before after : List ℕ} {r : PageAnswer} {n : ℕ}
   printed : Printed n before
   printed = pages-printed (sourceOfSheet (parse sheet)) (outcomeOfSheet (parse sheet)) (rw is at laid)
 
-  pub pages-word : Fits w64 (n * (pageLines * lineLength))
+  pub pages-word : Fits w64 (n * (pageLines * pageLineLength))
   pages-word = omega (arith, printed .few)
 
   module _ (kept : length after ≡ length before) where
-    pub pages-within : n * (pageLines * lineLength) ≤ length after
+    pub pages-within : n * (pageLines * pageLineLength) ≤ length after
     pages-within = omega (arith, printed .inside)
 
-    pub pages-prefix : n * (pageLines * lineLength) ≡ length (take (n * (pageLines * lineLength)) after)
-    pages-prefix = sym (length-take-le (n * (pageLines * lineLength)) after pages-within)
+    pub pages-prefix : n * (pageLines * pageLineLength) ≡ length (take (n * (pageLines * pageLineLength)) after)
+    pages-prefix = sym (length-take-le (n * (pageLines * pageLineLength)) after pages-within)
 
 -- a too long input
 cut-at : (sheet : List ℕ) (n : ℕ) → 51915 ≤ n → n ≤ length sheet → pagesOfSheet (parse (take n sheet)) ≡ pagesOfSheet (parse sheet)
 cut-at sheet n many inside =
     ap pagesOfSheet (parsed-alike (take n sheet) (drop n sheet) (omega (arith, length-take-le n sheet inside)) ∙ ap parse (take-append-drop n sheet))
 
-pub cut-short : CutShort
+pub cut-short : PagesCutShort
 cut-short = record { cut = λ sheet long. cut-at sheet 51915 (omega arith) long }

@@ -15,12 +15,12 @@ use Rattle.operation.specs.declared.row.Row.{Row}
 use Rattle.operation.specs.Rows.{rowLine, Told}
 use Rattle.operation.proofs.ShortOperation.{operation-short}
 use Rattle.sheet.specs.Lines.{isLine}
-use Rattle.sheet.specs.Sheet.{line1, unparsed, parsed, parse, countsOf, withinLimits, layoutOk, sheetOf}
+use Rattle.sheet.specs.Sheet.{line1, unparsed, parsed, parse, countsOf, countsOk, layoutOk, sheetOf}
 use Rattle.sheet.specs.Outcome.{outcomeOfSheet}
 use Rattle.page.specs.declared.PageAnswer.{PageAnswer}
 use Rattle.page.specs.declared.PageAnswer.the-variants.{Pages, BufferTooShort}
 use Rattle.page.specs.Page.{pageLines, Cells, pagesLines}
-use Rattle.page.specs.Answer.{refused, paged, pagesOf, pagesOfSheet, sourceOfSheet, fits, pagesAnswer, LaidOut, pageLine, PagesTold}
+use Rattle.page.specs.Answer.{refused, paged, pagesOf, pagesOfSheet, sourceOfSheet, pagesFit, pagesAnswer, LaidOut, pageLine, PagesTold}
 use Rattle.page.proofs.EntryLines.{pages-many}
 
 pub answer-is : (answer : PageAnswer) {a : PageAnswer} {l : Line} → answer ≡ a → l ≡ pageLine a → l ≡ pageLine answer
@@ -28,7 +28,7 @@ answer-is answer e is = rw e is
 
 outcome-short : (sheet : List ℕ) → ShortOutcome (outcomeOfSheet (parse sheet))
 unfolding parse
-outcome-short sheet = go (isLine sheet line1 6) (withinLimits (countsOf sheet)) (layoutOk sheet (countsOf sheet))
+outcome-short sheet = go (isLine sheet line1 6) (countsOk (countsOf sheet)) (layoutOk sheet (countsOf sheet))
   where
     go : (a b c : Bool) → ShortOutcome (outcomeOfSheet (cond a (cond b (cond c (parsed (sheetOf sheet (countsOf sheet))) (unparsed layoutBroken)) (unparsed overLimit)) (unparsed layoutBroken)))
     go false b c = refusal-short (omega arith) (omega arith)
@@ -42,7 +42,7 @@ refused-short r buffer s = s
 
 paged-short : (lines : List Cells) (buffer : List ℕ) → ShortLine (line 0 (length lines / pageLines) 0 0) → ShortLine (pageLine (pagesAnswer (paged lines) buffer))
 unfolding pagesAnswer
-paged-short lines buffer s = go (fits lines buffer)
+paged-short lines buffer s = go (pagesFit lines buffer)
   where
     go : (b : Bool) → ShortLine (pageLine (cond b (Pages (length lines / pageLines)) BufferTooShort))
     go true = s

@@ -16,7 +16,7 @@ use Rattle.sheet.specs.Outcome.{outcomeOfSheet}
 use Rattle.sheet.specs.Source.{sourceText}
 use Rattle.page.specs.declared.PageAnswer.{PageAnswer}
 use Rattle.page.specs.declared.PageAnswer.the-variants.{Pages, Refused, BufferTooShort}
-use Rattle.page.specs.Page.{pageLines, Cells, pagesLines, linesBytes}
+use Rattle.page.specs.Page.{pageLines, Cells, pagesLines, pageBytes}
 
 -- What a sheet comes to, the space of the page buffer aside: a refusal, or the lines of whole pages.
 pub data Paged : Type 0 where
@@ -37,20 +37,20 @@ abbrev pub pagesOfSheet : Parsed → Paged
 pagesOfSheet p = pagesOf (sourceOfSheet p) (outcomeOfSheet p)
 
 -- The last refusal, 30: a page buffer shorter than the pages.
-abbrev pub fits : List Cells → List ℕ → Bool
-fits lines buffer = leb (length (linesBytes lines)) (length buffer)
+abbrev pub pagesFit : List Cells → List ℕ → Bool
+pagesFit lines buffer = leb (length (pageBytes lines)) (length buffer)
 
 abbrev pub refusalRow : Refusal → Row
 refusalRow r = record { number = r .number; second = r .place; third = r .first; fourth = r .second }
 
 unfoldable pub pagesAnswer : Paged → List ℕ → PageAnswer
 pagesAnswer (refused r) buffer = Refused (refusalRow r)
-pagesAnswer (paged lines) buffer = cond (fits lines buffer) (Pages (length lines / pageLines)) BufferTooShort
+pagesAnswer (paged lines) buffer = cond (pagesFit lines buffer) (Pages (length lines / pageLines)) BufferTooShort
 
 -- the pages, then zeros; after a refusal as it was
 unfoldable pub pagesAfter : Paged → List ℕ → List ℕ
 pagesAfter (refused r) buffer = buffer
-pagesAfter (paged lines) buffer = cond (fits lines buffer) (linesBytes lines ++ replicate (length buffer - length (linesBytes lines)) 0) buffer
+pagesAfter (paged lines) buffer = cond (pagesFit lines buffer) (pageBytes lines ++ replicate (length buffer - length (pageBytes lines)) 0) buffer
 
 pub record LaidOut (p : Paged) (before after : List ℕ) (r : PageAnswer) : Type 0 where
   pub answer : r ≡ pagesAnswer p before

@@ -24,8 +24,8 @@ keyWidth = 16
 abbrev pub lineWidth : ℕ
 lineWidth = numberWidth + (kindWidth + (sourceWidth + keyWidth))
 
-abbrev pub lineLength : ℕ
-lineLength = lineWidth + 1
+abbrev pub pageLineLength : ℕ
+pageLineLength = lineWidth + 1
 
 abbrev pub pageLines : ℕ
 pageLines = 60
@@ -99,6 +99,6 @@ pagesLines source es = entryLines source 1 es ++ replicate (pageCount (length es
 unfoldable pub cellsBytes : Cells → List ℕ
 cellsBytes c = c .number ++ (c .kind ++ (c .source ++ (c .key ++ (10 ∷ []))))
 
-unfoldable pub linesBytes : List Cells → List ℕ
-linesBytes [] = []
-linesBytes (c ∷ cs) = cellsBytes c ++ linesBytes cs
+unfoldable pub pageBytes : List Cells → List ℕ
+pageBytes [] = []
+pageBytes (c ∷ cs) = cellsBytes c ++ pageBytes cs

@@ -5,7 +5,7 @@ ghost use Prim.Native.Nat.{_+_, _-_, _*_, _≤_};
 ghost use lib.ListN.{length, replicate, take};
 ghost use Rattle.base.specs.Lent.{old, new};
 ghost use Rattle.columns.specs.Columns.{stored};
-ghost use Rattle.page.specs.Page.{numberWidth, kindWidth, sourceWidth, keyWidth, lineLength, lineCells, blankCells, cellsBytes, entryLines, pagesLines, linesBytes};
+ghost use Rattle.page.specs.Page.{numberWidth, kindWidth, sourceWidth, keyWidth, pageLineLength, lineCells, blankCells, cellsBytes, entryLines, pagesLines, pageBytes};
 ghost use Rattle.page.specs.code.Lines.{frontBytes, textsBytes, entryLine, EntryAsks, EntriesAsks, PlanAsks};
 ghost use Rattle.page.specs.Answer.{paged, LaidOutIn};
 ghost use Rattle.sheet.specs.Source.{sourceIn};
@@ -52,7 +52,7 @@ fn write_texts(out: &mut [u8], at: usize, source: &[u8], key: &[u8])
 }
 
 fn write_line(out: &mut [u8], at: usize, number: u64, kind: u32, source: &[u8], key: &[u8])
-    requires { ⌜ at + lineLength ≤ length (now out) ⌝ }
+    requires { ⌜ at + pageLineLength ≤ length (now out) ⌝ }
     ensures { λ _. ⌜ new out ≡ stored (old out) at (cellsBytes (lineCells number kind (old source) (old key))) ⌝ }
 {
     write_front(out, at, number, kind);
@@ -63,7 +63,7 @@ fn write_line(out: &mut [u8], at: usize, number: u64, kind: u32, source: &[u8], 
 // Entry i of the plan, whose number is i + 1.
 fn write_entry(out: &mut [u8], sheet: &[u8], plan: &[u32], i: usize)
     requires { ⌜ EntryAsks (now out) (now plan) i ⌝ }
-    ensures { λ _. ⌜ new out ≡ stored (old out) (i * lineLength) (entryLine (sourceIn (old sheet)) (old plan) i) ⌝ }
+    ensures { λ _. ⌜ new out ≡ stored (old out) (i * pageLineLength) (entryLine (sourceIn (old sheet)) (old plan) i) ⌝ }
 {
     let words = i * ENTRY_WORDS;
     let source = source_of(sheet, plan[words + 1]);
@@ -84,7 +84,7 @@ fn write_entry(out: &mut [u8], sheet: &[u8], plan: &[u32], i: usize)
 
 fn write_entries(out: &mut [u8], sheet: &[u8], plan: &[u32], count: usize)
     requires { ⌜ EntriesAsks (now out) (now plan) count ⌝ }
-    ensures { λ _. ⌜ new out ≡ stored (old out) 0 (linesBytes (entryLines (sourceIn (old sheet)) 1 (readEntries (old plan) 0 count))) ⌝ }
+    ensures { λ _. ⌜ new out ≡ stored (old out) 0 (pageBytes (entryLines (sourceIn (old sheet)) 1 (readEntries (old plan) 0 count))) ⌝ }
 {
     let mut i: usize = 0;
     while i < count {
@@ -94,7 +94,7 @@ fn write_entries(out: &mut [u8], sheet: &[u8], plan: &[u32], count: usize)
 }
 
 fn write_blank_line(out: &mut [u8], at: usize)
-    requires { ⌜ at + lineLength ≤ length (now out) ⌝ }
+    requires { ⌜ at + pageLineLength ≤ length (now out) ⌝ }
     ensures { λ _. ⌜ new out ≡ stored (old out) at (cellsBytes blankCells) ⌝ }
 {
     write_cell(out, at, WIDTH, b"");
@@ -103,8 +103,8 @@ fn write_blank_line(out: &mut [u8], at: usize)
 
 // So many blank lines.
 fn write_blank_lines(out: &mut [u8], at: usize, count: usize)
-    requires { ⌜ at + count * lineLength ≤ length (now out) ⌝ }
-    ensures { λ _. ⌜ new out ≡ stored (old out) at (linesBytes (replicate count blankCells)) ⌝ }
+    requires { ⌜ at + count * pageLineLength ≤ length (now out) ⌝ }
+    ensures { λ _. ⌜ new out ≡ stored (old out) at (pageBytes (replicate count blankCells)) ⌝ }
 {
     let mut line: usize = 0;
     while line < count {

@@ -32,7 +32,7 @@ use Rattle.report.proofs.Meeting.{mentioned-named}
 use Rattle.run.specs.Answer.{RunResult, aMatch, noMatch}
 use Rattle.run.specs.Operations.{listedNode, inTable, isValueNode, listed, valuesListed, knownListed, RunOutcome, carriedOut, tableFirst, ran, runChecked, runOutcome, carriedResult, runAnswer, setNames, plannedName, valuesAfter}
 use Rattle.run.specs.code.Post.{RunAsks, toBind}
-use Rattle.run.specs.Demand.{Hypotheses, answer, list, isPlanned, Fills, Promised, Demand}
+use Rattle.run.specs.Demand.{Hypotheses, answer, list, isPlanned, Fills, Promised, RunDemand}
 use Rattle.run.proofs.Checking.{node-of-test}
 use Rattle.run.proofs.Known.{planned-is}
 use Rattle.run.proofs.Running.{run-table, promised, ran-run, listed-value, value-ok}
@@ -222,5 +222,5 @@ module _ (T : Tables) (s : Scope) (mode : ScopingMode) (pattern value : ℕ) (va
     onlyBlanks = kept .onlyBlanks;
   }
 
-pub demand : Demand
+pub demand : RunDemand
 demand = record { runs = run-promised; equality = laws; filled = filled }

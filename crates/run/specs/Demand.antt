@@ -70,7 +70,7 @@ module _ (T : Tables) (s : Scope) (mode : ScopingMode) (pattern value : ℕ) (va
     pub onlyNames : (f g : Filling (expr T pattern)) → Fills f → Fills g → (x : ℕ) → isPlanned x → Same (f .names x .value) (g .names x .value)
     pub onlyBlanks : (f g : Filling (expr T pattern)) → Fills f → Fills g → SameBlanks (expr T pattern) (f .blanks) (g .blanks)
 
-pub record Demand : Type 0 where
+pub record RunDemand : Type 0 where
   pub runs : (T : Tables) (s : Scope) (mode : ScopingMode) (pattern value : ℕ) (values buffer : List ℕ) → Hypotheses T s mode pattern value values buffer
       → Promised T s mode pattern value values buffer (answer T s mode pattern value values buffer) (list T s mode pattern value values buffer)
   -- equality is an equivalence of values, and a simple pattern that is filled with values is a value

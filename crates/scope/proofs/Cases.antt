@@ -22,7 +22,7 @@ use Rattle.scope.specs.Says.{markedUnbound, taken, byScoping}
 use Rattle.scope.specs.declared.ByteScope.{ByteScope}
 use Rattle.scope.specs.declared.ConversionAnswer.the-variants as Conversion
 use Rattle.scope.specs.Bytes.{marksOk, markBit, wordFrom, marked, ofBytes, ConvertedFrom, weight, sumOf, toBytes}
-use Rattle.scope.specs.Scope.{newScope, childOf, says, isUnderscore, isUnbound, sameScope, changeable, bindVariable, addUnboundVariable, named, callOf, Called, told, asked, questionOf}
+use Rattle.scope.specs.Scope.{newScope, childOf, says, isUnderscore, isUnbound, sameScope, changeable, bindVariable, addUnboundVariable, named, callOf, Called, replied, asked, questionOf}
 use Rattle.scope.proofs.Bits.{one-shifted}
 use Rattle.base.proofs.Filling.{Filling, filling-ends}
 use Rattle.scope.proofs.Sets.{name-positive, name-most, set-counted}
@@ -215,7 +215,7 @@ module _ (s : Scope) (x : ℕ) where
         unbound-marked mode b = simp (told-yes e t, ne-eqb _ _ u, sym m ∙ b)
 
         module _ (no : marked ≡ false) where
-          unbound-is : (mode : ScopingMode) → asked x (isUnbound s mode x) ≡ told (byScoping mode (taken (says s x)))
+          unbound-is : (mode : ScopingMode) → asked x (isUnbound s mode x) ≡ replied (byScoping mode (taken (says s x)))
           unfolding isUnbound isUnderscore
           unbound-is mode = simp (told-yes e t, ne-eqb _ _ u, sym m ∙ no)
 

@@ -12,7 +12,7 @@ use Rattle.scope.specs.declared.Binding.{Binding}
 use Rattle.scope.specs.declared.Binding.the-variants as Binding
 use Rattle.scope.specs.Names.{isName, contains, noNames, countFrom, sizeOf}
 use Rattle.scope.specs.Says.{Says, nothing, bind, addUnbound, inChild, unboundUnder, boundHere, byScoping}
-use Rattle.scope.specs.Scope.{says, isUnderscore, isUnbound, sameScope, boundCount, changeable, boundAt, unboundAt, bindVariable, addUnboundVariable, childOf, newScope, callOf, Question, told, turnedBack, asked, questionOf}
+use Rattle.scope.specs.Scope.{says, isUnderscore, isUnbound, sameScope, boundCount, changeable, boundAt, unboundAt, bindVariable, addUnboundVariable, childOf, newScope, callOf, Question, replied, turnedBack, asked, questionOf}
 use Rattle.scope.specs.Promises.{SameFrame, ChangedAt, BindPromise, AddPromise, ChildPromise, NewPromise, ScopePromise, AnswerLaws}
 use Rattle.scope.proofs.Sets.{contains-none, with-it, with-others, without-it, without-others, count-same}
 
@@ -169,8 +169,8 @@ call-settled NameOutside Done e = cc
 call-settled NameOutside NameOutside e = refl
 
 abbrev bindingIn : Question → Binding
-bindingIn (told true) = Binding.Yes
-bindingIn (told false) = Binding.No
+bindingIn (replied true) = Binding.Yes
+bindingIn (replied false) = Binding.No
 bindingIn (turnedBack r) = Binding.NameOutside
 
 back : (b : Binding) → bindingIn (questionOf b) ≡ b
@@ -185,24 +185,24 @@ module _ (x : ℕ) (u : Bool) where
     where
       go : (a : Bool) → isName x ≡ a → (b : Bool) → u ≡ b → (isName x ≡ true) × (u ≡ true)
       go true p true q = (p, q)
-      go true p false q = let h : _≡_ {A = Question} (told true) (told false) = e ∙ simp (p, q) in let z : Binding.Yes ≡ Binding.No = ap bindingIn h in (cc, cc)
-      go false p b q = let h : _≡_ {A = Question} (told true) (turnedBack nameOutside) = e ∙ simp p in let z : Binding.Yes ≡ Binding.NameOutside = ap bindingIn h in (cc, cc)
+      go true p false q = let h : _≡_ {A = Question} (replied true) (replied false) = e ∙ simp (p, q) in let z : Binding.Yes ≡ Binding.No = ap bindingIn h in (cc, cc)
+      go false p b q = let h : _≡_ {A = Question} (replied true) (turnedBack nameOutside) = e ∙ simp p in let z : Binding.Yes ≡ Binding.NameOutside = ap bindingIn h in (cc, cc)
 
   pub says-no : questionOf Binding.No ≡ asked x u → (isName x ≡ true) × (u ≡ false)
   says-no e = go (isName x) refl u refl
     where
       go : (a : Bool) → isName x ≡ a → (b : Bool) → u ≡ b → (isName x ≡ true) × (u ≡ false)
       go true p false q = (p, q)
-      go true p true q = let h : _≡_ {A = Question} (told false) (told true) = e ∙ simp (p, q) in let z : Binding.No ≡ Binding.Yes = ap bindingIn h in (cc, cc)
-      go false p b q = let h : _≡_ {A = Question} (told false) (turnedBack nameOutside) = e ∙ simp p in let z : Binding.No ≡ Binding.NameOutside = ap bindingIn h in (cc, cc)
+      go true p true q = let h : _≡_ {A = Question} (replied false) (replied true) = e ∙ simp (p, q) in let z : Binding.No ≡ Binding.Yes = ap bindingIn h in (cc, cc)
+      go false p b q = let h : _≡_ {A = Question} (replied false) (turnedBack nameOutside) = e ∙ simp p in let z : Binding.No ≡ Binding.NameOutside = ap bindingIn h in (cc, cc)
 
   pub says-outside : questionOf Binding.NameOutside ≡ asked x u → isName x ≡ false
   says-outside e = go (isName x) refl u refl
     where
       go : (a : Bool) → isName x ≡ a → (b : Bool) → u ≡ b → isName x ≡ false
       go false p b q = p
-      go true p true q = let h : _≡_ {A = Question} (turnedBack nameOutside) (told true) = e ∙ simp (p, q) in let z : Binding.NameOutside ≡ Binding.Yes = ap bindingIn h in cc
-      go true p false q = let h : _≡_ {A = Question} (turnedBack nameOutside) (told false) = e ∙ simp (p, q) in let z : Binding.NameOutside ≡ Binding.No = ap bindingIn h in cc
+      go true p true q = let h : _≡_ {A = Question} (turnedBack nameOutside) (replied true) = e ∙ simp (p, q) in let z : Binding.NameOutside ≡ Binding.Yes = ap bindingIn h in cc
+      go true p false q = let h : _≡_ {A = Question} (turnedBack nameOutside) (replied false) = e ∙ simp (p, q) in let z : Binding.NameOutside ≡ Binding.No = ap bindingIn h in cc
 
 pub answer-laws : AnswerLaws
 answer-laws = record { calls = call-settled; questions = λ a b e. sym (back a) ∙ (ap bindingIn e ∙ back b) }

@@ -122,14 +122,14 @@ pub record Called (x : ℕ) (s : Scope) (r : Changed) : Type 0 where
 
 -- what a question comes to
 pub data Question : Type 0 where
-  told : Bool → Question
+  replied : Bool → Question
   turnedBack : Refusal → Question
 
 abbrev pub asked : ℕ → Bool → Question
-asked x b = requireOr turnedBack (isName x) nameOutside (told b)
+asked x b = requireOr turnedBack (isName x) nameOutside (replied b)
 
 -- what a question answers
 abbrev pub questionOf : Binding → Question
-questionOf Binding.Yes = told true
-questionOf Binding.No = told false
+questionOf Binding.Yes = replied true
+questionOf Binding.No = replied false
 questionOf Binding.NameOutside = turnedBack nameOutside

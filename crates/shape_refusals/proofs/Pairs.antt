@@ -22,7 +22,7 @@ use Rattle.planner.specs.Simple.{hasKey, differing, addKey, keysOf, isLiteral, 
 use Rattle.planner.proofs.fields.FieldOrder.{AllSlots}
 use Rattle.checks.specs.Structure.{slotText, isUnder}
 use Rattle.checks.proofs.KeyTexts.{sort-length}
-use Rattle.assignment.specs.Pairs.{pair, Flat, failed, paired, before, further, allLiteral, distinctKeys, lastUnder, hasPartner, checkKeys, onPartner, binds, side, whole, inParts, flatten, flattenAll, flattenFields}
+use Rattle.assignment.specs.Pairs.{pair, Flat, failed, paired, prepended, further, allLiteral, distinctKeys, lastUnder, hasPartner, checkKeys, onPartner, binds, side, whole, inParts, flatten, flattenAll, flattenFields}
 use Rattle.value.specs.Value.{Value, ValueFields, keysᵛ, within, sameKeySets, same, sameItems, sameFields, Same}
 use Rattle.value.proofs.Keys.{and-left, and-right, is-true, key-refl, within-length}
 use Rattle.matching.specs.Matching.{Blanks, BlanksAll, BlanksFields, fill, fillAll, fillFields}
@@ -96,7 +96,7 @@ module _ (u : ℕ → Bool) (a : Refusal) (least : 12 ≤ a .number) (most : a .
   further-fails (failed r) f e = inl e
   further-fails (paired ps seen) f e = go (f seen) refl e
     where
-      go : (y : Flat) → f seen ≡ y → before ps y ≡ failed a → (paired ps seen ≡ failed a) ⊎ ((later : List ℕ) × (f later ≡ failed a))
+      go : (y : Flat) → f seen ≡ y → prepended ps y ≡ failed a → (paired ps seen ≡ failed a) ⊎ ((later : List ℕ) × (f later ≡ failed a))
       go (failed r) q h = inr (seen, q ∙ h)
       go (paired qs later) q h = never (cc)
 

@@ -5,12 +5,12 @@ use mathlib.Core.Bool.{Bool, true, false, cond, _||_, not, false≢true}
 use mathlib.Core.List.{List, [], _∷_, map}
 use lib.Dec.{T, T-not, not-T}
 use Rattle.literal.specs.Literal.{Literal}
-use Rattle.literal.specs.Order.{Order, less, same, more, opposite, bytesOrder, told}
+use Rattle.literal.specs.Order.{Order, less, same, more, opposite, bytesOrder, comparisonOf}
 use Rattle.literal.specs.Text.{keyText}
 use Rattle.literal.proofs.Orders.{bytes-order}
 use Rattle.table.proofs.tests.Bytes.{equal-same-bytes}
 use Rattle.planner.specs.Simple.{sameKey, hasKey, differing}
-use Rattle.checks.specs.Structure.{before, insertText, sortTexts, sameTexts}
+use Rattle.checks.specs.Structure.{insertedBy, insertText, sortTexts, sameTexts}
 use Rattle.checks.specs.code.Texts.{isGreater}
 use Rattle.checks.proofs.TextOrder.{after, after-trans}
 use Rattle.value.specs.Value.{within}
@@ -21,7 +21,7 @@ insert-by : (t u : List ℕ) (us : List (List ℕ)) → insertText t (u ∷ us) 
 unfolding insertText
 insert-by t u us = go (bytesOrder t u)
   where
-    go : (o : Order) → before o t u us (insertText t us) ≡ cond (isGreater (told o)) (u ∷ insertText t us) (t ∷ (u ∷ us))
+    go : (o : Order) → insertedBy o t u us (insertText t us) ≡ cond (isGreater (comparisonOf o)) (u ∷ insertText t us) (t ∷ (u ∷ us))
     go less = refl
     go same = refl
     go more = refl
@@ -37,19 +37,19 @@ insert-front t u us a = insert-by t u us ∙ rw a
 after-flip : (t u : List ℕ) → after t u ≡ true → after u t ≡ false
 after-flip t u a = go (bytesOrder t u) refl a
   where
-    go : (o : Order) → bytesOrder t u ≡ o → isGreater (told o) ≡ true → after u t ≡ false
+    go : (o : Order) → bytesOrder t u ≡ o → isGreater (comparisonOf o) ≡ true → after u t ≡ false
     go less p m = absurd (false≢true m)
     go same p m = absurd (false≢true m)
-    go more p m = ap (λ (o : Order). isGreater (told o)) (bytes-order .antisymmetric t u ∙ ap opposite p)
+    go more p m = ap (λ (o : Order). isGreater (comparisonOf o)) (bytes-order .antisymmetric t u ∙ ap opposite p)
 
 -- neither comes after the other: they are equal
 after-neither : (t u : List ℕ) → after t u ≡ false → after u t ≡ false → t ≡ u
 after-neither t u a b = go (bytesOrder t u) refl
   where
     go : (o : Order) → bytesOrder t u ≡ o → t ≡ u
-    go less p = absurd (false≢true (sym b ∙ ap (λ (o : Order). isGreater (told o)) (bytes-order .antisymmetric t u ∙ ap opposite p)))
+    go less p = absurd (false≢true (sym b ∙ ap (λ (o : Order). isGreater (comparisonOf o)) (bytes-order .antisymmetric t u ∙ ap opposite p)))
     go same p = bytes-order .equal t u p
-    go more p = absurd (false≢true (sym a ∙ ap (λ (o : Order). isGreater (told o)) p))
+    go more p = absurd (false≢true (sym a ∙ ap (λ (o : Order). isGreater (comparisonOf o)) p))
 
 -- v before u, and t not after v: t before u
 after-past : (t u v : List ℕ) → after u v ≡ true → after t v ≡ false → after u t ≡ true

@@ -14,7 +14,7 @@ use Rattle.table.specs.Tables.{Tables, tables}
 use Rattle.sheet.specs.declared.header.Counts.{Counts}
 use Rattle.operation.specs.declared.numbers.OperationNumbers.{OperationNumbers}
 use Rattle.operation.specs.Numbers.{areListed}
-use Rattle.sheet.specs.Lines.{numberIn, columnPlace, lineLength, numberLineLength, isLine, linesOk, numberLinesOk, wordAt, numberWord}
+use Rattle.sheet.specs.Lines.{numberIn, columnPlace, lineLength, numberLineLength, isLine, linesOk, numberLinesOk, columnWordAt, numberWord}
 
 -- Lines 1 and 2 have six columns each; then come the nodes.
 abbrev pub line1 : ℕ
@@ -38,8 +38,8 @@ countsOf sheet =
     }
 
 -- Limits: 512 nodes, 512 child entries, 256 numbers, 128 names, 8,192 string bytes, 16,384 text bytes.
-unfoldable pub withinLimits : Counts → Bool
-withinLimits c = countsWithinLimits (c .nodes) (c .children) (c .numbers) (c .names) (c .strings) (c .text)
+unfoldable pub countsOk : Counts → Bool
+countsOk c = countsWithinLimits (c .nodes) (c .children) (c .numbers) (c .names) (c .strings) (c .text)
 
 -- Where the other parts begin, and where the sheet ends: nodes are lines of five columns, children of one, numbers of one of twenty, names of three.
 abbrev pub childrenPlace : Counts → ℕ
@@ -73,13 +73,13 @@ operationNumbers sheet =
 
 -- the marks of name x, which are 0 to 31, are column 2 of its line
 abbrev pub markWord : List ℕ → ℕ → ℕ → ℕ
-markWord sheet at x = wordAt sheet (columnPlace at 2) (lineLength 3) 1 x
+markWord sheet at x = columnWordAt sheet (columnPlace at 2) (lineLength 3) 1 x
 
 abbrev pub markOk : List ℕ → ℕ → ℕ → Bool
 markOk sheet at x = leb (markWord sheet at x) 31
 
-abbrev pub marksOk : List ℕ → ℕ → ℕ → Bool
-marksOk sheet at count = allFrom (markOk sheet at) 0 count
+abbrev pub markColumnsOk : List ℕ → ℕ → ℕ → Bool
+markColumnsOk sheet at count = allFrom (markOk sheet at) 0 count
 
 -- all lines as they should be, and nothing after the text
 unfoldable pub layoutOk : List ℕ → Counts → Bool
@@ -91,20 +91,20 @@ layoutOk sheet c =
     && (linesOk sheet (childrenPlace c) 1 (c .children)
     && (numberLinesOk sheet (numbersPlace c) (c .numbers)
     && (linesOk sheet (namesPlace c) 3 (c .names)
-    && marksOk sheet (namesPlace c) (c .names)))))))
+    && markColumnsOk sheet (namesPlace c) (c .names)))))))
 
 -- The tables. A name's words are columns 0 and 1 of its line: start and length.
 abbrev pub nodesOf : List ℕ → Counts → List ℕ
-nodesOf sheet c = tabulate (wordAt sheet nodesPlace (lineLength 5) 5) 0 (c .nodes * 5)
+nodesOf sheet c = tabulate (columnWordAt sheet nodesPlace (lineLength 5) 5) 0 (c .nodes * 5)
 
 abbrev pub childrenOf : List ℕ → Counts → List ℕ
-childrenOf sheet c = tabulate (wordAt sheet (childrenPlace c) (lineLength 1) 1) 0 (c .children)
+childrenOf sheet c = tabulate (columnWordAt sheet (childrenPlace c) (lineLength 1) 1) 0 (c .children)
 
 abbrev pub numbersOf : List ℕ → Counts → List ℕ
 numbersOf sheet c = tabulate (numberWord sheet (numbersPlace c)) 0 (c .numbers * 2)
 
-abbrev pub namesOf : List ℕ → Counts → List ℕ
-namesOf sheet c = tabulate (wordAt sheet (namesPlace c) (lineLength 3) 2) 0 (c .names * 2)
+abbrev pub nameWordsOf : List ℕ → Counts → List ℕ
+nameWordsOf sheet c = tabulate (columnWordAt sheet (namesPlace c) (lineLength 3) 2) 0 (c .names * 2)
 
 abbrev pub marksOf : List ℕ → Counts → List ℕ
 marksOf sheet c = tabulate (markWord sheet (namesPlace c)) 0 (c .names)
@@ -116,7 +116,7 @@ abbrev pub textOf : List ℕ → Counts → List ℕ
 textOf sheet c = part sheet (textPlace c) (c .text)
 
 abbrev pub tablesOf : List ℕ → Counts → Tables
-tablesOf sheet c = tables (nodesOf sheet c) (childrenOf sheet c) (numbersOf sheet c) (namesOf sheet c) (stringsOf sheet c) (textOf sheet c)
+tablesOf sheet c = tables (nodesOf sheet c) (childrenOf sheet c) (numbersOf sheet c) (nameWordsOf sheet c) (stringsOf sheet c) (textOf sheet c)
 
 -- What a sheet says: an operation, tables, and the marks of the names by their numbers.
 pub record Sheet : Type 0 where
@@ -137,7 +137,7 @@ require = requireOr unparsed
 
 -- 7 line 1 unreadable, 1 by line 1, 7 layout broken
 abbrev pub parsedBy : List ℕ → Counts → Parsed
-parsedBy sheet c = require (withinLimits c) overLimit (require (layoutOk sheet c) layoutBroken (parsed (sheetOf sheet c)))
+parsedBy sheet c = require (countsOk c) overLimit (require (layoutOk sheet c) layoutBroken (parsed (sheetOf sheet c)))
 
 unfoldable pub parse : List ℕ → Parsed
 parse sheet = require (isLine sheet line1 6) layoutBroken (parsedBy sheet (countsOf sheet))

@@ -1,6 +1,6 @@
 // Lines 1 and 2: what the tables hold, where each stands, and the operation.
 ghost use mathlib.Core.Path.{_≡_};
-ghost use Rattle.sheet.specs.Sheet.{withinLimits};
+ghost use Rattle.sheet.specs.Sheet.{countsOk};
 ghost use Rattle.base.specs.Lent.{old};
 ghost use Rattle.sheet.specs.code.Header.{countsIn, operationIn, placesOf, Countable, headingOf};
 use crate::lines::COLUMN;
@@ -87,7 +87,7 @@ fn counts_of(line: [u32; 6]) -> Counts
 }
 
 fn within_limits(counts: Counts) -> bool
-    ensures { λ r. ⌜ r ≡ withinLimits counts ⌝ }
+    ensures { λ r. ⌜ r ≡ countsOk counts ⌝ }
 {
     if MOST_NODES < counts.nodes {
         return false;

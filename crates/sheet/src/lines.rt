@@ -3,7 +3,7 @@ ghost use Rattle.base.specs.Lent.{old, new};
 ghost use mathlib.Core.Path.{_≡_};
 ghost use Prim.Native.Nat.{_+_, _*_, _<_, _≤_};
 ghost use lib.ListN.{length};
-ghost use Rattle.sheet.specs.Lines.{columnPlace, isLineFeed, lineLength, lineOk, linesOk, numberLineOk, numberLinesOk, wordAt, numberWord};
+ghost use Rattle.sheet.specs.Lines.{columnPlace, isLineFeed, lineLength, lineOk, linesOk, numberLineOk, numberLinesOk, columnWordAt, numberWord};
 ghost use Rattle.sheet.specs.code.Post.{WordRead, LineAsks, LinesAsks, NumberAsks, NumbersAsks, Read};
 use columns::Column;
 use columns::SignedColumn;
@@ -42,7 +42,7 @@ fn is_line_feed(sheet: &[u8], at: usize) -> bool
 // Line i: columns of six, then LF.
 fn read_line(sheet: &[u8], at: usize, columns: usize, i: usize, out: &mut [u32]) -> bool
     requires { ⌜ LineAsks (now sheet) at columns i (now out) ⌝ }
-    ensures { λ r. ⌜ Read (wordAt (old sheet) at (lineLength columns) columns) (i * columns + columns) (lineOk (old sheet) at columns i) (new out) r ⌝ }
+    ensures { λ r. ⌜ Read (columnWordAt (old sheet) at (lineLength columns) columns) (i * columns + columns) (lineOk (old sheet) at columns i) (new out) r ⌝ }
 {
     let place = at + i * (columns * COLUMN + 1);
     let end = place + columns * COLUMN;
@@ -68,7 +68,7 @@ pub(crate) fn read_lines(
     out: &mut [u32],
 ) -> bool
     requires { ⌜ LinesAsks at columns count (now out) ⌝ }
-    ensures { λ r. ⌜ Read (wordAt (old sheet) at (lineLength columns) columns) (count * columns) (linesOk (old sheet) at columns count) (new out) r ⌝ }
+    ensures { λ r. ⌜ Read (columnWordAt (old sheet) at (lineLength columns) columns) (count * columns) (linesOk (old sheet) at columns count) (new out) r ⌝ }
 {
     let mut i: usize = 0;
     while i < count {

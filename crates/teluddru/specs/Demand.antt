@@ -36,7 +36,7 @@ module _ (T : Tables) (s : Scope) (mode : ScopingMode) (pattern value : ℕ) (va
     pub planIn : plan ≡ written (patternOutcome T s mode pattern) buffer
 
 pub record Demand : Type 0 where
-  pub runPart : Run.Demand
+  pub runPart : Run.RunDemand
   pub pairsPart : PairsDemand
   -- of every run that is not refused before it looks for space in the buffer
   pub samePlan : (T : Tables) (s : Scope) (mode : ScopingMode) (pattern value : ℕ) (values buffer : List ℕ)

@@ -46,8 +46,8 @@ abbrev pub listing : Outcome → Shown
 listing o = planned (answered o blank) (readEntries (written o blank) 0 (entriesIn (answered o blank)))
 
 -- Marks of the names 1, 2 and so on; the others have none.
-abbrev pub marked : List ℕ → Scope
-marked marks = ofBytes (record { marks = marks ++ replicate (128 - length marks) 0; underscore = 0; scheduler = false })
+abbrev pub scopeMarked : List ℕ → Scope
+scopeMarked marks = ofBytes (record { marks = marks ++ replicate (128 - length marks) 0; underscore = 0; scheduler = false })
 
 -- five words of a node
 abbrev pub node : ℕ → ℕ → ℕ → ℕ → ℕ → List ℕ → List ℕ
@@ -88,7 +88,7 @@ abbrev pub rule : List ℕ → List ℕ → List ℕ → List ℕ → List ℕ �
 rule names strings numbers children nodes = tables nodes children (positive numbers) (oneByteEach 0 names) strings names
 
 abbrev pub planning : List ℕ → Tables → Operation → Shown
-planning marks T operation = listing (operationOutcome T (marked marks) operation)
+planning marks T operation = listing (operationOutcome T (scopeMarked marks) operation)
 
 abbrev pub pattern : Tables → ℕ → Shown
 pattern T root = planning [] T (Pattern RespectParent root)
@@ -104,7 +104,7 @@ afterRun toSet outcome values = ran (runAnswer outcome blank) (valuesAfter toSet
 
 abbrev pub runFrom : List ℕ → Tables → ℕ → ℕ → Shown
 runFrom values T root value =
-    afterRun (plannedName (known (marked []) RespectParent) (expr T root)) (runOutcome T (marked []) RespectParent root value values) values
+    afterRun (plannedName (known (scopeMarked []) RespectParent) (expr T root)) (runOutcome T (scopeMarked []) RespectParent root value values) values
 
 -- from a list in which no name has a value
 abbrev pub running : Tables → ℕ → ℕ → Shown

@@ -12,7 +12,7 @@ use borrow.Author.Tests.{eq-eqb, ne-eqb, not-true}
 use lib.Dec.{T as True, eqb}
 use lib.ListN.{length}
 use Rattle.literal.specs.Literal.{Literal}
-use Rattle.literal.specs.Order.{Order, keyOrder, compared, told}
+use Rattle.literal.specs.Order.{Order, keyOrder, compared, comparisonOf}
 use Rattle.literal.specs.declared.Comparison.{Comparison}
 use Rattle.literal.specs.declared.Comparison.the-variants.{Less, Equal, Greater, NoLiteral}
 use Rattle.table.specs.Tables.{Tables, kindOf, firstOf, countOf, childAt}
@@ -35,7 +35,7 @@ module _ {way : Comparison} (a b : Option Literal) (is : way ≡ compared a b) w
   unfolding compared
   literals-equal e = go a b (sym is ∙ e)
     where
-      by : (o : Order) → told o ≡ Equal → true ≡ isSame o
+      by : (o : Order) → comparisonOf o ≡ Equal → true ≡ isSame o
       by Order.less p = cc
       by Order.same p = refl
       by Order.more p = cc
@@ -49,7 +49,7 @@ module _ {way : Comparison} (a b : Option Literal) (is : way ≡ compared a b) w
   unfolding compared
   literals-differ e = go a b (λ p. e (is ∙ p))
     where
-      by : (o : Order) → (told o ≡ Equal → ⊥) → false ≡ isSame o
+      by : (o : Order) → (comparisonOf o ≡ Equal → ⊥) → false ≡ isSame o
       by Order.less p = refl
       by Order.same p = absurd (p refl)
       by Order.more p = refl

@@ -13,7 +13,7 @@ use Rattle.scope.specs.Scope.{sameScope, asked, questionOf}
 use Rattle.scope.proofs.Laws.{says-yes, says-no, says-outside}
 use Rattle.table.specs.Tables.{firstOf}
 use Rattle.planner.specs.Entries.{entryAt, readEntries}
-use Rattle.assignment.specs.Assignment.{boundHere, firstSameScope}
+use Rattle.assignment.specs.Assignment.{bindsAgain, firstSameScope}
 use Rattle.planner.specs.Layout.{Entry, entryWords, bindsAny}
 
 -- entries read back from a scratch
@@ -73,21 +73,21 @@ module _ {scratch : List ℕ} {k i : ℕ} (s : Scanning bindsAny scratch k i) wh
 -- one entry
 module _ (nodes : List ℕ) (s : Scope) (node : ℕ) {kind : ℕ} where
   module _ (is-bind : kind ≡ 1) {x : ℕ} (is : x ≡ firstOf nodes node) {b : Binding} (told : questionOf b ≡ asked x (sameScope s x)) where
-    pub here-yes : b ≡ Binding.Yes → true ≡ boundHere nodes s kind node
+    pub here-yes : b ≡ Binding.Yes → true ≡ bindsAgain nodes s kind node
     here-yes e = let y = says-yes x (sameScope s x) (ap questionOf (sym e) ∙ told) in simp (is-bind, sym is, y .0, y .1)
 
-    pub here-no : b ≡ Binding.No → false ≡ boundHere nodes s kind node
+    pub here-no : b ≡ Binding.No → false ≡ bindsAgain nodes s kind node
     here-no e = let n = says-no x (sameScope s x) (ap questionOf (sym e) ∙ told) in simp (is-bind, sym is, n .0, n .1)
 
-    pub here-outside : b ≡ Binding.NameOutside → false ≡ boundHere nodes s kind node
+    pub here-outside : b ≡ Binding.NameOutside → false ≡ bindsAgain nodes s kind node
     here-outside e = simp (is-bind, sym is, says-outside x (sameScope s x) (ap questionOf (sym e) ∙ told))
 
-  pub here-other : (kind ≡ 1 → ⊥) → false ≡ boundHere nodes s kind node
+  pub here-other : (kind ≡ 1 → ⊥) → false ≡ bindsAgain nodes s kind node
   here-other d = simp (ne-eqb kind 1 d)
 
 -- the entries in turn
 module _ (nodes : List ℕ) (s : Scope) {scratch : List ℕ} {k i : ℕ} (go : Scanning (firstSameScope nodes s) scratch k i) where
-  module _ (lt : i < k) {r : Bool} (is : r ≡ boundHere nodes s (getD scratch (i * entryWords) 0) (getD scratch (i * entryWords + 1) 0)) where
+  module _ (lt : i < k) {r : Bool} (is : r ≡ bindsAgain nodes s (getD scratch (i * entryWords) 0) (getD scratch (i * entryWords + 1) 0)) where
     first-here : firstSameScope nodes s (readEntries scratch 0 k) ≡ firstSameScope nodes s (entryAt scratch i ∷ readEntries scratch (i + 1) (k - (i + 1)))
     first-here = sym (go .same) ∙ ap (firstSameScope nodes s) (read-step scratch i k lt)
 

@@ -20,7 +20,7 @@ use Rattle.planner.specs.code.Post.{States}
 use Rattle.planner.proofs.buffer.Copies.{wrote-none, wrote-append, wrote-long}
 use Rattle.assignment.specs.declared.flatten.Flattened.{Flattened}
 use Rattle.assignment.specs.declared.flatten.Flattened.the-variants.{Next, Refused}
-use Rattle.assignment.specs.Pairs.{Pair, pairEntries, pairsEntries, Flat, failed, paired, before, further, flatten}
+use Rattle.assignment.specs.Pairs.{Pair, pairEntries, pairsEntries, Flat, failed, paired, prepended, further, flatten}
 use Rattle.assignment.specs.code.Previewing.{Roomy, Scoped}
 use Rattle.assignment.specs.code.KeyMatching.{InOrder, FieldAsks, FieldSides, FieldOk}
 use Rattle.assignment.specs.code.Flattening.{Learns, FlattenedAs, Flattens, FlattenAsks, ItemsAsks, ObjectFieldsAsks}
@@ -30,11 +30,11 @@ use Rattle.assignment.proofs.preview.Seen.{scoped-self, scoped-learns, 
 use Rattle.assignment.proofs.keys.Partners.{partner-node, partner-some}
 
 -- pairs before others
-before-nil : (o : Flat) → before [] o ≡ o
+before-nil : (o : Flat) → prepended [] o ≡ o
 before-nil (failed r) = refl
 before-nil (paired ps newlyBound) = refl
 
-before-append : (ps qs : List Pair) (o : Flat) → before ps (before qs o) ≡ before (ps ++ qs) o
+before-append : (ps qs : List Pair) (o : Flat) → prepended ps (prepended qs o) ≡ prepended (ps ++ qs) o
 before-append ps qs (failed r) = refl
 before-append ps qs (paired rs newlyBound) = rw (append-assoc ps qs rs)
 
@@ -47,7 +47,7 @@ entries-append (p ∷ ps) qs = ap (λ (es : List Entry). pairEntries p ++ es) (e
 pub record Going (o : Flat) (rest : List ℕ → Flat) (seen : List ℕ) (used : ℕ) (states₀ start : List ℕ) (at : ℕ) (states mid : List ℕ) (here : ℕ) : Type 0 where
   pub pairs : List Pair
   pub names : List ℕ
-  pub same : before pairs (rest (names ++ seen)) ≡ o
+  pub same : prepended pairs (rest (names ++ seen)) ≡ o
   pub wrote : Wrote start at (pairsEntries pairs) mid here
   pub few : length (pairsEntries pairs) ≤ used
   pub learns : Learns names states₀ states
@@ -95,9 +95,9 @@ module _ {f rest : (ℕ → Bool) → List ℕ → Flat} {T : Tables} (w : WellF
             pairs = p .pairs ++ c .pairs;
             names = c .names ++ p .names;
             same =
-                ap (λ (l : List ℕ). before (p .pairs ++ c .pairs) (rest′ u l)) (append-assoc (c .names) (p .names) seen)
+                ap (λ (l : List ℕ). prepended (p .pairs ++ c .pairs) (rest′ u l)) (append-assoc (c .names) (p .names) seen)
                 ∙ (sym (before-append (p .pairs) (c .pairs) (rest′ u (c .names ++ (p .names ++ seen))))
-                ∙ (ap (before (p .pairs)) (sym (step u (p .names ++ seen) ∙ ap (λ (o : Flat). further o (rest′ u)) (c .is))) ∙ p .same));
+                ∙ (ap (prepended (p .pairs)) (sym (step u (p .names ++ seen) ∙ ap (λ (o : Flat). further o (rest′ u)) (c .is))) ∙ p .same));
             wrote = rw (entries-append (p .pairs) (c .pairs)) (wrote-append (p .wrote) (c .wrote));
             few =
                 let m = p .few in
@@ -117,7 +117,7 @@ module _ {f rest : (ℕ → Bool) → List ℕ → Flat} {T : Tables} (w : WellF
           record {
             failed = record {
               refusal = c .failed .refusal;
-              is = sym (p .same) ∙ ap (before (p .pairs)) (step u (p .names ++ seen) ∙ ap (λ (o : Flat). further o (rest′ u)) (c .failed .is));
+              is = sym (p .same) ∙ ap (prepended (p .pairs)) (step u (p .names ++ seen) ∙ ap (λ (o : Flat). further o (rest′ u)) (c .failed .is));
               line = c .failed .line;
             };
             pairs = p .pairs ++ c .pairs;
@@ -135,7 +135,7 @@ module _ {f rest : (ℕ → Bool) → List ℕ → Flat} {T : Tables} (w : WellF
         record {
           pairs = p .pairs;
           names = p .names;
-          is = sym (p .same) ∙ (ap (before (p .pairs)) (over u (p .names ++ seen)) ∙ ap (λ (ps : List Pair). paired ps (p .names ++ seen)) (append-nil (p .pairs)));
+          is = sym (p .same) ∙ (ap (prepended (p .pairs)) (over u (p .names ++ seen)) ∙ ap (λ (ps : List Pair). paired ps (p .names ++ seen)) (append-nil (p .pairs)));
           wrote = p .wrote;
           few = let f = p .few in omega arith;
           learns = p .learns;

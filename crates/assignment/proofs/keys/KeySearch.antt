@@ -15,7 +15,7 @@ use lib.Seq.{getD-take}
 use Rattle.literal.specs.Literal.{Literal, null}
 use Rattle.literal.specs.declared.Comparison.{Comparison}
 use Rattle.literal.specs.declared.Comparison.the-variants.{Less, Equal, Greater, NoLiteral}
-use Rattle.literal.specs.Order.{Order, less, same, more, keyOrder, compared, told}
+use Rattle.literal.specs.Order.{Order, less, same, more, keyOrder, compared, comparisonOf}
 use Rattle.literal.proofs.Orders.{key-order}
 use Rattle.table.specs.Names.{isSame}
 use Rattle.table.specs.Tables.{Tables, firstOf, countOf, childAt}
@@ -133,16 +133,16 @@ module _ {T : Tables} {n : ℕ} {order : List ℕ} {total key first low high : �
       searching-value = let p = place-low in record { fits = omega arith }
 
       module _ {other : ℕ} {way : Comparison} (is-other : other ≡ childAt (T .children) (first + i * 2)) (is-way : way ≡ compared (literalAt T key) (literalAt T other)) where
-        way-is : way ≡ told (keyOrder (s .asks .key-ok .own) (getD (slotsOf T n) q blank .at))
+        way-is : way ≡ comparisonOf (keyOrder (s .asks .key-ok .own) (getD (slotsOf T n) q blank .at))
         unfolding compared
         way-is =
             let k : literalAt T other ≡ Option.some (getD (slotsOf T n) q blank .at) = rw (is-other, is-i, s .is-first) (key-at (s .asks .in-order) q here) in
             is-way ∙ rw (s .asks .key-ok .literal, k)
 
-        to-order : (r : Order) → (way ≡ told r → keyOrder (s .asks .key-ok .own) (getD (slotsOf T n) q blank .at) ≡ r)
+        to-order : (r : Order) → (way ≡ comparisonOf r → keyOrder (s .asks .key-ok .own) (getD (slotsOf T n) q blank .at) ≡ r)
         to-order r e = told-order (keyOrder (s .asks .key-ok .own) (getD (slotsOf T n) q blank .at)) r (sym way-is ∙ e)
           where
-            told-order : (a b : Order) → told a ≡ told b → a ≡ b
+            told-order : (a b : Order) → comparisonOf a ≡ comparisonOf b → a ≡ b
             told-order less less e = refl
             told-order less same e = cc
             told-order less more e = cc
@@ -196,7 +196,7 @@ module _ {T : Tables} {n : ℕ} {order : List ℕ} {total key first low high : �
         pub searching-never : way ≡ NoLiteral → 0 ≡ partnerOf T n key
         searching-never e = absurd (go (keyOrder (s .asks .key-ok .own) (getD (slotsOf T n) q blank .at)) (sym way-is ∙ e))
           where
-            go : (r : Order) → told r ≡ NoLiteral → ⊥
+            go : (r : Order) → comparisonOf r ≡ NoLiteral → ⊥
             go less p = let z : _≡_ {A = ℕ} 0 1 = cc in omega arith
             go same p = let z : _≡_ {A = ℕ} 0 1 = cc in omega arith
             go more p = let z : _≡_ {A = ℕ} 0 1 = cc in omega arith

@@ -21,7 +21,7 @@ use Rattle.planner.specs.Simple.{differing, keysOf, isLiteral, admitted, simple
 use Rattle.planner.proofs.fields.FieldOrder.{AllSlots, insert-all}
 use Rattle.planner.proofs.laws.PlanLaws.{elem-either, or-turn, or-left, or-right, after-bound, bound-new, bound-once}
 use Rattle.planner.specs.Held.{firstOr, heldUnder, valueOrder}
-use Rattle.assignment.specs.Pairs.{Pair, pair, Flat, failed, paired, before, further, Shape, items, fields, single, shapeOf, allLiteral, distinctKeys, lastUnder, hasPartner, checkKeys, onPartner, binds, side, whole, inParts, arrays, objects, flatten, flattenAll, flattenFields}
+use Rattle.assignment.specs.Pairs.{Pair, pair, Flat, failed, paired, prepended, further, Shape, items, fields, single, shapeOf, allLiteral, distinctKeys, lastUnder, hasPartner, checkKeys, onPartner, binds, side, whole, inParts, arrays, objects, flatten, flattenAll, flattenFields}
 use Rattle.assignment.specs.PairsPromise.{Settled, boundBy, PairsPromise}
 use Rattle.assignment.proofs.laws.PairsSimple.{settled}
 
@@ -96,7 +96,7 @@ module _ (u : ℕ → Bool) (P : Expr → Type 0) (K : DestructuringPlan → Typ
     off : {r : Refusal} → Well s (failed r)
     good : {ps : List Pair} {s′ : List ℕ} → Fine s ps s′ → Well s (paired ps s′)
 
-  well-before : {s s′ : List ℕ} {ps : List Pair} {o : Flat} → Fine s ps s′ → Well s′ o → Well s (before ps o)
+  well-before : {s s′ : List ℕ} {ps : List Pair} {o : Flat} → Fine s ps s′ → Well s′ o → Well s (prepended ps o)
   well-before f off = off
   well-before f (good g) = good (fine-both f g)
 

@@ -28,7 +28,7 @@ use Rattle.assignment.specs.Pairs.{shapeOf}
 use Rattle.assignment.proofs.laws.ShortPairs.{pairs-short}
 use Rattle.assignment.specs.declared.AssignOp.{AssignOp}
 use Rattle.assignment.specs.declared.AssignOp.the-variants.{ColEq, Eq}
-use Rattle.assignment.specs.Assignment.{opposed, bindSide, boundHere, firstSameScope, colonEqualsPlanned, isUnderscore, wildcardSide, bySides, equalsSides, sideOf, equalsPlanned, byOperator, assignmentOutcome}
+use Rattle.assignment.specs.Assignment.{opposed, bindSide, bindsAgain, firstSameScope, colonEqualsPlanned, isWildcardExpr, wildcardSide, bySides, equalsSides, sideOf, equalsPlanned, byOperator, assignmentOutcome}
 
 -- a root is a node of at most 512
 root-low : (T : Tables) → WellFormed T → (root : ℕ) → isNode T root ≡ true → root ≤ 512
@@ -47,7 +47,7 @@ side-low true true = omega arith
 first-short : (nodes : List ℕ) (s : Scope) (es : List Entry) → Every ShortEntry es → firstSameScope nodes s es < 1000000
 unfolding firstSameScope
 first-short nodes s [] p = omega arith
-first-short nodes s (e ∷ es) p = go (boundHere nodes s (e .kind) (e .node)) (first-short nodes s es (p .1))
+first-short nodes s (e ∷ es) p = go (bindsAgain nodes s (e .kind) (e .node)) (first-short nodes s es (p .1))
   where
     go : (b : Bool) → firstSameScope nodes s es < 1000000 → cond b (e .node) (firstSameScope nodes s es) < 1000000
     go true r = p .0 .front .two
@@ -87,7 +87,7 @@ module _ (T : Tables) (s : Scope) (reading : Reading) where
       where
         go : (b : Bool) → ShortOutcome (cond b (equalsSides T s left right reading) (planned 6 (sideOf T left right) []))
         go true = sides-short (bindsAny (entries (planOf T s RespectParent left) top)) (bindsAny (entries (planOf T s RespectParent right) top))
-        go false = planned-short 6 (sideOf T left right) [] (omega arith) (side-low (isUnderscore (expr T left)) (isUnderscore (expr T right))) (omega arith) tt
+        go false = planned-short 6 (sideOf T left right) [] (omega arith) (side-low (isWildcardExpr (expr T left)) (isWildcardExpr (expr T right))) (omega arith) tt
 
     operator-short : (op : AssignOp) → ShortOutcome (byOperator op T s left right reading)
     operator-short ColEq = colon-short

@@ -18,7 +18,7 @@ use Rattle.planner.proofs.laws.Sizes.{add-length}
 use Rattle.planner.proofs.laws.ShortPlans.{Small, SmallTree, small-left, small-right, small-head, small-tail, node-low, count-few, fields-few, every-append, every-left, Held, held-under, values-small, LowPlace, low-top, short-entry, plan-few, plan-short}
 use Rattle.planner.proofs.laws.ShortOutcomes.{short, refusal-short, planned-short}
 use Rattle.assignment.proofs.flatten.FlatLoops.{entries-append}
-use Rattle.assignment.specs.Pairs.{Pair, pair, pairsEntries, Flat, failed, paired, require, before, further, flatOutcome, shapeOf, allLiteral, distinctKeys, lastUnder, hasPartner, checkKeys, onPartner, binds, side, whole, inParts, arrays, objects, flatten, flattenAll, flattenFields}
+use Rattle.assignment.specs.Pairs.{Pair, pair, pairsEntries, Flat, failed, paired, require, prepended, further, flatOutcome, shapeOf, allLiteral, distinctKeys, lastUnder, hasPartner, checkKeys, onPartner, binds, side, whole, inParts, arrays, objects, flatten, flattenAll, flattenFields}
 
 -- at most `most` entries
 abbrev ShortFlat : ℕ → Flat → Type 0
@@ -29,7 +29,7 @@ more-short : (m k : ℕ) (f : Flat) → m ≤ k → ShortFlat m f → ShortFlat 
 more-short m k (failed r) le p = p
 more-short m k (paired ps seen) le p = let n = p .0 in (omega arith, p .1)
 
-before-short : (m k : ℕ) (ps : List Pair) (f : Flat) → length (pairsEntries ps) ≤ m → Every ShortEntry (pairsEntries ps) → ShortFlat k f → ShortFlat (m + k) (before ps f)
+before-short : (m k : ℕ) (ps : List Pair) (f : Flat) → length (pairsEntries ps) ≤ m → Every ShortEntry (pairsEntries ps) → ShortFlat k f → ShortFlat (m + k) (prepended ps f)
 before-short m k ps (failed r) le p q = q
 before-short m k ps (paired qs seen) le p q =
     let a = length-append (pairsEntries ps) (pairsEntries qs) in

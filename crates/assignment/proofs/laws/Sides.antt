@@ -39,7 +39,7 @@ use Rattle.assignment.specs.declared.AssignOp.{AssignOp}
 use Rattle.assignment.specs.declared.AssignOp.the-variants.{ColEq, Eq}
 use Rattle.planner.specs.Entries.{readEntries}
 use Rattle.checks.specs.declared.Reading.{Reading}
-use Rattle.assignment.specs.Assignment.{bindSide, firstSameScope, colonEqualsFrom, colonEqualsPlanned, isUnderscore, wildcardSide, sideOf, pairsOutcome, equalsSides, equalsPlanned, byOperator, assignmentOutcome}
+use Rattle.assignment.specs.Assignment.{bindSide, firstSameScope, colonEqualsFrom, colonEqualsPlanned, isWildcardExpr, wildcardSide, sideOf, pairsOutcome, equalsSides, equalsPlanned, byOperator, assignmentOutcome}
 use Rattle.assignment.specs.code.Binding.{BindAsks, underscoreAt, underscoreSide, RightBound}
 use Rattle.checks.proofs.Refused.{passes-undefined, refuses-defined}
 
@@ -126,24 +126,24 @@ module _ (nodes names text : List ℕ) (left right : ℕ) {l r : Bool} (is-left 
   pub side-none : l ≡ false → r ≡ false → 0 ≡ underscoreSide nodes names text left right
   side-none p q = simp (sym is-left ∙ p, sym is-right ∙ q)
 
-underscore-is : (T : Tables) (n : ℕ) → WellFormed T → Node T n → underscoreAt (T .nodes) (T .names) (T .text) n ≡ isUnderscore (expr T n)
+underscore-is : (T : Tables) (n : ℕ) → WellFormed T → Node T n → underscoreAt (T .nodes) (T .names) (T .text) n ≡ isWildcardExpr (expr T n)
 unfolding underscoreAt
 underscore-is T n w v = go (eqb (kindOf (T .nodes) n) 6) refl (eqb (kindOf (T .nodes) n) 7) refl (eqb (kindOf (T .nodes) n) 9) refl
   where
-    named : (b : Bool) → b ≡ isUnderscore (cond b (wildcard n) (name n (firstOf (T .nodes) n)))
+    named : (b : Bool) → b ≡ isWildcardExpr (cond b (wildcard n) (name n (firstOf (T .nodes) n)))
     named true = refl
     named false = refl
 
-    by : (e : Expr) → expr T n ≡ e → Plain (kindOf (T .nodes) n) n e → false ≡ isUnderscore (expr T n)
-    by e q (plain-literal l h) = sym (ap isUnderscore q)
-    by e q (plain-set es h) = sym (ap isUnderscore q)
-    by e q (plain-other h) = sym (ap isUnderscore q)
+    by : (e : Expr) → expr T n ≡ e → Plain (kindOf (T .nodes) n) n e → false ≡ isWildcardExpr (expr T n)
+    by e q (plain-literal l h) = sym (ap isWildcardExpr q)
+    by e q (plain-set es h) = sym (ap isWildcardExpr q)
+    by e q (plain-other h) = sym (ap isWildcardExpr q)
 
     go : (a : Bool) → eqb (kindOf (T .nodes) n) 6 ≡ a → (b : Bool) → eqb (kindOf (T .nodes) n) 7 ≡ b → (c : Bool) → eqb (kindOf (T .nodes) n) 9 ≡ c
-        → (a && isWildcard T (firstOf (T .nodes) n)) ≡ isUnderscore (expr T n)
-    go true p b q c r = named (isWildcard T (firstOf (T .nodes) n)) ∙ sym (ap isUnderscore (expr-name T w n v (eqb-true _ _ p)))
-    go false p true q c r = sym (ap isUnderscore (expr-array T w n v (eqb-true _ _ q)))
-    go false p false q true r = sym (ap isUnderscore (expr-object T w n v (eqb-true _ _ r)))
+        → (a && isWildcard T (firstOf (T .nodes) n)) ≡ isWildcardExpr (expr T n)
+    go true p b q c r = named (isWildcard T (firstOf (T .nodes) n)) ∙ sym (ap isWildcardExpr (expr-name T w n v (eqb-true _ _ p)))
+    go false p true q c r = sym (ap isWildcardExpr (expr-array T w n v (eqb-true _ _ q)))
+    go false p false q true r = sym (ap isWildcardExpr (expr-object T w n v (eqb-true _ _ r)))
     go false p false q false r = let e = plain-kind T w n v (eqb-false _ _ p) (eqb-false _ _ q) (eqb-false _ _ r) in by (e .0) (e .1) (e .2)
 
 -- `=` by the sides that bind

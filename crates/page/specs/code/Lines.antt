@@ -5,7 +5,7 @@ use lib.ListN.{length}
 use Rattle.planner.specs.Layout.{entryWords}
 use Rattle.planner.specs.Entries.{entryAt}
 use Rattle.columns.specs.Columns.{writeColumn}
-use Rattle.page.specs.Page.{kindWidth, sourceWidth, keyWidth, lineLength, cell, kindName, entryCells, cellsBytes}
+use Rattle.page.specs.Page.{kindWidth, sourceWidth, keyWidth, pageLineLength, cell, kindName, entryCells, cellsBytes}
 
 -- the two halves of a line
 unfoldable pub frontBytes : ℕ → ℕ → List ℕ
@@ -24,11 +24,11 @@ abbrev pub entryLine : (ℕ → List ℕ) → List ℕ → ℕ → List ℕ
 entryLine source plan i = cellsBytes (entryCells source (i + 1) (entryAt plan i))
 
 pub record EntryAsks (out plan : List ℕ) (i : ℕ) : Type 0 where
-  pub space : (i + 1) * lineLength ≤ length out
+  pub space : (i + 1) * pageLineLength ≤ length out
   pub held : i * entryWords + entryWords ≤ length plan
 
 pub record EntriesAsks (out plan : List ℕ) (count : ℕ) : Type 0 where
-  pub space : count * lineLength ≤ length out
+  pub space : count * pageLineLength ≤ length out
   pub held : count * entryWords ≤ length plan
 
 pub record PlanAsks (plan : List ℕ) (count : ℕ) : Type 0 where

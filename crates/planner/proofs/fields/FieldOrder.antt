@@ -12,7 +12,7 @@ use lib.ListN.{length, getD, take, drop, set, length-append, length-map, length-
 use lib.Seq.{take-nil, take-append-le, drop-append-le, take-take, getD-take, set-split, set-append-left, take-set-lt}
 use Rattle.base.proofs.Search.{between-up, between-down}
 use Rattle.literal.specs.Literal.{Literal, null}
-use Rattle.literal.specs.Order.{Order, less, same, more, opposite, keyOrder, compared, told}
+use Rattle.literal.specs.Order.{Order, less, same, more, opposite, keyOrder, compared, comparisonOf}
 use Rattle.literal.specs.Laws.{TotalOrder}
 use Rattle.table.specs.Expr.{Expr, nodeOf}
 use Rattle.table.specs.Tables.{childAt}
@@ -260,7 +260,7 @@ pub record Ordered (key : ℕ → Option Literal) (o : FieldOrder ℕ) (order : 
   pub sorted : Sorted (o .literals)
 
 -- by the answer of a comparison
-told-order : (r r′ : Order) → told r ≡ told r′ → r ≡ r′
+told-order : (r r′ : Order) → comparisonOf r ≡ comparisonOf r′ → r ≡ r′
 told-order less less e = refl
 told-order less same e = cc
 told-order less more e = cc
@@ -301,7 +301,7 @@ module _ {key : ℕ → Option Literal} {o : FieldOrder ℕ} {order : List ℕ} 
 
   -- a literal key l
   module _ {k : Option Literal} {l : Literal} (own : k ≡ Option.some l) where
-    at-slot : (q : ℕ) → q < m → compared k (key (getD order q 0)) ≡ told (keyOrder l (getD (o .literals) q blank .at))
+    at-slot : (q : ℕ) → q < m → compared k (key (getD order q 0)) ≡ comparisonOf (keyOrder l (getD (o .literals) q blank .at))
     unfolding compared
     at-slot q lt = rw (own, place-key q lt)
 
@@ -309,7 +309,7 @@ module _ {key : ℕ → Option Literal} {o : FieldOrder ℕ} {order : List ℕ} 
     to-slot r q lt h = told-order (keyOrder l (getD (o .literals) q blank .at)) r (sym (at-slot q lt) ∙ h)
 
     from-slot : (r : Order) (q : ℕ) → q < m → keyOrder l (getD (o .literals) q blank .at) ≡ r → At r key k order q
-    from-slot r q lt h = at-slot q lt ∙ ap told h
+    from-slot r q lt h = at-slot q lt ∙ ap comparisonOf h
 
     -- neither equal nor less
     pub at-more : (q : ℕ) → q < m → (At same key k order q → ⊥) → (At less key k order q → ⊥) → At more key k order q

@@ -8,7 +8,7 @@ use lib.ListN.{length, getD, take, drop}
 use Rattle.base.specs.code.Search.{Between}
 use Rattle.literal.specs.Literal.{Literal}
 use Rattle.literal.specs.declared.LiteralRef.{LiteralRef}
-use Rattle.literal.specs.Order.{Order, less, same, more, compared, told}
+use Rattle.literal.specs.Order.{Order, less, same, more, compared, comparisonOf}
 use Rattle.table.specs.Tables.{Tables}
 use Rattle.table.specs.Decode.{referred}
 use Rattle.planner.specs.Layout.{inOrder}
@@ -17,7 +17,7 @@ use Rattle.planner.specs.code.Post.{OrderAsks}
 
 -- how a key `own` compares with the key of the field number at place q
 abbrev pub At : Order → (ℕ → Option Literal) → Option Literal → List ℕ → ℕ → Type 0
-At r key own order q = compared own (key (getD order q 0)) ≡ told r
+At r key own order q = compared own (key (getD order q 0)) ≡ comparisonOf r
 
 -- the place of `own`, among m literal keys, is from low to high
 abbrev pub KeyBetween : (ℕ → Option Literal) → Option Literal → List ℕ → ℕ → ℕ → ℕ → Type 0

@@ -11,37 +11,37 @@ use Rattle.table.proofs.tests.Bools.{and-true, told-yes}
 use Rattle.sheet.specs.declared.header.Counts.{Counts}
 use Rattle.operation.specs.declared.numbers.OperationNumbers.{OperationNumbers}
 use Rattle.sheet.specs.Lines.{numberIn}
-use Rattle.sheet.specs.Sheet.{line1, line2, countsOf, withinLimits, endPlace, operationNumbers, layoutOk}
+use Rattle.sheet.specs.Sheet.{line1, line2, countsOf, countsOk, endPlace, operationNumbers, layoutOk}
 use Rattle.sheet.specs.code.Header.{countsIn, Countable, Limited}
 
 -- limits
 module _ (c : Counts) where
-  pub limit-nodes : 512 < c .nodes → false ≡ withinLimits c
-  unfolding withinLimits
+  pub limit-nodes : 512 < c .nodes → false ≡ countsOk c
+  unfolding countsOk
   limit-nodes h = simp (lt-leb (c .nodes) 512 h)
 
-  pub limit-children : 512 < c .children → false ≡ withinLimits c
-  unfolding withinLimits
+  pub limit-children : 512 < c .children → false ≡ countsOk c
+  unfolding countsOk
   limit-children h = simp (lt-leb (c .children) 512 h, and-false)
 
-  pub limit-numbers : 256 < c .numbers → false ≡ withinLimits c
-  unfolding withinLimits
+  pub limit-numbers : 256 < c .numbers → false ≡ countsOk c
+  unfolding countsOk
   limit-numbers h = simp (lt-leb (c .numbers) 256 h, and-false)
 
-  pub limit-names : 128 < c .names → false ≡ withinLimits c
-  unfolding withinLimits
+  pub limit-names : 128 < c .names → false ≡ countsOk c
+  unfolding countsOk
   limit-names h = simp (lt-leb (c .names) 128 h, and-false)
 
-  pub limit-strings : 8192 < c .strings → false ≡ withinLimits c
-  unfolding withinLimits
+  pub limit-strings : 8192 < c .strings → false ≡ countsOk c
+  unfolding countsOk
   limit-strings h = simp (lt-leb (c .strings) 8192 h, and-false)
 
-  pub limit-text : c .nodes ≤ 512 → c .children ≤ 512 → c .numbers ≤ 256 → c .names ≤ 128 → c .strings ≤ 8192 → leb (c .text) 16384 ≡ withinLimits c
-  unfolding withinLimits
+  pub limit-text : c .nodes ≤ 512 → c .children ≤ 512 → c .numbers ≤ 256 → c .names ≤ 128 → c .strings ≤ 8192 → leb (c .text) 16384 ≡ countsOk c
+  unfolding countsOk
   limit-text n k m x s = simp (le-leb (c .nodes) 512 n, le-leb (c .children) 512 k, le-leb (c .numbers) 256 m, le-leb (c .names) 128 x, le-leb (c .strings) 8192 s)
 
-  pub limited : {r : Bool} → r ≡ withinLimits c → not r ≡ false → Limited c
-  unfolding withinLimits
+  pub limited : {r : Bool} → r ≡ countsOk c → not r ≡ false → Limited c
+  unfolding countsOk
   limited is t =
       let all = told-yes is t in
       let a = and-true (leb (c .nodes) 512) (leb (c .children) 512 && (leb (c .numbers) 256 && (leb (c .names) 128 && (leb (c .strings) 8192 && leb (c .text) 16384)))) all in

@@ -19,8 +19,8 @@ use Rattle.operation.specs.Numbers.{areListed}
 use Rattle.sheet.specs.declared.header.Header.{Header}
 use Rattle.sheet.specs.declared.header.Heading.{Heading}
 use Rattle.sheet.specs.declared.header.Heading.the-variants as Heading
-use Rattle.sheet.specs.Lines.{lineLength, isLine, linesOk, wordAt}
-use Rattle.sheet.specs.Sheet.{line1, line2, countsOf, withinLimits, endPlace, operationNumbers, layoutOk, sheetOf, unparsed, parsed, parse}
+use Rattle.sheet.specs.Lines.{lineLength, isLine, linesOk, columnWordAt}
+use Rattle.sheet.specs.Sheet.{line1, line2, countsOf, countsOk, endPlace, operationNumbers, layoutOk, sheetOf, unparsed, parsed, parse}
 use Rattle.sheet.specs.Outcome.{outcomeOfSheet, PlannedInto}
 use Rattle.sheet.specs.Listing.{linesOf, listingOf, Printed}
 use Rattle.sheet.specs.code.Header.{countsIn, operationIn, placesOf, headerOf, headOk, headingBy, headingOf, tablesOk, Headed}
@@ -28,7 +28,7 @@ use Rattle.sheet.specs.code.Post.{Read, refusalBytes, RefusedBy}
 use Rattle.sheet.proofs.header.HeaderTests.{limited, counts-read, operation-read}
 
 -- one line of six columns
-module _ (sheet : List ℕ) (at : ℕ) {line : List ℕ} {r : Bool} (read : Read (wordAt sheet at (lineLength 6) 6) (1 * 6) (linesOk sheet at 6 1) line r) where
+module _ (sheet : List ℕ) (at : ℕ) {line : List ℕ} {r : Bool} (read : Read (columnWordAt sheet at (lineLength 6) 6) (1 * 6) (linesOk sheet at 6 1) line r) where
   one-line : r ≡ isLine sheet at 6
   unfolding allFrom
   one-line = read .ok ∙ (let z : at + 0 * lineLength 6 ≡ at = omega arith in rw z (go (isLine sheet at 6)))
@@ -37,18 +37,18 @@ module _ (sheet : List ℕ) (at : ℕ) {line : List ℕ} {r : Bool} (read : Read
       go true = refl
       go false = refl
 
-  line-word : not r ≡ false → (k : ℕ) → k < 6 → getD line k 0 ≡ wordAt sheet at (lineLength 6) 6 k
+  line-word : not r ≡ false → (k : ℕ) → k < 6 → getD line k 0 ≡ columnWordAt sheet at (lineLength 6) 6 k
   line-word good k lt = read .filled (not-false r good) .each k (omega arith)
 
 -- line 1
-module _ (sheet : List ℕ) {line : List ℕ} {b : Bool} (read : Read (wordAt sheet line1 (lineLength 6) 6) (1 * 6) (linesOk sheet line1 6 1) line b) where
+module _ (sheet : List ℕ) {line : List ℕ} {b : Bool} (read : Read (columnWordAt sheet line1 (lineLength 6) 6) (1 * 6) (linesOk sheet line1 6 1) line b) where
   pub line-1-unread : not b ≡ true → Heading.Refused 7 ≡ headingOf sheet
   unfolding headingOf
   line-1-unread t = rw (told-no (one-line sheet line1 read) t)
 
   module _ (good : not b ≡ false) {c : Counts} (is : c ≡ countsIn line) where
     counted : c ≡ countsOf sheet
-    unfolding wordAt
+    unfolding columnWordAt
     counted =
         let word = line-word sheet line1 read good in
         is ∙ counts-read sheet (word 0 (omega arith)) (word 1 (omega arith)) (word 2 (omega arith)) (word 3 (omega arith)) (word 4 (omega arith)) (word 5 (omega arith))
@@ -57,12 +57,12 @@ module _ (sheet : List ℕ) {line : List ℕ} {b : Bool} (read : Read (wordAt sh
     unfolding headingOf
     by-counts = rw (told-yes (one-line sheet line1 read) good) (ap (headingBy sheet) counted)
 
-pub over-limit : (sheet : List ℕ) (c : Counts) → headingBy sheet c ≡ headingOf sheet → {l : Bool} → l ≡ withinLimits c → not l ≡ true → Heading.Refused 1 ≡ headingOf sheet
+pub over-limit : (sheet : List ℕ) (c : Counts) → headingBy sheet c ≡ headingOf sheet → {l : Bool} → l ≡ countsOk c → not l ≡ true → Heading.Refused 1 ≡ headingOf sheet
 unfolding headingBy
 over-limit sheet c by limits t = rw (told-no limits t) at by
 
 -- the length and line 2
-module _ (sheet : List ℕ) (c : Counts) (by : headingBy sheet c ≡ headingOf sheet) {l : Bool} (limits : l ≡ withinLimits c) (few : not l ≡ false) {p : Places} (is : p ≡ placesOf c) where
+module _ (sheet : List ℕ) (c : Counts) (by : headingBy sheet c ≡ headingOf sheet) {l : Bool} (limits : l ≡ countsOk c) (few : not l ≡ false) {p : Places} (is : p ≡ placesOf c) where
   broken : headOk sheet c ≡ false → Heading.Refused 7 ≡ headingOf sheet
   unfolding headingBy
   broken e = rw (told-yes limits few, e) at by
@@ -71,14 +71,14 @@ module _ (sheet : List ℕ) (c : Counts) (by : headingBy sheet c ≡ headingOf s
   unfolding headOk
   length-wrong h = broken (simp (ne-eqb (length sheet) (endPlace c) (rw is at h)))
 
-  module _ {line : List ℕ} {b : Bool} (read : Read (wordAt sheet line2 (lineLength 6) 6) (1 * 6) (linesOk sheet line2 6 1) line b) where
+  module _ {line : List ℕ} {b : Bool} (read : Read (columnWordAt sheet line2 (lineLength 6) 6) (1 * 6) (linesOk sheet line2 6 1) line b) where
     pub line-2-unread : not b ≡ true → Heading.Refused 7 ≡ headingOf sheet
     unfolding headOk
     line-2-unread t = broken (simp (told-no (one-line sheet line2 read) t, and-false))
 
     module _ (good : not b ≡ false) {o : OperationNumbers} (says : o ≡ operationIn line) {k : Bool} (fine : k ≡ areListed o) where
       operation-said : o ≡ operationNumbers sheet
-      unfolding wordAt
+      unfolding columnWordAt
       operation-said =
           let word = line-word sheet line2 read good in
           says ∙ operation-read sheet (word 0 (omega arith)) (word 1 (omega arith)) (word 2 (omega arith)) (word 3 (omega arith)) (word 4 (omega arith)) (word 5 (omega arith))
@@ -105,7 +105,7 @@ module _ (sheet : List ℕ) (c : Counts) where
       go true false d t = refl
       go false b d t = refl
 
-headed-by : (sheet : List ℕ) → isLine sheet line1 6 ≡ true → withinLimits (countsOf sheet) ≡ true → headOk sheet (countsOf sheet) ≡ true → Headed sheet (headerOf sheet (countsOf sheet))
+headed-by : (sheet : List ℕ) → isLine sheet line1 6 ≡ true → countsOk (countsOf sheet) ≡ true → headOk sheet (countsOf sheet) ≡ true → Headed sheet (headerOf sheet (countsOf sheet))
 unfolding headOk parse
 headed-by sheet line-1 few ok =
     let c = countsOf sheet in
@@ -131,7 +131,7 @@ refused-into a p = rw (a .is) (record { answer = p .answer ∙ sym (a .bare); bu
 module _ (sheet : List ℕ) {r : Heading} (is : r ≡ headingOf sheet) where
   says-refused : {n : ℕ} → r ≡ Heading.Refused n → RefusedAs n (outcomeOfSheet (parse sheet))
   unfolding headingOf headingBy parse
-  says-refused {n} e = go (isLine sheet line1 6) (withinLimits (countsOf sheet)) (headOk sheet (countsOf sheet)) refl (sym e ∙ is)
+  says-refused {n} e = go (isLine sheet line1 6) (countsOk (countsOf sheet)) (headOk sheet (countsOf sheet)) refl (sym e ∙ is)
     where
       go : (a b d : Bool) → headOk sheet (countsOf sheet) ≡ d
           → Heading.Refused n ≡ cond a (cond b (cond d (Heading.Good (headerOf sheet (countsOf sheet))) (Heading.Refused 7)) (Heading.Refused 1)) (Heading.Refused 7)
@@ -150,9 +150,9 @@ module _ (sheet : List ℕ) {r : Heading} (is : r ≡ headingOf sheet) where
 
   pub header-good : {h : Header} → r ≡ Heading.Good h → Headed sheet h
   unfolding headingOf headingBy
-  header-good {h} e = go (isLine sheet line1 6) (withinLimits (countsOf sheet)) (headOk sheet (countsOf sheet)) refl refl refl (sym e ∙ is)
+  header-good {h} e = go (isLine sheet line1 6) (countsOk (countsOf sheet)) (headOk sheet (countsOf sheet)) refl refl refl (sym e ∙ is)
     where
-      go : (a b d : Bool) → isLine sheet line1 6 ≡ a → withinLimits (countsOf sheet) ≡ b → headOk sheet (countsOf sheet) ≡ d
+      go : (a b d : Bool) → isLine sheet line1 6 ≡ a → countsOk (countsOf sheet) ≡ b → headOk sheet (countsOf sheet) ≡ d
           → Heading.Good h ≡ cond a (cond b (cond d (Heading.Good (headerOf sheet (countsOf sheet))) (Heading.Refused 7)) (Heading.Refused 1)) (Heading.Refused 7)
           → Headed sheet h
       go true true true f g k q = let same : h ≡ headerOf sheet (countsOf sheet) = cc in rw same (headed-by sheet f g k)

@@ -12,7 +12,7 @@ use Rattle.base.specs.Lists.{part, allFrom}
 use Rattle.columns.specs.Columns.{readColumn, columnBytes, columnAt}
 use Rattle.sheet.specs.declared.header.Counts.{Counts}
 use Rattle.sheet.specs.Lines.{numberOf, columnNumber, columnPlace, lineLength, isLine}
-use Rattle.sheet.specs.Sheet.{line1, countsOf, withinLimits, layoutOk, sheetOf, Parsed, unparsed, parsed, parsedBy, parse}
+use Rattle.sheet.specs.Sheet.{line1, countsOf, countsOk, layoutOk, sheetOf, Parsed, unparsed, parsed, parsedBy, parse}
 use Rattle.sheet.specs.Listing.{linesBytes, linesOfSheet, listingOf}
 use Rattle.sheet.specs.Laws.{CutShort}
 use Rattle.sheet.proofs.header.HeaderTests.{limited, length-differs, counts-read}
@@ -51,18 +51,18 @@ module _ (xs ys : List ℕ) (long : lineLength 6 ≤ length xs) where
 
 -- a too long input, by its line 1
 abbrev tooLong : Bool → Counts → Parsed
-tooLong readable c = cond readable (cond (withinLimits c) (unparsed layoutBroken) (unparsed overLimit)) (unparsed layoutBroken)
+tooLong readable c = cond readable (cond (countsOk c) (unparsed layoutBroken) (unparsed overLimit)) (unparsed layoutBroken)
 
 module _ (sheet : List ℕ) (long : 51915 ≤ length sheet) where
-  layout-fails : (c : Counts) → withinLimits c ≡ true → layoutOk sheet c ≡ false
+  layout-fails : (c : Counts) → countsOk c ≡ true → layoutOk sheet c ≡ false
   layout-fails c few =
       let most = limited c (sym few) refl in
       sym (length-differs sheet c (λ e. omega (arith, most)))
 
-  refused-by : (c : Counts) → parsedBy sheet c ≡ cond (withinLimits c) (unparsed layoutBroken) (unparsed overLimit)
-  refused-by c = go (withinLimits c) refl
+  refused-by : (c : Counts) → parsedBy sheet c ≡ cond (countsOk c) (unparsed layoutBroken) (unparsed overLimit)
+  refused-by c = go (countsOk c) refl
     where
-      go : (b : Bool) → withinLimits c ≡ b → cond b (cond (layoutOk sheet c) (parsed (sheetOf sheet c)) (unparsed layoutBroken)) (unparsed overLimit) ≡ cond b (unparsed layoutBroken) (unparsed overLimit)
+      go : (b : Bool) → countsOk c ≡ b → cond b (cond (layoutOk sheet c) (parsed (sheetOf sheet c)) (unparsed layoutBroken)) (unparsed overLimit) ≡ cond b (unparsed layoutBroken) (unparsed overLimit)
       go true e = rw (layout-fails c e)
       go false e = refl
 

@@ -14,7 +14,7 @@ use Rattle.sheet.specs.declared.header.Counts.{Counts}
 use Rattle.operation.specs.declared.numbers.OperationNumbers.{OperationNumbers}
 use Rattle.operation.specs.Numbers.{areListed}
 use Rattle.sheet.specs.Lines.{numberIn, isLine}
-use Rattle.sheet.specs.Sheet.{line1, line2, nodesPlace, countsOf, withinLimits, childrenPlace, numbersPlace, namesPlace, stringsPlace, textPlace, endPlace, operationNumbers, layoutOk, Sheet, sheetOf, parsed, parsedBy, parse}
+use Rattle.sheet.specs.Sheet.{line1, line2, nodesPlace, countsOf, countsOk, childrenPlace, numbersPlace, namesPlace, stringsPlace, textPlace, endPlace, operationNumbers, layoutOk, Sheet, sheetOf, parsed, parsedBy, parse}
 use Rattle.sheet.specs.Render.{writeLine, writeLines, countsRow, operationRow, nodeRow, childRow, nameRow, numberLine, render, Renderable, RoundTrip}
 use Rattle.sheet.proofs.header.HeaderTests.{counts-read, operation-read}
 use Rattle.sheet.proofs.laws.RoundTripParts.{Stands, stands-at, stands-first, stands-next, stands-part, line-long, number-at, line-there}
@@ -33,8 +33,8 @@ countsIn T =
       text = length (T .text);
     }
 
-same-limits : (T : Tables) → Rules.withinLimits T ≡ true → withinLimits (countsIn T) ≡ true
-unfolding Rules.withinLimits withinLimits
+same-limits : (T : Tables) → Rules.withinLimits T ≡ true → countsOk (countsIn T) ≡ true
+unfolding Rules.withinLimits countsOk
 same-limits T e = e
 
 counts-small : (T : Tables) → Limits T → (j : ℕ) → j < 6 → getD (countsRow T) j 0 < 10 ^ 6
@@ -53,7 +53,7 @@ filled o nodes children numbers names strings text marks = record { operation = 
 sheet-same : {o o′ : OperationNumbers} {n n′ k k′ m m′ x x′ s s′ t t′ b b′ : List ℕ} → o ≡ o′ → n ≡ n′ → k ≡ k′ → m ≡ m′ → x ≡ x′ → s ≡ s′ → t ≡ t′ → b ≡ b′ → filled o n k m x s t b ≡ filled o′ n′ k′ m′ x′ s′ t′ b′
 sheet-same a b c d e f g h = cc
 
-parsed-as : (sheet : List ℕ) (c : Counts) (S : Sheet) → isLine sheet line1 6 ≡ true → c ≡ countsOf sheet → withinLimits c ≡ true → layoutOk sheet c ≡ true → sheetOf sheet c ≡ S → parse sheet ≡ parsed S
+parsed-as : (sheet : List ℕ) (c : Counts) (S : Sheet) → isLine sheet line1 6 ≡ true → c ≡ countsOf sheet → countsOk c ≡ true → layoutOk sheet c ≡ true → sheetOf sheet c ≡ S → parse sheet ≡ parsed S
 unfolding parse
 parsed-as sheet c S first counts few laid same =
     let by : parsedBy sheet c ≡ parsed S = rw (few, laid) (ap parsed same) in

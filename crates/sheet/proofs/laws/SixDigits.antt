@@ -10,7 +10,7 @@ use Rattle.planner.specs.Operations.{Outcome, refused, planned}
 use Rattle.planner.specs.Short.{ShortOutcome}
 use Rattle.planner.proofs.laws.ShortOutcomes.{short, refusal-short}
 use Rattle.operation.proofs.ShortOperation.{operation-short}
-use Rattle.sheet.specs.Sheet.{line1, unparsed, parsed, parse, countsOf, withinLimits, layoutOk, sheetOf}
+use Rattle.sheet.specs.Sheet.{line1, unparsed, parsed, parse, countsOf, countsOk, layoutOk, sheetOf}
 use Rattle.sheet.specs.Outcome.{outcomeOfSheet}
 use Rattle.sheet.specs.Listing.{followed, alone, linesOf}
 use Rattle.sheet.specs.Lines.{isLine}
@@ -28,7 +28,7 @@ lines-short (planned form side es) p = go (leb (length es) 1536)
 -- a sheet that is not read has 1 or 7
 sheet-short : (sheet : List ℕ) → ShortOutcome (outcomeOfSheet (parse sheet))
 unfolding parse
-sheet-short sheet = go (isLine sheet line1 6) (withinLimits (countsOf sheet)) (layoutOk sheet (countsOf sheet))
+sheet-short sheet = go (isLine sheet line1 6) (countsOk (countsOf sheet)) (layoutOk sheet (countsOf sheet))
   where
     go : (a b c : Bool) → ShortOutcome (outcomeOfSheet (cond a (cond b (cond c (parsed (sheetOf sheet (countsOf sheet))) (unparsed layoutBroken)) (unparsed overLimit)) (unparsed layoutBroken)))
     go false b c = refusal-short (omega arith) (omega arith)

@@ -12,13 +12,13 @@ use Rattle.table.proofs.tests.Bools.{never}
 use Rattle.table.specs.Tables.{startOf, endOf}
 use Rattle.sheet.specs.declared.header.Counts.{Counts}
 use Rattle.sheet.specs.Lines.{isLine}
-use Rattle.sheet.specs.Sheet.{Sheet, line1, countsOf, withinLimits, textPlace, nodesOf, layoutOk, sheetOf, unparsed, parsed, parse}
+use Rattle.sheet.specs.Sheet.{Sheet, line1, countsOf, countsOk, textPlace, nodesOf, layoutOk, sheetOf, unparsed, parsed, parse}
 use Rattle.sheet.specs.Source.{sourceText, textByte, span, spanOf, spanIn, SourceSpan, SourceLaws}
 use Rattle.sheet.proofs.source.SourceTests.{start-inside, high-inside, part-back, part-on}
 
 pub parsed-is : (sheet : List ℕ) {S : Sheet} → parse sheet ≡ parsed S → S ≡ sheetOf sheet (countsOf sheet)
 unfolding parse
-parsed-is sheet {S} e = go (isLine sheet line1 6) (withinLimits (countsOf sheet)) (layoutOk sheet (countsOf sheet)) e
+parsed-is sheet {S} e = go (isLine sheet line1 6) (countsOk (countsOf sheet)) (layoutOk sheet (countsOf sheet)) e
   where
     go : (a b c : Bool) → cond a (cond b (cond c (parsed (sheetOf sheet (countsOf sheet))) (unparsed layoutBroken)) (unparsed overLimit)) (unparsed layoutBroken) ≡ parsed S → S ≡ sheetOf sheet (countsOf sheet)
     go true true true q = cc

@@ -19,7 +19,7 @@ use Rattle.columns.proofs.read.Six.{column-inside}
 use Rattle.base.specs.Lists.{allFrom, tabulate}
 use Rattle.table.proofs.tests.Scan.{Scan, scan-start, scan-ends, all-on, all-fails}
 use Rattle.planner.proofs.buffer.Filling.{filling-next, length-tabulate, getD-tabulate}
-use Rattle.sheet.specs.Lines.{columnNumber, isLineFeed, columnOk, isLine, lineLength, lineOk, linesOk, signedLength, numberLineLength, isNumberLine, numberLineOk, numberLinesOk, wordAt, numberWord}
+use Rattle.sheet.specs.Lines.{columnNumber, isLineFeed, columnOk, isLine, lineLength, lineOk, linesOk, signedLength, numberLineLength, isNumberLine, numberLineOk, numberLinesOk, columnWordAt, numberWord}
 use Rattle.sheet.specs.code.Post.{Inside, WordRead, Filled, Read, LinesAsks, LineAsks, NumbersAsks, NumberAsks}
 
 -- a column, by what was read
@@ -72,8 +72,8 @@ filled-first {f} {count} {array} go le =
 
 -- the words of line i
 module _ (sheet : List ℕ) (at line columns i : ℕ) where
-  pub word-in-line : (j : ℕ) → j < columns → wordAt sheet at line columns (i * columns + j) ≡ columnNumber sheet (at + i * line + j * 6)
-  unfolding wordAt
+  pub word-in-line : (j : ℕ) → j < columns → columnWordAt sheet at line columns (i * columns + j) ≡ columnNumber sheet (at + i * line + j * 6)
+  unfolding columnWordAt
   word-in-line j lt =
       let d : (i * columns + j) / columns ≡ i = mul-add-div-right (omega arith) i j ∙ (ap (λ (q : ℕ). i + q) (div-eq-of-lt lt) ∙ omega arith) in
       let m : (i * columns + j) % columns ≡ j = mul-add-mod-self-right i columns j ∙ mod-eq-of-lt lt in
@@ -114,16 +114,16 @@ module _ {sheet : List ℕ} {at columns i : ℕ} {before : List ℕ} (asked : Li
   pub line-end-place : Fits w64 (at + i * (columns * 6 + 1) + columns * 6)
   line-end-place = record { fits = omega (arith, below) }
 
-  pub line-cut : length sheet ≤ at + i * (columns * 6 + 1) + columns * 6 → Read (wordAt sheet at (lineLength columns) columns) (i * columns + columns) (lineOk sheet at columns i) before false
+  pub line-cut : length sheet ≤ at + i * (columns * 6 + 1) + columns * 6 → Read (columnWordAt sheet at (lineLength columns) columns) (i * columns + columns) (lineOk sheet at columns i) before false
   unfolding isLine
   line-cut cut = no-words before (rw (← feed-past sheet (at + i * lineLength columns + columns * 6) cut) (sym (and-false (allFrom (columnOk sheet (at + i * lineLength columns)) 0 columns))))
 
-  pub line-start : Going (columnOk sheet (at + i * lineLength columns)) (wordAt sheet at (lineLength columns) columns) columns 0 (i * columns + 0) before before
+  pub line-start : Going (columnOk sheet (at + i * lineLength columns)) (columnWordAt sheet at (lineLength columns) columns) columns 0 (i * columns + 0) before before
   line-start =
       let z : i * columns + 0 ≡ i * columns = omega arith in
       record { scan = scan-start (columnOk sheet (at + i * lineLength columns)) 0 columns; filled = rw z (asked .before); long = refl }
 
-  module _ {j : ℕ} {here : List ℕ} (go : Going (columnOk sheet (at + i * lineLength columns)) (wordAt sheet at (lineLength columns) columns) columns j (i * columns + j) before here) where
+  module _ {j : ℕ} {here : List ℕ} (go : Going (columnOk sheet (at + i * lineLength columns)) (columnWordAt sheet at (lineLength columns) columns) columns j (i * columns + j) before here) where
     module _ (lt : j < columns) where
       pub column-fits : Fits w64 (j * 6)
       column-fits = record { fits = omega (arith, few) }
@@ -138,7 +138,7 @@ module _ {sheet : List ℕ} {at columns i : ℕ} {before : List ℕ} (asked : Li
       column-there there = omega arith
 
       module _ {after : List ℕ} {r : Bool} (read : WordRead sheet (at + i * lineLength columns + j * 6) (i * columns + j) here after r) where
-        pub line-on : not r ≡ false → Going (columnOk sheet (at + i * lineLength columns)) (wordAt sheet at (lineLength columns) columns) columns (j + 1) (i * columns + (j + 1)) before after
+        pub line-on : not r ≡ false → Going (columnOk sheet (at + i * lineLength columns)) (columnWordAt sheet at (lineLength columns) columns) columns (j + 1) (i * columns + (j + 1)) before after
         line-on t =
             let e = read .stored (not-false r t) in
             let n : i * columns + (j + 1) ≡ i * columns + j + 1 = omega arith in
@@ -149,11 +149,11 @@ module _ {sheet : List ℕ} {at columns i : ℕ} {before : List ℕ} (asked : Li
               long = length-set here (i * columns + j) (columnNumber sheet (at + i * lineLength columns + j * 6)) ∙ go .long;
             })
 
-        pub line-fails : not r ≡ true → Read (wordAt sheet at (lineLength columns) columns) (i * columns + columns) (lineOk sheet at columns i) after false
+        pub line-fails : not r ≡ true → Read (columnWordAt sheet at (lineLength columns) columns) (i * columns + columns) (lineOk sheet at columns i) after false
         unfolding isLine
         line-fails t = no-words after (rw (← all-fails (go .scan) lt (read .ok) t))
 
-    pub line-ends : {r : Bool} → columns ≤ j → r ≡ isLineFeed sheet (at + i * lineLength columns + columns * 6) → Read (wordAt sheet at (lineLength columns) columns) (i * columns + columns) (lineOk sheet at columns i) here r
+    pub line-ends : {r : Bool} → columns ≤ j → r ≡ isLineFeed sheet (at + i * lineLength columns + columns * 6) → Read (columnWordAt sheet at (lineLength columns) columns) (i * columns + columns) (lineOk sheet at columns i) here r
     unfolding isLine
     line-ends le is =
         let n : i * columns + j ≡ i * columns + columns = omega (arith, go .scan .inside) in
@@ -161,12 +161,12 @@ module _ {sheet : List ℕ} {at columns i : ℕ} {before : List ℕ} (asked : Li
 
 -- the lines
 module _ (sheet : List ℕ) {at columns count : ℕ} {before : List ℕ} (asked : LinesAsks at columns count before) where
-  pub lines-start : Going (lineOk sheet at columns) (wordAt sheet at (lineLength columns) columns) count 0 (0 * columns) before before
+  pub lines-start : Going (lineOk sheet at columns) (columnWordAt sheet at (lineLength columns) columns) count 0 (0 * columns) before before
   lines-start =
       let z : 0 * columns ≡ 0 = omega arith in
-      record { scan = scan-start (lineOk sheet at columns) 0 count; filled = rw z (filled-none (wordAt sheet at (lineLength columns) columns) before); long = refl }
+      record { scan = scan-start (lineOk sheet at columns) 0 count; filled = rw z (filled-none (columnWordAt sheet at (lineLength columns) columns) before); long = refl }
 
-  module _ {i : ℕ} {here : List ℕ} (go : Going (lineOk sheet at columns) (wordAt sheet at (lineLength columns) columns) count i (i * columns) before here) where
+  module _ {i : ℕ} {here : List ℕ} (go : Going (lineOk sheet at columns) (columnWordAt sheet at (lineLength columns) columns) count i (i * columns) before here) where
     module _ (lt : i < count) where
       pub line-asked : LineAsks sheet at columns i here
       line-asked =
@@ -176,16 +176,16 @@ module _ (sheet : List ℕ) {at columns count : ℕ} {before : List ℕ} (asked 
             before = go .filled;
           }
 
-      module _ {after : List ℕ} {r : Bool} (read : Read (wordAt sheet at (lineLength columns) columns) (i * columns + columns) (lineOk sheet at columns i) after r) where
-        pub lines-on : length after ≡ length here → not r ≡ false → Going (lineOk sheet at columns) (wordAt sheet at (lineLength columns) columns) count (i + 1) ((i + 1) * columns) before after
+      module _ {after : List ℕ} {r : Bool} (read : Read (columnWordAt sheet at (lineLength columns) columns) (i * columns + columns) (lineOk sheet at columns i) after r) where
+        pub lines-on : length after ≡ length here → not r ≡ false → Going (lineOk sheet at columns) (columnWordAt sheet at (lineLength columns) columns) count (i + 1) ((i + 1) * columns) before after
         lines-on kept t =
             let n : (i + 1) * columns ≡ i * columns + columns = omega arith in
             record { scan = all-on (go .scan) lt (read .ok) t; filled = rw n (read .filled (not-false r t)); long = kept ∙ go .long }
 
-        pub lines-fail : not r ≡ true → Read (wordAt sheet at (lineLength columns) columns) (count * columns) (linesOk sheet at columns count) after false
+        pub lines-fail : not r ≡ true → Read (columnWordAt sheet at (lineLength columns) columns) (count * columns) (linesOk sheet at columns count) after false
         lines-fail t = no-words after (all-fails (go .scan) lt (read .ok) t)
 
-    pub lines-end : count ≤ i → Read (wordAt sheet at (lineLength columns) columns) (count * columns) (linesOk sheet at columns count) here true
+    pub lines-end : count ≤ i → Read (columnWordAt sheet at (lineLength columns) columns) (count * columns) (linesOk sheet at columns count) here true
     lines-end le =
         let n : i ≡ count = omega (arith, go .scan .inside) in
         record { ok = scan-ends (go .scan) le; filled = λ _. rw n at (go .filled) }

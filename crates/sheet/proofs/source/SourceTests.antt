@@ -19,7 +19,7 @@ use Rattle.table.specs.Tables.{recordWord, startOf, endOf}
 use Rattle.planner.proofs.buffer.Filling.{length-tabulate, getD-tabulate}
 use Rattle.sheet.specs.declared.header.Counts.{Counts}
 use Rattle.sheet.specs.declared.header.Places.{Places}
-use Rattle.sheet.specs.Lines.{columnNumber, numberIn, lineLength, wordAt}
+use Rattle.sheet.specs.Lines.{columnNumber, numberIn, lineLength, columnWordAt}
 use Rattle.sheet.specs.Sheet.{line1, nodesPlace, nodesOf, textPlace}
 use Rattle.sheet.specs.Source.{textByte, span, spanOf, spanIn}
 use Rattle.sheet.specs.code.Header.{placesOf, NumberRead, CountsRead}
@@ -58,12 +58,12 @@ module _ (sheet : List ℕ) (c : Counts) (node k : ℕ) where
 
     pub past-node : c .nodes ≤ node - 1 → NumberRead (recordWord 5 k (nodesOf sheet c) node) 0
     past-node past =
-        let long = length-tabulate (wordAt sheet nodesPlace (lineLength 5) 5) 0 (c .nodes * 5) in
+        let long = length-tabulate (columnWordAt sheet nodesPlace (lineLength 5) 5) 0 (c .nodes * 5) in
         record { is = sym (word-is ∙ List·getD-eq-default (nodesOf sheet c) 0 (omega arith)); below = omega arith }
 
     pub node-there : node - 1 < c .nodes → {r : ℕ} → NumberRead (columnNumber sheet (nodesPlace + (node - 1) * lineLength 5 + k * 6)) r → NumberRead (recordWord 5 k (nodesOf sheet c) node) r
     node-there lt read =
-        let f = wordAt sheet nodesPlace (lineLength 5) 5 in
+        let f = columnWordAt sheet nodesPlace (lineLength 5) 5 in
         let w = (node - 1) * 5 + k in
         let z : 0 + w ≡ w = omega arith in
         let there : getD (nodesOf sheet c) w 0 ≡ f w = getD-tabulate f 0 (c .nodes * 5) w (omega arith) ∙ ap f z in

@@ -13,7 +13,7 @@ use Rattle.table.proofs.tests.Bools.{and-true}
 use Rattle.operation.specs.declared.numbers.OperationNumbers.{OperationNumbers}
 use Rattle.sheet.specs.declared.header.Counts.{Counts}
 use Rattle.sheet.specs.Lines.{linesOk, numberLinesOk}
-use Rattle.sheet.specs.Sheet.{nodesPlace, childrenPlace, numbersPlace, namesPlace, markWord, marksOk, marksOf, operationNumbers, byteScopeOf, scopeOf}
+use Rattle.sheet.specs.Sheet.{nodesPlace, childrenPlace, numbersPlace, namesPlace, markWord, markColumnsOk, marksOf, operationNumbers, byteScopeOf, scopeOf}
 use Rattle.sheet.specs.code.Header.{tablesOk}
 use Rattle.sheet.specs.code.Post.{scopeIn}
 
@@ -33,7 +33,7 @@ small-tabulated f i zero = refl
 small-tabulated f i (suc n) = ap (λ b. leb (f i) 31 && b) (small-tabulated f (i + 1) n)
 
 module _ (sheet : List ℕ) (c : Counts) (good : tablesOk sheet c ≡ true) where
-  good-marks : marksOk sheet (namesPlace c) (c .names) ≡ true
+  good-marks : markColumnsOk sheet (namesPlace c) (c .names) ≡ true
   good-marks =
       let e₁ = and-true (linesOk sheet nodesPlace 5 (c .nodes)) _ good .1 in
       let e₂ = and-true (linesOk sheet (childrenPlace c) 1 (c .children)) _ e₁ .1 in

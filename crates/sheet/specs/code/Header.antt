@@ -14,7 +14,7 @@ use Rattle.sheet.specs.declared.header.Header.{Header}
 use Rattle.sheet.specs.declared.header.Heading.{Heading}
 use Rattle.sheet.specs.declared.header.Heading.the-variants as Heading
 use Rattle.sheet.specs.Lines.{isLine, linesOk, numberLinesOk}
-use Rattle.sheet.specs.Sheet.{line1, line2, nodesPlace, countsOf, withinLimits, childrenPlace, numbersPlace, namesPlace, stringsPlace, textPlace, endPlace, operationNumbers, marksOk, sheetOf, unparsed, parsed, parse}
+use Rattle.sheet.specs.Sheet.{line1, line2, nodesPlace, countsOf, countsOk, childrenPlace, numbersPlace, namesPlace, stringsPlace, textPlace, endPlace, operationNumbers, markColumnsOk, sheetOf, unparsed, parsed, parse}
 
 -- the two lines, by their words
 abbrev pub countsIn : List ℕ → Counts
@@ -87,7 +87,7 @@ unfoldable pub headOk : List ℕ → Counts → Bool
 headOk sheet c = eqb (length sheet) (endPlace c) && (isLine sheet line2 6 && areListed (operationNumbers sheet))
 
 unfoldable pub headingBy : List ℕ → Counts → Heading
-headingBy sheet c = cond (withinLimits c) (cond (headOk sheet c) (Heading.Good (headerOf sheet c)) (Heading.Refused (layoutBroken .number))) (Heading.Refused (overLimit .number))
+headingBy sheet c = cond (countsOk c) (cond (headOk sheet c) (Heading.Good (headerOf sheet c)) (Heading.Refused (layoutBroken .number))) (Heading.Refused (overLimit .number))
 
 unfoldable pub headingOf : List ℕ → Heading
 headingOf sheet = cond (isLine sheet line1 6) (headingBy sheet (countsOf sheet)) (Heading.Refused (layoutBroken .number))
@@ -99,7 +99,7 @@ tablesOk sheet c =
     && (linesOk sheet (childrenPlace c) 1 (c .children)
     && (numberLinesOk sheet (numbersPlace c) (c .numbers)
     && (linesOk sheet (namesPlace c) 3 (c .names)
-    && marksOk sheet (namesPlace c) (c .names))))
+    && markColumnsOk sheet (namesPlace c) (c .names))))
 
 -- a sheet with a good header
 pub record Headed (sheet : List ℕ) (h : Header) : Type 0 where

@@ -21,8 +21,8 @@ use Rattle.operation.specs.Rows.{rowLine}
 use Rattle.sheet.specs.declared.space.Tried.{Tried}
 use Rattle.sheet.specs.declared.space.Tried.the-variants as Tried
 use Rattle.base.specs.Lent.{Slices}
-use Rattle.sheet.specs.Lines.{isReadable, columnNumber, lineLength, numberLineLength, linesOk, wordAt, numberWord}
-use Rattle.sheet.specs.Sheet.{byteScopeOf, nodesPlace, markWord, childrenPlace, numbersPlace, namesPlace, marksOk, parse}
+use Rattle.sheet.specs.Lines.{isReadable, columnNumber, lineLength, numberLineLength, linesOk, columnWordAt, numberWord}
+use Rattle.sheet.specs.Sheet.{byteScopeOf, nodesPlace, markWord, childrenPlace, numbersPlace, namesPlace, markColumnsOk, parse}
 use Rattle.sheet.specs.Outcome.{outcomeOfSheet, PlannedInto}
 use Rattle.sheet.specs.Listing.{Listing, followed, alone, linesBytes, Printed}
 use Rattle.sheet.specs.code.Header.{placesOf, Limited, tablesOk, Headed}
@@ -53,7 +53,7 @@ pub record LinesAsks (at columns count : ℕ) (out : List ℕ) : Type 0 where
 
 pub record LineAsks (sheet : List ℕ) (at columns i : ℕ) (out : List ℕ) : Type 0 where
   pub asked : LinesAsks at columns (i + 1) out
-  pub before : Filled (wordAt sheet at (lineLength columns) columns) (i * columns) out
+  pub before : Filled (columnWordAt sheet at (lineLength columns) columns) (i * columns) out
 
 pub record NumbersAsks (at count : ℕ) (out : List ℕ) : Type 0 where
   pub lines : Inside at numberLineLength count
@@ -94,11 +94,11 @@ pub record MarksRead (rows : List ℕ) (count : ℕ) (before after : List ℕ) (
 
 -- the lines of names: their words without the marks, and the marks
 pub record NamesHeld (sheet : List ℕ) (at count : ℕ) (names before marks : List ℕ) : Type 0 where
-  pub words : Filled (wordAt sheet at (lineLength 3) 2) (count * 2) names
+  pub words : Filled (columnWordAt sheet at (lineLength 3) 2) (count * 2) names
   pub marked : Overlaid (markWord sheet at) count before marks
 
 abbrev pub namesOk : List ℕ → ℕ → ℕ → Bool
-namesOk sheet at count = linesOk sheet at 3 count && marksOk sheet at count
+namesOk sheet at count = linesOk sheet at 3 count && markColumnsOk sheet at count
 
 pub record NamesRead (sheet : List ℕ) (at count : ℕ) (names before marks : List ℕ) (r : Bool) : Type 0 where
   pub ok : r ≡ namesOk sheet at count
@@ -175,8 +175,8 @@ pub record TablesAsks (h : Header) (nodes children numbers names : List ℕ) : T
 
 -- what was read into them
 pub record TablesHeld (sheet : List ℕ) (c : Counts) (nodes children numbers names before marks : List ℕ) : Type 0 where
-  pub nodes-filled : Filled (wordAt sheet nodesPlace (lineLength 5) 5) (c .nodes * 5) nodes
-  pub children-filled : Filled (wordAt sheet (childrenPlace c) (lineLength 1) 1) (c .children) children
+  pub nodes-filled : Filled (columnWordAt sheet nodesPlace (lineLength 5) 5) (c .nodes * 5) nodes
+  pub children-filled : Filled (columnWordAt sheet (childrenPlace c) (lineLength 1) 1) (c .children) children
   pub numbers-filled : Filled (numberWord sheet (numbersPlace c)) (c .numbers * 2) numbers
   pub names-held : NamesHeld sheet (namesPlace c) (c .names) names before marks
 

@@ -6,7 +6,7 @@ use mathlib.Core.Bool.{Bool, true, false, false≢true}
 use mathlib.Core.Option.{Option, none, some}
 use lib.ListN.{length}
 use Rattle.literal.specs.Literal.{Literal}
-use Rattle.literal.specs.Order.{Order, less, same, more, bytesOrder, told, compared}
+use Rattle.literal.specs.Order.{Order, less, same, more, bytesOrder, comparisonOf, compared}
 use Rattle.literal.specs.Text.{textCompared, textsCompared}
 use Rattle.literal.specs.Reading.{literalOf}
 use Rattle.literal.specs.declared.LiteralRef.{LiteralRef}
@@ -46,17 +46,17 @@ pub other-length : (xs ys : List ℕ) → (length xs ≡ length ys → ⊥) → 
 other-length xs ys ne = unequal-bytes xs ys (λ e. ne (ap length e))
 
 -- the answer of the comparison
-equal-told : (o : Order) → told o ≡ Equal → isSame o ≡ true
+equal-told : (o : Order) → comparisonOf o ≡ Equal → isSame o ≡ true
 equal-told less e = never (cc)
 equal-told same e = refl
 equal-told more e = never (cc)
 
-other-told : (o : Order) → (told o ≡ Equal → ⊥) → isSame o ≡ false
+other-told : (o : Order) → (comparisonOf o ≡ Equal → ⊥) → isSame o ≡ false
 other-told less e = refl
 other-told same e = absurd (e refl)
 other-told more e = refl
 
-module _ (xs ys : List ℕ) {o : Comparison} (is : o ≡ told (bytesOrder xs ys)) where
+module _ (xs ys : List ℕ) {o : Comparison} (is : o ≡ comparisonOf (bytesOrder xs ys)) where
   pub same-equal : o ≡ Equal → true ≡ sameBytes xs ys
   unfolding sameBytes
   same-equal e = sym (equal-told (bytesOrder xs ys) (sym is ∙ e))

@@ -7,7 +7,7 @@ use mathlib.Core.List.{List, []}
 use native.Mathlib.Nat.{eq-or-lt-of-le}
 use native.Mathlib.Omega.{arith}
 use lib.ListN.{length, getD, replicate}
-use Rattle.literal.specs.Order.{Order, less, same, more, opposite, bytesOrder, told}
+use Rattle.literal.specs.Order.{Order, less, same, more, opposite, bytesOrder, comparisonOf}
 use Rattle.literal.specs.declared.Comparison.{Comparison}
 use Rattle.literal.specs.declared.Comparison.the-variants.{Less, Equal, Greater, NoLiteral}
 use Rattle.literal.proofs.Orders.{three-ways, bytes-order}
@@ -23,17 +23,17 @@ use Rattle.table.proofs.tests.Scan.{Scan, scan-start, all-on, all-of, a
 use Rattle.table.proofs.tests.Clauses.{names-fail}
 
 -- the answer of a comparison
-less-told : (o : Order) → told o ≡ Less → o ≡ less
+less-told : (o : Order) → comparisonOf o ≡ Less → o ≡ less
 less-told less e = refl
 less-told same e = never (cc)
 less-told more e = never (cc)
 
-more-told : (o : Order) → told o ≡ Greater → o ≡ more
+more-told : (o : Order) → comparisonOf o ≡ Greater → o ≡ more
 more-told less e = never (cc)
 more-told same e = never (cc)
 more-told more e = refl
 
-none-told : (o : Order) → told o ≡ NoLiteral → ⊥
+none-told : (o : Order) → comparisonOf o ≡ NoLiteral → ⊥
 none-told less e = never (cc)
 none-told same e = never (cc)
 none-told more e = never (cc)
@@ -72,8 +72,8 @@ pub finding-start : {name : ℕ → List ℕ} (bytes : List ℕ) {order : List �
 finding-start bytes {order} {count} a few = record { ascending = a; few = few; between = between-start _ _ count }
 
 module _ {name : ℕ → List ℕ} {bytes order : List ℕ} {count low high : ℕ} (f : Finding name bytes order count low high) where
-  module _ {q x : ℕ} {other : List ℕ} {way : Comparison} (lt : low < high) (is-q : q ≡ low + (high - low) / 2) (is-x : x ≡ getD order q 0) (is-other : other ≡ name x) (is-way : way ≡ told (bytesOrder bytes other)) where
-    way-at : told (orderAt name bytes order q) ≡ way
+  module _ {q x : ℕ} {other : List ℕ} {way : Comparison} (lt : low < high) (is-q : q ≡ low + (high - low) / 2) (is-x : x ≡ getD order q 0) (is-other : other ≡ name x) (is-way : way ≡ comparisonOf (bytesOrder bytes other)) where
+    way-at : comparisonOf (orderAt name bytes order q) ≡ way
     way-at = rw (← is-x, ← is-other) (sym is-way)
 
     inside-at : q < count
