@@ -36,6 +36,8 @@ class Gate(unittest.TestCase):
         self.write("crates.txt", "c:\n")
         self.write("crates/c/src/lib.rt", "")
         self.write("gate/mistakes.py", "print('mistakes read')")
+        self.write("gate/reading_order.py", "print('order read')")
+        self.write("gate/unused_imports.py", "print('imports read')")
         self.write("gate/test_gate.py", UNITTEST.format(planners={}))
         self.write("tools/test_tools.py", UNITTEST.format(planners=PLANNERS))
         self.command("tools/build_library", "echo library built")
@@ -72,7 +74,9 @@ class Gate(unittest.TestCase):
         self.sources()
         status, lines = self.gate()
         self.assertEqual((status, lines[-1]), (0, "3 passed, 0 failed"))
-        for line in ("proving", "mistakes read", "library built", CHECKED, "example run", MEASURED, COMPARED):
+        for line in ("proving", "mistakes read", "order read", "imports read", "library built", CHECKED):
+            self.assertIn(line, lines)
+        for line in ("example run", MEASURED, COMPARED):
             self.assertIn(line, lines)
         self.assertFalse([line for line in lines if line.startswith(("failed", "not run"))])
 
@@ -86,6 +90,8 @@ class Gate(unittest.TestCase):
         self.sources()
         parts = {
             "gate/mistakes.py": "raise SystemExit(1)",
+            "gate/reading_order.py": "raise SystemExit(1)",
+            "gate/unused_imports.py": "raise SystemExit(1)",
             "gate/test_gate.py": UNITTEST.format(planners=PLANNERS),
             "tools/build_library": "#!/bin/sh\nexit 1\n",
             "tools/plan_rule": "#!/bin/sh\nexit 1\n",

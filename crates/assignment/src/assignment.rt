@@ -40,7 +40,7 @@ use table::reading::name_class;
 // The small scratch: an entry for each of 64 nodes, and the words of these nodes, five each.
 const SMALL_WORDS: usize = 64 * ENTRY_WORDS;
 
-const SMALL_NODES: usize = 64 * 5;
+const SMALL_NODE_WORDS: usize = 64 * 5;
 
 // An array against an object (ensure_structural_compatibility).
 fn structurally_incompatible(nodes: &[u32], a: u32, b: u32) -> bool
@@ -498,7 +498,7 @@ fn plan_assignment<'a>(
     requires { ⌜ GoodPair (given nodes children numbers names strings text) left right ⌝ }
     ensures { λ r. ⌜ AnsweredIn plan (byOperator op (lent nodes children numbers names strings text) scope left right reading) r ⌝ }
 {
-    if nodes.len() <= SMALL_NODES {
+    if nodes.len() <= SMALL_NODE_WORDS {
         let mut scratch = [0u32; SMALL_WORDS];
         return plan_assignment_in(
             nodes,

@@ -14,7 +14,7 @@ use Rattle.table.specs.Expr.{Expr, literal, name, wildcard, array, set, object,
 use Rattle.table.specs.Decode.{expr}
 use Rattle.table.specs.Check.{checked, allNodes}
 use Rattle.planner.specs.Layout.{Entry, top, entries, bindsAny}
-use Rattle.planner.specs.Operations.{Outcome, refused, planned, require, tableFirst, checkedFirst, planOf, validated, unlessDefined}
+use Rattle.planner.specs.Operations.{Outcome, planned, require, tableFirst, checkedFirst, planOf, validated, unlessDefined}
 use Rattle.checks.specs.declared.Reading.{Reading}
 use Rattle.checks.specs.declared.Reading.the-variants.{Present, Careful}
 use Rattle.checks.specs.declared.LiteralStructureCheck.{LiteralStructureCheck}

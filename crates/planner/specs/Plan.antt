@@ -1,5 +1,5 @@
 -- The plan of a pattern, in written order, with the names planned so far (destructuring.rs).
-use Prim.Native.Nat.{ℕ, _+_}
+use Prim.Native.Nat.{ℕ}
 use mathlib.Core.Bool.{Bool, cond, _&&_, not}
 use mathlib.Core.List.{List, [], _∷_, _++_}
 use Rattle.literal.specs.Literal.{Literal}

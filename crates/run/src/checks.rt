@@ -1,7 +1,7 @@
 // What a run turns back before it plans: a pattern that is not simple, a node that is no value.
 ghost use Rattle.base.specs.Lent.{old};
 ghost use Rattle.table.specs.Lent.{given, lent};
-ghost use Prim.Native.Nat.{_-_, _/_, _≤_};
+ghost use Prim.Native.Nat.{_/_, _≤_};
 ghost use mathlib.Core.Path.{_≡_};
 ghost use mathlib.Core.Bool.{_&&_};
 ghost use lib.ListN.{length};

@@ -1,7 +1,7 @@
 // The values of names by their numbers: at the start, and after a match.
 ghost use Rattle.base.specs.Lent.{old, new};
 ghost use Rattle.table.specs.Lent.{given, lent};
-ghost use Prim.Native.Nat.{_+_, _-_, _/_};
+ghost use Prim.Native.Nat.{_/_};
 ghost use mathlib.Core.Path.{_≡_};
 ghost use mathlib.Core.Bool.{cond};
 ghost use lib.Dec.{eqb};

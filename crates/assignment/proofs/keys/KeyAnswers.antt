@@ -12,7 +12,6 @@ use Rattle.table.specs.Decode.{fieldsOf}
 use Rattle.planner.specs.declared.PlanAnswer.the-variants.{ObjectFieldCountMismatch, ObjectKeyNotFound}
 use Rattle.base.specs.Refusal.{objectFieldCountMismatch, objectKeyNotFound}
 use Rattle.planner.specs.code.Post.{OrderAsks, OrderedBy}
-use Rattle.assignment.specs.declared.flatten.Flattened.the-variants.{Refused}
 use Rattle.assignment.specs.declared.keys.ObjectPairs.{ObjectPairs}
 use Rattle.assignment.specs.declared.keys.ObjectPairs.the-variants as ObjectPairs
 use Rattle.assignment.specs.declared.keys.ObjectPairs.the-variants.{Matched}

@@ -14,7 +14,6 @@ use Rattle.table.specs.code.Sound.{Node, WellFormed}
 use Rattle.planner.specs.Layout.{Slot}
 use Rattle.planner.specs.code.Passes.{valueNode, orderOf}
 use Rattle.planner.specs.code.Post.{OrderedBy}
-use Rattle.assignment.specs.declared.flatten.Flattened.the-variants.{Refused}
 use Rattle.assignment.specs.declared.keys.ObjectPairs.{ObjectPairs}
 use Rattle.assignment.specs.declared.keys.ObjectPairs.the-variants as ObjectPairs
 use Rattle.assignment.specs.declared.keys.ObjectPairs.the-variants.{Matched}

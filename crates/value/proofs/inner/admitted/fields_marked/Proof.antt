@@ -1,4 +1,3 @@
-use Prim.Native.Nat.{_-_}
 use Rattle.value.proofs.Marking.{MarkingFields, fields-start, field-low, field-place, field-computed, field-marked, field-unmarked, field-value-fits, field-next-fits, fields-end}
 use borrow.Author.Needs.{needs}
 use Rattle.value.proofs.inner.admitted.fields_marked.Statement.{statement}

@@ -1,4 +1,3 @@
-use Prim.Native.Nat.{_-_}
 use Rattle.value.proofs.Marking.{MarkingItems, items-start, item-low, item-place, item-marked, item-unmarked, items-end}
 use borrow.Author.Needs.{needs}
 use Rattle.value.proofs.inner.admitted.items_marked.Statement.{statement}
