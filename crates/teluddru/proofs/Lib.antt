@@ -1,3 +1,4 @@
+pub mod Locals
 pub mod Copying
 pub mod Limits
 pub mod AllNames
