@@ -31,7 +31,8 @@ static uint32_t operation[6];
 static const uint8_t *strings;
 static uint32_t plan[TELUDDRU_PLAN_ENTRIES * TELUDDRU_ENTRY_WORDS];
 static uint32_t list[TELUDDRU_MOST_NAMES];
-static uint32_t answer[TELUDDRU_ANSWER_WORDS];
+static uint32_t answer[TELUDDRU_BODY_ANSWER_WORDS];
+static uint32_t body[2 * TELUDDRU_LINE_WORDS];
 
 #define TABLES                                                                                              \
     nodes, counts[0] * TELUDDRU_NODE_WORDS, children, counts[1], numbers,                                    \
@@ -68,6 +69,14 @@ static void read_sheet(const char *path) {
     fclose(file);
 }
 
+/* The sheet's operation, a pattern alone as an index, and then an equality check of its names, which by then are bound. */
+static void make_body(void) {
+    uint32_t alone = operation[0] == TELUDDRU_PATTERN || operation[0] == TELUDDRU_PARAMETER;
+    const uint32_t lines[] = {alone ? TELUDDRU_INDEX : operation[0], operation[3], operation[4], operation[5],
+                              TELUDDRU_EQUALS, operation[3], operation[3], 0};
+    memcpy(body, lines, sizeof body);
+}
+
 /* Whole numbers of 20 columns; those of the worst sheets are not below zero. */
 static void read_tables(void) {
     uint32_t head[6], rows[TELUDDRU_MOST_NAMES * 3];
@@ -90,6 +99,7 @@ static void read_tables(void) {
     }
     strings = sheet + place;
     memset(list, 0, sizeof list);
+    make_body();
 }
 
 static void *call_sheet(void *unused) {
@@ -124,6 +134,13 @@ static void *call_run(void *unused) {
     return unused;
 }
 
+static void *call_body(void *unused) {
+    volatile uint8_t local = 0;
+    call_place = (uintptr_t)&local;
+    teluddru_plan_body(TABLES, operation[1], body, LENGTH(body), plan, LENGTH(plan), answer, LENGTH(answer));
+    return unused;
+}
+
 static void *call_report(void *unused) {
     volatile uint8_t local = 0;
     call_place = (uintptr_t)&local;
@@ -134,7 +151,7 @@ static void *call_report(void *unused) {
 static const struct {
     const char *name;
     void *(*call)(void *);
-} calls[] = {{"plan_sheet", call_sheet}, {"pages", call_pages}, {"plan", call_plan}, {"run", call_run}, {"names_report", call_report}};
+} calls[] = {{"plan_sheet", call_sheet}, {"pages", call_pages}, {"plan", call_plan}, {"plan_body", call_body}, {"run", call_run}, {"names_report", call_report}};
 
 /* The bytes of a painted stack that a call changed, counted from the call down. */
 static size_t stack_taken(uint8_t *stack, void *(*call)(void *)) {

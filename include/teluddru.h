@@ -1,6 +1,6 @@
 /*
- * Teluddru: plans how the patterns of joinery rules take values apart. Three calls over tables that the
- * host lends (planning, Run, the names report), and two over a sheet's text (its listing, its pages for
+ * Teluddru: plans how the patterns of joinery rules take values apart. Four calls over tables that the
+ * host lends (planning, a rule body, Run, the names report), and two over a sheet's text (its listing, its pages for
  * print).
  *
  * What a call assumes. Of the words and bytes that it is lent: nothing. Whatever they are, a call
@@ -45,12 +45,14 @@ extern "C" {
  */
 #define TELUDDRU_STACK_BYTES 98304
 
-/* Words of a node, a number, a name, a plan's entry and an answer. */
+/* Words of a node, a number, a name, a plan's entry and an answer; of a rule body's answer and of its lines. */
 #define TELUDDRU_NODE_WORDS 5
 #define TELUDDRU_NUMBER_WORDS 2
 #define TELUDDRU_NAME_WORDS 2
 #define TELUDDRU_ENTRY_WORDS 5
 #define TELUDDRU_ANSWER_WORDS 4
+#define TELUDDRU_BODY_ANSWER_WORDS 5
+#define TELUDDRU_LINE_WORDS 4
 
 /* Limits of the tables. */
 #define TELUDDRU_MOST_NODES 512
@@ -60,6 +62,7 @@ extern "C" {
 #define TELUDDRU_MOST_STRING_BYTES 8192
 #define TELUDDRU_MOST_TEXT_BYTES 16384
 #define TELUDDRU_MOST_DEPTH 32
+#define TELUDDRU_MOST_LINES 64 /* of a rule body */
 
 /* Operations. */
 enum teluddru_operation {
@@ -145,7 +148,9 @@ enum teluddru_answer {
     TELUDDRU_NOT_A_VALUE = 22,              /* the value, or a listed node */
     TELUDDRU_NAME_WITHOUT_VALUE = 23,       /* a known name of the pattern */
     TELUDDRU_PAGE_BUFFER_TOO_SHORT = 30,    /* the pages don't fit; after all other refusals */
-    TELUDDRU_RESERVED_NAME = 31             /* the name; planning for TELUDDRU_REGO_V1 alone */
+    TELUDDRU_RESERVED_NAME = 31,            /* the name; planning for TELUDDRU_REGO_V1 alone */
+    TELUDDRU_NOT_A_BODY = 37,               /* words that are no lines of a rule body, or too few or many; teluddru_plan_body alone */
+    TELUDDRU_NAME_NOT_READY = 38            /* the name, which has no value yet; teluddru_plan_body alone */
 };
 
 /* The form of a plan, its answer's second number: of an assignment, or of some-in with a key; else 0. */
@@ -198,8 +203,8 @@ enum teluddru_reported {
  * all else. Then come the table check's refusals: TELUDDRU_OVER_LIMIT, TELUDDRU_BREAKS_RULES, for a mark
  * above 31 among those read too, TELUDDRU_TOO_DEEP, TELUDDRU_EQUAL_NAMES.
  *
- * The answer is four words, of which as many are written as there is space for; words past the fourth
- * stay as they were. Its first number is also the result, whether or not there is space for it.
+ * The answer is four words (of a rule body five), of which as many are written as there is space for;
+ * words past them stay as they were. Its first number is also the result, whether or not there is space for it.
  */
 
 /*
@@ -220,6 +225,36 @@ uint32_t teluddru_plan(const uint32_t *nodes, size_t nodes_length,
                        uint32_t first, uint32_t second, uint32_t key, uint32_t version,
                        uint32_t *plan, size_t plan_length,
                        uint32_t *answer, size_t answer_length);
+
+/*
+ * Plans a rule body: 1 to 64 lines, one after the other, at v0; what a line's plan binds is bound in the scope before the
+ * next. A line is four words: its operation (TELUDDRU_COLON_EQUALS, TELUDDRU_EQUALS, TELUDDRU_SOME_IN or TELUDDRU_INDEX),
+ * then first, second and key as of teluddru_plan.
+ *
+ * A planned line's value sides are searched for names that have no value yet: the right of `:=`; of `=` the side that does
+ * not bind, the value side of each pair, both sides where none binds, the side beside `_`; a collection. Then its plan's
+ * computed keys. The search goes through arrays, sets and objects, keys included, and passes over `_`. The first name
+ * that is neither known at the start nor bound by an earlier line or pair is refused with TELUDDRU_NAME_NOT_READY.
+ *
+ * Refusals in order: TELUDDRU_LAYOUT_BROKEN (the scheduler), TELUDDRU_NOT_A_BODY, then each line's as of teluddru_plan,
+ * those of the table check with the first line, and TELUDDRU_NAME_NOT_READY after the others of its line.
+ *
+ * The plan is that of the last line; it has to have space for each line's in turn. If the call is refused, it is zeros.
+ * The marks are read as by teluddru_plan; after an accepted body they are those of the scope then, as far as there is
+ * space (128 at most), and otherwise unchanged. The answer is five words: four as of teluddru_plan, of the last line or
+ * of the refused one, then the refused line, from 1; the fifth is 0 where the body is accepted, and for
+ * TELUDDRU_LAYOUT_BROKEN and TELUDDRU_NOT_A_BODY.
+ */
+uint32_t teluddru_plan_body(const uint32_t *nodes, size_t nodes_length,
+                            const uint32_t *children, size_t children_length,
+                            const uint64_t *numbers, size_t numbers_length,
+                            const uint32_t *names, size_t names_length,
+                            const uint8_t *strings, size_t strings_length,
+                            const uint8_t *text, size_t text_length,
+                            uint8_t *marks, size_t marks_length,
+                            uint32_t scheduler, const uint32_t *lines, size_t lines_length,
+                            uint32_t *plan, size_t plan_length,
+                            uint32_t *answer, size_t answer_length);
 
 /*
  * Plans a pattern and carries the plan out on a value. The values have for each name number the node

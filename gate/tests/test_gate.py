@@ -11,7 +11,11 @@ import unittest
 SCRIPT = pathlib.Path(__file__).resolve().parent.parent.parent / "test"
 GREEN = "echo proving; echo '3 passed, 0 failed'"
 RED = "echo '2 passed, 1 failed'; exit 1"
-COMPARED = "compared 20000 with target/staticlib/libsheet.a"
+# The comparisons by running, with how many cases each, and the libraries that they are given.
+COMPARISONS = {"compare": 20000, "bodies": 5000}
+LIBRARIES = ("PLAN_SHEET_LIBRARY", "RUN_LIBRARY")
+GIVEN = " ".join(f"$(basename ${name})" for name in LIBRARIES)
+COMPARED = [f"{name} {count} with libsheet.a libc_calls.a" for name, count in COMPARISONS.items()]
 CHECKED = "checked by target/tools/libteluddru.so: tools/trials.rules"
 MEASURED = "stack measured with target/examples/prefix/lib/libteluddru.a"
 UNITTEST = """\
@@ -44,7 +48,8 @@ class Gate(unittest.TestCase):
         self.command("tools/plan_rule", 'echo "checked by $2: $4"')
         self.command("examples/run", "echo example run")
         self.command("examples/stack", 'echo "stack measured with $TELUDDRU_LIBRARY"')
-        self.command("oracle/compare", 'echo "compared $1 with $PLAN_SHEET_LIBRARY"')
+        for name in COMPARISONS:
+            self.command(f"oracle/{name}", f'echo "{name} $1 with {GIVEN}"')
         self.command("../bin/rt", GREEN)
         self.command("../bin/cargo", "exit 1")
         (self.outside / "bin/python3").symlink_to(sys.executable)
@@ -76,7 +81,7 @@ class Gate(unittest.TestCase):
         self.assertEqual((status, lines[-1]), (0, "3 passed, 0 failed"))
         for line in ("proving", "mistakes read", "order read", "imports read", "library built", CHECKED):
             self.assertIn(line, lines)
-        for line in ("example run", MEASURED, COMPARED):
+        for line in ("example run", MEASURED, *COMPARED):
             self.assertIn(line, lines)
         self.assertFalse([line for line in lines if line.startswith(("failed", "not run"))])
 
@@ -84,7 +89,7 @@ class Gate(unittest.TestCase):
         status, lines = self.gate()
         self.assertEqual((status, lines[-1]), (0, "3 passed, 0 failed"))
         self.assertEqual(len([line for line in lines if line.startswith("not run: oracle/compare 20000")]), 1)
-        self.assertNotIn(COMPARED, lines)
+        self.assertFalse(set(COMPARED) & set(lines))
 
     def test_each_part_that_fails_is_one_failed(self):
         self.sources()
@@ -98,8 +103,8 @@ class Gate(unittest.TestCase):
             "tools/test_tools.py": UNITTEST.format(planners={}),
             "examples/run": "#!/bin/sh\nexit 3\n",
             "examples/stack": "#!/bin/sh\nexit 1\n",
-            "oracle/compare": "#!/bin/sh\nexit 1\n",
         }
+        parts |= {f"oracle/{name}": "#!/bin/sh\nexit 1\n" for name in COMPARISONS}
         for path, text in parts.items():
             with self.subTest(path=path):
                 before = (self.root / path).read_text()

@@ -1,6 +1,7 @@
 //! The published Rust planner behind the sheets of document 01, and what is compared with it.
 
 pub mod answer;
+pub mod bodies;
 #[cfg(run_linked)]
 mod c_calls;
 pub mod comparison;

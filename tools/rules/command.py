@@ -8,6 +8,8 @@ from contextlib import suppress
 from pathlib import Path
 
 from rules.answer import Answer, Planner, ask, refused_by_careful_alone
+from rules.body.command import body_said
+from rules.body.lines import BodyTextError
 from rules.check.command import check_said
 from rules.no_answer import NoAnswer
 from rules.options import command_parser, planner_of, question_of
@@ -55,12 +57,18 @@ def said(arguments: list[str]) -> int:
         check_usage(options)
         if options.check is not None:
             return check_status(options)
+        if options.body is not None:
+            return body_status(options)
         question = question_of(options, rule_bytes(options.rule))
         if options.sheet:
             return sheet_said(question)
         planner = planner_of(options)
         answer = ask(question, planner)
         words = json_line(answer, planner) if options.json else in_words(answer, planner)
+    except BodyTextError as error:
+        where = f"{options.body}:{error.number}: bad {error.what}: {error}"
+        complain(f"{where}\n{marked(error.text, error.start, error.end)}")
+        return NO_ANSWER
     except RuleTextError as error:
         complain(f"bad {error.what}: {error}\n{marked(error.text, error.start, error.end)}")
         return NO_ANSWER
@@ -77,10 +85,17 @@ def said(arguments: list[str]) -> int:
 def check_usage(options: argparse.Namespace) -> None:
     """A rule or a file of rules is asked for, which has its options in it."""
     if options.check is None:
-        if options.rule is None:
-            raise NoAnswer("a rule is asked for, or a file of rules: --check FILE (see --help)")
         if options.html is not None:
             raise NoAnswer("--html FILE goes with --check FILE")
+        if options.body is None and options.rule is None:
+            raise NoAnswer(
+                "a rule is asked for, or a file of rules: --check FILE, or a rule body: --body FILE"
+                " (see --help)"
+            )
+        if options.body is not None and (options.rule is not None or options.sheet):
+            raise NoAnswer("--body FILE goes without a rule and without --sheet")
+    elif options.body is not None:
+        raise NoAnswer("--check FILE goes without --body FILE")
     elif options.rule is not None or options.sheet or question_of(options, b"") != Question(b""):
         raise NoAnswer("--check FILE goes without a rule and its options: these stand in the file")
 
@@ -95,6 +110,12 @@ def check_status(options: argparse.Namespace) -> int:
     if tally.unreadable:
         return NO_ANSWER
     return BAD if tally.differ else GOOD
+
+
+def body_status(options: argparse.Namespace) -> int:
+    """Plans a rule body."""
+    content = standard_input() if options.body == STANDARD_INPUT else file_bytes(options.body)
+    return GOOD if body_said(content, options, planner_of(options)) else BAD
 
 
 def complain(message: str) -> None:

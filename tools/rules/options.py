@@ -69,6 +69,10 @@ files of rules:
   refused 13, match, match w=18, no match, .. A line that begins with -- has
   options for those that follow; tools/README.md has all of it.
 
+rule bodies:
+  a line of rule text a line; an expression alone is an index. Blank lines and
+  comments are passed over. What a line binds is bound for those below it.
+
 exit status:
   0 planned, matched, or nothing differs; 1 refused, no match, or something
   differs; 2 no answer (rule text, usage, no library, a line that can't be read,
@@ -166,6 +170,12 @@ def add_check_options(parser: argparse.ArgumentParser) -> None:
         " - is standard input",
     )
     parser.add_argument("--html", metavar="FILE", help="with --check: write a page for a browser")
+    parser.add_argument(
+        "--body",
+        metavar="FILE",
+        help="plan a rule body, a line of rule text a line: each line's plan, or the first name"
+        " that has no value yet; - is standard input",
+    )
 
 
 def add_question_options(parser: argparse.ArgumentParser) -> None:

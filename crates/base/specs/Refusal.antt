@@ -89,6 +89,13 @@ pageBufferTooShort = refusal 30 refl 0 0 0
 abbrev pub reservedName : ℕ → Refusal
 reservedName name = refusal 31 refl name 0 0
 
+-- rule bodies
+abbrev pub notABody : Refusal
+notABody = refusal 37 refl 0 0 0
+
+abbrev pub nameNotReady : ℕ → Refusal
+nameNotReady name = refusal 38 refl name 0 0
+
 -- An answer's four numbers: 0, form, side, entries; or a refusal's number, place, two counts.
 pub record Line : Type 0 where
   pub number : ℕ

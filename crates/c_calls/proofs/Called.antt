@@ -80,7 +80,7 @@ pub report-fits :
 report-fits T s mode root {before = before} done is = subst ShortLine (sym (is ∙ done .answer)) (report-short T s root before)
 
 -- what comes before the operation
-no-refusal : (t : Tested) → line 0 0 0 0 ≡ testedLine t → t ≡ passed
+pub no-refusal : (t : Tested) → line 0 0 0 0 ≡ testedLine t → t ≡ passed
 no-refusal passed e = refl
 no-refusal (refused r) e =
     let zero : r .number ≡ 0 = sym (ap (λ (l : Line). l .number) e) in

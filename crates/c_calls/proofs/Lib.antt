@@ -2,3 +2,4 @@ pub mod Scopes
 pub mod Rows
 pub mod Shortness
 pub mod Called
+pub mod BodyCalls

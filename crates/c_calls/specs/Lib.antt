@@ -1,2 +1,3 @@
 pub mod Given
 pub mod Calls
+pub mod Bodies

@@ -61,7 +61,7 @@ pub(crate) fn pattern_numbers(scheduler: u32, scoping: u32, pattern: u32) -> Ope
 }
 
 // The number of a conversion's refusal, or 0.
-fn conversion_number(made: ConversionAnswer) -> u32
+pub(crate) fn conversion_number(made: ConversionAnswer) -> u32
     ensures { λ r. ⌜ r ≡ testedLine (conversionOf made) .number ⌝ }
 {
     match made {

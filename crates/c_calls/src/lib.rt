@@ -1,5 +1,6 @@
 // The calls for a C host over lent tables: marks as bytes, all else as numbers, the answer's four numbers in lent words.
 mod answer;
+pub mod bodies;
 mod given;
 pub mod planning;
 pub mod reporting;

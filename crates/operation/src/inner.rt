@@ -7,7 +7,7 @@ ghost use Rattle.operation.specs.Rows.{rowLine, Told};
 use crate::row::Row;
 
 // A word, if there is a place for it.
-fn put_word(words: &mut [u32], i: usize, word: u32)
+pub fn put_word(words: &mut [u32], i: usize, word: u32)
     ensures { λ _. ⌜ new words ≡ set (old words) i word ⌝ }
 {
     if words.len() <= i {

@@ -2,7 +2,7 @@
 use Prim.Native.Nat.{ℕ, _/_, _<_}
 use mathlib.Core.Path.{_≡_, refl, sym, _∙_, ap, subst}
 use mathlib.Core.Bool.{Bool, true, false}
-use mathlib.Core.List.{List}
+use mathlib.Core.List.{List, [], _∷_}
 use lib.Dec.{eqb}
 use lib.ListN.{length}
 use Rattle.scope.specs.declared.Scope.{Scope}
@@ -13,9 +13,12 @@ use Rattle.table.specs.Check.{checked}
 use Rattle.table.specs.Decode.{expr}
 use Rattle.planner.specs.declared.PlanAnswer.{PlanAnswer}
 use Rattle.base.specs.Refusal as Refusal
-use Rattle.base.specs.Refusal.{Refusal, overLimit}
+use Rattle.base.specs.Refusal.{Refusal, overLimit, notABody, requireOr}
 use Rattle.planner.specs.Operations as Plan
 use Rattle.planner.specs.Operations.{Outcome, Answered}
+use Rattle.body.specs.declared.BodyPlanned.{BodyPlanned}
+use Rattle.body.specs.Lines.{isBody, operationsOf}
+use Rattle.body.specs.Body.{BodyOutcome, refusedAt, lineOutcome, bodyFrom, noPlan, bodyOutcome, BodyAnswered}
 use Rattle.report.specs.declared.ReportAnswer.{ReportAnswer}
 use Rattle.report.specs.Report as Report
 use Rattle.report.specs.Report.{ReportOutcome, reportOutcome, reportAnswer, reportList, ReportedBy}
@@ -50,6 +53,17 @@ sets-none : (names names′ : ℕ → Bool) {a : Refusal} {values buffer valuesE
 unfolding valuesAfter
 sets-none names names′ ran = record { answer = ran .answer; plan = ran .plan; list = ran .list }
 
+-- a body is refused at its first line
+module _ (T T′ : Tables) (s : Scope) (buffer : List ℕ) (e : checked T s ≡ Refusal.refused overLimit) (e′ : checked T′ s ≡ Refusal.refused overLimit) where
+  lines-same : (lines : List Operation) → bodyFrom T buffer 1 s noPlan lines ≡ bodyFrom T′ buffer 1 s noPlan lines
+  unfolding bodyFrom lineOutcome
+  lines-same [] = refl
+  lines-same (o ∷ os) = simp (table-refused T s o e, table-refused T′ s o e′)
+
+  body-same : (words : List ℕ) → bodyOutcome T s words buffer ≡ bodyOutcome T′ s words buffer
+  unfolding bodyOutcome
+  body-same words = ap (requireOr (refusedAt 0) (isBody words) notABody) (lines-same (operationsOf words))
+
 -- ---- tables over names
 module _ (over : List ℕ → Tables) (counts : (names : List ℕ) → nameCount (over names) ≡ length names / 2) (s : Scope) where
   too-many : (names : List ℕ) → 128 < length names / 2 → checked (over names) s ≡ Refusal.refused overLimit
@@ -61,6 +75,12 @@ module _ (over : List ℕ → Tables) (counts : (names : List ℕ) → nameCount
       as-all (λ ws. Answered (versionOutcome (over ws) s version operation) before later r)
       (λ ws ws′ l l′. subst (λ (o : Outcome). Answered o before later r) (plan-refused (over ws) s version operation (too-many ws l) ∙ sym (plan-refused (over ws′) s version operation (too-many ws′ l′))))
       ns names copied
+
+  pub body-all : (words : List ℕ) (ns : List Name) (names : NameWords) → Copied ns names → {before later : List ℕ} {r : BodyPlanned}
+      → BodyAnswered (bodyOutcome (over (held names)) s words before) s before later r → BodyAnswered (bodyOutcome (over (nameWords ns)) s words before) s before later r
+  body-all words ns names copied {before} {later} {r} =
+      as-all (λ ws. BodyAnswered (bodyOutcome (over ws) s words before) s before later r)
+      (λ ws ws′ l l′. subst (λ (o : BodyOutcome). BodyAnswered o s before later r) (body-same (over ws) (over ws′) s before (too-many ws l) (too-many ws′ l′) words)) ns names copied
 
   module _ (mode : ScopingMode) (pattern : ℕ) where
     abbrev toSet : List ℕ → ℕ → Bool

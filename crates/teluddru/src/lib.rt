@@ -1,19 +1,24 @@
 // The library's calls for a caller in Rattle: names are a lent table of records.
+mod bodies;
 mod plans;
 mod records;
 mod reports;
 mod runs;
 
+use crate::bodies::body_words;
 use crate::plans::plan_words;
 use crate::records::copy_names;
 use crate::reports::report_words;
 use crate::runs::run_words;
+use body::BodyPlanned;
 use operation::Operation;
 use planner::PlanAnswer;
 use report::ReportAnswer;
 use run::RunAnswer;
 use scope::Scope;
 use scope::ScopingMode;
+ghost use Rattle.base.specs.Lent.{old};
+ghost use Rattle.body.specs.Body.{bodyOutcome, BodyAnsweredIn};
 ghost use Rattle.planner.specs.Operations.{AnsweredIn};
 ghost use Rattle.report.specs.Report.{ReportedIn};
 ghost use Rattle.run.specs.Operations.{RanIn};
@@ -51,6 +56,33 @@ pub fn plan<'a>(
         scope,
         operation,
         version,
+        plan,
+    )
+}
+
+// Plans a body's lines in turn. The plan buffer then holds the last line's plan; a refusal leaves it all zeros and returns the scope as given.
+pub fn plan_body<'a>(
+    nodes: &[u32],
+    children: &[u32],
+    numbers: &[u64],
+    names: &[Name],
+    strings: &'a [u8],
+    text: &'a [u8],
+    scope: Scope,
+    lines: &[u32],
+    plan: &mut [u32],
+) -> BodyPlanned
+    ensures { λ r. ⌜ BodyAnsweredIn plan scope (bodyOutcome (lentRecords nodes children numbers names strings text) scope (old lines) (old plan)) r ⌝ }
+{
+    body_words(
+        nodes,
+        children,
+        numbers,
+        copy_names(names),
+        strings,
+        text,
+        scope,
+        lines,
         plan,
     )
 }

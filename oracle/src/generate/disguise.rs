@@ -3,15 +3,17 @@
 use super::random::Random;
 use crate::sheets::draft::{Draft, COUNT, END, FIRST, KIND, START};
 
-pub fn disguise(random: &mut Random, draft: &mut Draft) {
+/// Gives the new number of each node, with 0 for 0.
+pub fn disguise(random: &mut Random, draft: &mut Draft) -> Vec<u32> {
     add_spares(random, draft);
-    renumber_nodes(random, draft);
+    let numbers = renumber_nodes(random, draft);
     move_children(random, draft);
     renumber_names(random, draft);
     renumber_numbers(random, draft);
     move_bytes(random, draft);
     move_strings(random, draft);
     move_spans(random, draft);
+    numbers
 }
 
 /// Nodes that no root reaches.
@@ -24,7 +26,7 @@ fn add_spares(random: &mut Random, draft: &mut Draft) {
 }
 
 /// A random order in which children stand below their parents.
-fn renumber_nodes(random: &mut Random, draft: &mut Draft) {
+fn renumber_nodes(random: &mut Random, draft: &mut Draft) -> Vec<u32> {
     let mut order: Vec<u32> = Vec::new();
     let parents = parents(draft);
     let mut waits: Vec<usize> = draft.nodes.iter().map(Draft::width).collect();
@@ -42,6 +44,7 @@ fn renumber_nodes(random: &mut Random, draft: &mut Draft) {
     draft.nodes = order.iter().map(|&node| draft.nodes[node as usize]).collect();
     draft.children.iter_mut().for_each(|child| *child = numbers[*child as usize]);
     draft.roots = draft.roots.map(|root| numbers[root as usize]);
+    numbers
 }
 
 /// The place of each node's parent.

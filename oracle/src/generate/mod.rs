@@ -9,7 +9,7 @@ mod grow;
 mod mutate;
 mod palette;
 mod random;
-mod rules;
+pub(crate) mod rules;
 pub(crate) mod structures;
 
 use crate::sheets::draft::Draft;

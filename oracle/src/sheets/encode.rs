@@ -18,6 +18,25 @@ pub fn encode(rule: &Rule) -> Draft {
     encoder.draft
 }
 
+/// The lines of a rule body in one draft: the operation and three roots of each. Names are marked
+/// by the first line's scope.
+pub fn encode_lines(rules: &[Rule]) -> (Draft, Vec<[u32; 4]>) {
+    let mut encoder = Encoder { draft: Draft::default(), names: Vec::new() };
+    let mut lines = Vec::new();
+    for rule in rules {
+        encoder.draft.roots = [0; 3];
+        encoder.rule(rule);
+        encoder.write("\n");
+        let [first, second, key] = encoder.draft.roots;
+        lines.push([rule.operation as u32, first, second, key]);
+    }
+    encoder.draft.roots = [0; 3];
+    if let Some(rule) = rules.first() {
+        encoder.names(rule);
+    }
+    (encoder.draft, lines)
+}
+
 struct Encoder {
     draft: Draft,
     names: Vec<String>,

@@ -7,6 +7,6 @@ mod parse;
 mod tree;
 
 pub use draft::Draft;
-pub use encode::encode;
+pub use encode::{encode, encode_lines};
 pub use parse::rule;
 pub use tree::{Operation, Rule, Tree};

@@ -25,6 +25,7 @@ BYTE = "B"
 LENT = [ctypes.c_void_p, ctypes.c_size_t]
 TABLES = 7
 NO_MATCH = 100
+BODY_COLUMNS = 5
 # A range that is empty has an address too.
 NOTHING = array(LONG, [0])
 
@@ -35,6 +36,14 @@ class Ran(NamedTuple):
     answer: list[int]
     entries: list[Entry]
     values: list[int]
+
+
+class BodyAnswer(NamedTuple):
+    """The last line's plan, or a refusal, with its line from 1, or 0; the marks afterwards."""
+
+    outcome: Plan | Refusal
+    line: int
+    marks: list[int]
 
 
 class Library:
@@ -53,6 +62,7 @@ class Library:
             calls = ctypes.CDLL(str(path.resolve()))
             self.plan_call = called(calls.teluddru_plan, 7, 2)
             self.run_call = called(calls.teluddru_run, 4, 3)
+            self.body_call = body_called(calls.teluddru_plan_body)
         except (OSError, AttributeError) as error:
             raise NoAnswer(f"{path} can't be called: {error}") from None
         self.entries = array(WORD)
@@ -82,6 +92,21 @@ class Library:
             return Ran(head, read_entries(found, len(sheet.nodes)), values.tolist())
         except ListingError as error:
             raise NoAnswer(f"the run's plan of {self.path} can't be read: {error}") from None
+
+    def plan_body(self, sheet: Sheet, lines: list[list[int]], entries: int) -> BodyAnswer:
+        """Plans lines of four words each, with the tables and the scope of the sheet."""
+        *tables, _, _ = self.lend(sheet)
+        marks = array(BYTE, [name.marks for name in sheet.names.values()])
+        words = array(WORD, chain.from_iterable(lines))
+        answer = array(WORD, [0] * BODY_COLUMNS)
+        lent = (*tables, *address(marks), sheet.scope.scheduler, *address(words))
+        self.body_call(*lent, *self.space(entries), *address(answer))
+        *head, line = answer.tolist()
+        try:
+            rows = self.rows(head[3] if head[0] == 0 else 0)
+            return BodyAnswer(read_answer(head, rows, len(sheet.nodes)), line, marks.tolist())
+        except ListingError as error:
+            raise NoAnswer(f"the plan of {self.path} can't be read: {error}") from None
 
     def lend(self, sheet: Sheet) -> list[int]:
         if self.tables is None or self.tables.sheet is not sheet:
@@ -128,6 +153,13 @@ class Tables:
 def called(call: ctypes._CFuncPtr, numbers: int, written: int) -> ctypes._CFuncPtr:
     """A call of the tables, so many numbers and so many ranges that are written."""
     call.argtypes = LENT * TABLES + [ctypes.c_uint32] * numbers + LENT * written
+    call.restype = ctypes.c_uint32
+    return call
+
+
+def body_called(call: ctypes._CFuncPtr) -> ctypes._CFuncPtr:
+    """The tables, the scheduler, the lines, and the two ranges that are written."""
+    call.argtypes = LENT * TABLES + [ctypes.c_uint32] + LENT * 3
     call.restype = ctypes.c_uint32
     return call
 

@@ -160,6 +160,12 @@ class Writer:
         self.name_numbers: dict[bytes, int] = {}
         self.part = sheet.parts[0]
 
+    def line(self, part: Part, rule: Rule) -> Part:
+        """A line of a rule body, as a part more."""
+        self.begin(part)
+        self.rule(rule)
+        return part
+
     def rule(self, rule: Rule) -> None:
         if len(rule.text) > LARGEST:
             message = f"a sheet has no column for more than {LARGEST} bytes"
@@ -181,10 +187,13 @@ class Writer:
         return len(self.sheet.text) + 1
 
     def more(self, part: Part, expression: Expression) -> int:
+        self.begin(part)
+        return self.node(expression)
+
+    def begin(self, part: Part) -> None:
         self.part = part
         self.sheet.parts.append(part)
         self.sheet.text += b"\n" + part.text
-        return self.node(expression)
 
     def root(self, expression: Expression | None) -> int:
         return self.node(expression) if expression else 0

@@ -125,6 +125,12 @@ MEANINGS = {
         "Rego v1 reserves `input` and `data`, which no rule may give a value",
         "the name",
     ),
+    37: Meaning("not a body", "a rule body has 1 to 64 lines"),
+    38: Meaning(
+        "name not ready",
+        "a name is read here that is neither known nor bound by an earlier line or pair",
+        "the name",
+    ),
 }
 
 

@@ -1,7 +1,7 @@
 -- Names that this very scope has bound, found among the entries of a scratch.
 use Prim.Native.Nat.{ℕ, zero, suc, _+_, _-_, _*_, _/_, _≤_, _<_}
 use mathlib.Core.Path.{_≡_, refl, sym, ap, _∙_}
-use mathlib.Core.List.{List, _∷_, []}
+use mathlib.Core.List.{List, _∷_}
 use mathlib.Core.Bool.{Bool, true, false}
 use native.Mathlib.Omega.{arith}
 use borrow.Author.Tests.{ne-eqb}
@@ -13,17 +13,9 @@ use Rattle.scope.specs.Scope.{sameScope, asked, questionOf}
 use Rattle.scope.proofs.Laws.{says-yes, says-no, says-outside}
 use Rattle.table.specs.Tables.{firstOf}
 use Rattle.planner.specs.Entries.{entryAt, readEntries}
+use Rattle.planner.proofs.buffer.ReadBack.{read-step, read-end}
 use Rattle.assignment.specs.Assignment.{bindsAgain, firstSameScope}
 use Rattle.planner.specs.Layout.{Entry, entryWords, bindsAny}
-
--- entries read back from a scratch
-pub read-step : (scratch : List ℕ) (i k : ℕ) → i < k → readEntries scratch i (k - i) ≡ entryAt scratch i ∷ readEntries scratch (i + 1) (k - (i + 1))
-unfolding readEntries
-read-step scratch i k lt = let a : k - i ≡ suc (k - (i + 1)) = omega arith in ap (λ (n : ℕ). readEntries scratch i n) a
-
-pub read-end : (scratch : List ℕ) (i k : ℕ) → k ≤ i → readEntries scratch i (k - i) ≡ []
-unfolding readEntries
-read-end scratch i k le = let a : k - i ≡ 0 = omega arith in rw a
 
 -- the entries in turn: those that are left say the same as all of them
 pub record Scanning {A : Type 0} (f : List Entry → A) (scratch : List ℕ) (k i : ℕ) : Type 0 where

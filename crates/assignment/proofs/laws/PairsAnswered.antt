@@ -1,11 +1,10 @@
 -- The pairs of two simple sides of a table, as they are answered.
-use Prim.Native.Nat.{ℕ, _+_, _*_}
-use mathlib.Core.Path.{_≡_, refl, sym, ap, _∙_}
-use mathlib.Core.Bool.{Bool, true, false, cond, not, _&&_, false≢true}
-use mathlib.Core.List.{List, [], _∷_, _++_}
+use Prim.Native.Nat.{ℕ}
+use mathlib.Core.Path.{_≡_, refl, ap, subst}
+use mathlib.Core.Bool.{Bool, true, false, cond, not, _&&_}
+use mathlib.Core.List.{List, [], _∷_}
 use native.Mathlib.Omega.{arith}
 use lib.Dec.{eqb}
-use lib.ListN.{length, drop, List·getD-append}
 use Rattle.scope.specs.declared.Scope.{Scope}
 use Rattle.scope.specs.declared.ScopingMode.the-variants.{RespectParent}
 use Rattle.table.specs.Tables.{Tables, isNode}
@@ -16,13 +15,12 @@ use Rattle.table.specs.code.Sound.{Node, WellFormed}
 use Rattle.table.proofs.tests.Bools.{and-true}
 use Rattle.table.proofs.trees.Facts.{sound-table}
 use Rattle.planner.specs.declared.PlanAnswer.the-variants.{Planned}
-use Rattle.base.specs.Refusal.{rootOutside, planTooLarge, incompatibleDestructuringPatterns, Line, line, refusalLine, Tested}
-use Rattle.planner.specs.Layout.{Entry, top, entryWords, entries, words, bindsAny}
+use Rattle.base.specs.Refusal.{rootOutside, incompatibleDestructuringPatterns, Tested}
+use Rattle.planner.specs.Layout.{Entry, top, entries, bindsAny}
 use Rattle.planner.specs.Simple.{simple}
-use Rattle.planner.specs.Operations.{Outcome, refused, planned, fits, zeros, answered, written, Answered, require, tableFirst, planOf}
+use Rattle.planner.specs.Operations.{Outcome, planned, Answered, require, tableFirst, planOf}
 use Rattle.planner.specs.Entries.{readEntries}
-use Rattle.planner.proofs.buffer.Written.{length-words}
-use Rattle.planner.proofs.buffer.ReadBack.{read-words}
+use Rattle.planner.proofs.buffer.ReadBack.{read-back}
 use Rattle.planner.proofs.laws.Operations.{root-node}
 use Rattle.checks.specs.declared.LiteralStructureCheck.{LiteralStructureCheck}
 use Rattle.checks.specs.declared.LiteralStructureCheck.the-variants.{Match, Unknown, ArrayMismatch, ObjectMismatch}
@@ -74,17 +72,7 @@ module _ (T : Tables) (s : Scope) where
         go (Refusal.refused r) e = tt
 
     buffer-keeps : (o : Outcome) → Keeps T s o → (before after : List ℕ) (side count : ℕ) → Answered o before after (Planned 4 side count) → EntriesPromise T s (readEntries after 0 count)
-    unfolding answered written
-    buffer-keeps (refused a) k before after side count r = absurd (false≢true (sym (a .refuses) ∙ ap (λ (l : Line). eqb (l .number) 0) (sym (r .answer))))
-    buffer-keeps (planned form other es) k before after side count r = go (fits es before) (r .answer) (r .buffer)
-      where
-        go : (b : Bool) → line 0 4 side count ≡ cond b (line 0 form other (length es)) (refusalLine (planTooLarge (length es))) → after ≡ cond b (words es ++ drop (entryWords * length es) (zeros before)) (zeros before) → EntriesPromise T s (readEntries after 0 count)
-        go true a e =
-            let f : form ≡ 4 = ap (λ (l : Line). l .second) (sym a) in
-            let n : count ≡ length es = ap (λ (l : Line). l .fourth) a in
-            let long = length-words es in
-            rw n (rw (read-words es after 0 (λ j lt. let z : 0 * entryWords + j ≡ j = omega arith in rw (z, e) (List·getD-append (words es) (drop (entryWords * length es) (zeros before)) 0 j (omega arith)))) (k f))
-        go false a e = let z : _≡_ {A = ℕ} 0 6 = ap (λ (l : Line). l .number) a in absurd (omega arith)
+    buffer-keeps o k before after side count r = (subst (Keeps T s) (read-back o r .is) k) refl
 
     pub answer-promise : AnswerPromise T s left right
     answer-promise = record {

@@ -2,16 +2,18 @@
 use Prim.Native.Nat.{ℕ, zero, suc, _+_, _-_, _*_, _/_, _≤_, _<_}
 use mathlib.Core.Path.{_≡_, refl, sym, ap, _∙_}
 use mathlib.Core.List.{List, [], _∷_, _++_}
-use mathlib.Core.Bool.{Bool, true, false}
+use mathlib.Core.Bool.{Bool, true, false, cond, false≢true}
 use native.Mathlib.Omega.{arith}
 use borrow.Author.Tests.{leb-true, ltb-true, ltb-false}
-use lib.Dec.{leb, ltb}
+use lib.Dec.{eqb, leb, ltb}
 use lib.ListN.{length, getD, drop, replicate, length-replicate, getD-replicate, length-append, length-drop, List·getD-append}
 use lib.Seq.{sets-eq, length-sets, ext-getD, getD-append-add, getD-drop}
+use Rattle.base.specs.Refusal.{Line, line, refusalLine, planTooLarge}
 use Rattle.planner.specs.declared.PlanAnswer.{PlanAnswer}
+use Rattle.planner.specs.declared.PlanAnswer.the-variants.{Planned}
 use Rattle.planner.specs.Layout.{Entry, entryWords, words}
-use Rattle.planner.specs.Entries.{readEntries, Closed, wordAt}
-use Rattle.planner.specs.Operations.{planned, answered, written, Answered}
+use Rattle.planner.specs.Entries.{entryAt, readEntries, Closed, wordAt}
+use Rattle.planner.specs.Operations.{Outcome, refused, planned, space, fits, zeros, answered, written, Answered}
 use Rattle.base.specs.Lists.{tabulate}
 use Rattle.planner.specs.code.Post.{Laid}
 use Rattle.planner.proofs.buffer.Filling.{length-tabulate, getD-tabulate}
@@ -21,6 +23,15 @@ pub length-read : (scratch : List ℕ) (i k : ℕ) → length (readEntries scrat
 unfolding readEntries
 length-read scratch i zero = refl
 length-read scratch i (suc k) = ap suc (length-read scratch (i + 1) k)
+
+-- the entries that are left
+pub read-step : (scratch : List ℕ) (i k : ℕ) → i < k → readEntries scratch i (k - i) ≡ entryAt scratch i ∷ readEntries scratch (i + 1) (k - (i + 1))
+unfolding readEntries
+read-step scratch i k lt = let a : k - i ≡ suc (k - (i + 1)) = omega arith in ap (λ (n : ℕ). readEntries scratch i n) a
+
+pub read-end : (scratch : List ℕ) (i k : ℕ) → k ≤ i → readEntries scratch i (k - i) ≡ []
+unfolding readEntries
+read-end scratch i k le = let a : k - i ≡ 0 = omega arith in rw a
 
 add-five : (j : ℕ) → j + 5 ≡ suc (suc (suc (suc (suc j))))
 add-five j = omega arith
@@ -115,3 +126,42 @@ closed-read form {before} {later} {count} {r} d = go (leb count (length before /
       answer = rw size (d .answer);
       buffer = rw size (simp p (simp p at (d .buffer)));
     }
+
+-- a plan that was answered stands in the buffer
+pub record PlanRead (o : Outcome) (before after : List ℕ) (form which count : ℕ) : Type 0 where
+  pub is : o ≡ planned form which (readEntries after 0 count)
+  pub fit : fits (readEntries after 0 count) before ≡ true
+  pub held : count * entryWords ≤ length after
+
+pub read-back : (o : Outcome) {before after : List ℕ} {form which count : ℕ} → Answered o before after (Planned form which count) → PlanRead o before after form which count
+unfolding answered written
+read-back (refused r) a = absurd (false≢true (sym (r .refuses) ∙ ap (λ (l : Line). eqb (l .number) 0) (sym (a .answer))))
+read-back (planned f w es) {before} {after} {form} {which} {count} a = go (fits es before) refl (a .answer) (a .buffer)
+  where
+    go : (b : Bool) → fits es before ≡ b → line 0 form which count ≡ cond b (line 0 f w (length es)) (refusalLine (planTooLarge (length es)))
+        → after ≡ cond b (words es ++ drop (entryWords * length es) (zeros before)) (zeros before) → PlanRead (planned f w es) before after form which count
+    go true p l e =
+        let i : form ≡ f = ap (λ (q : Line). q .second) l in
+        let j : which ≡ w = ap (λ (q : Line). q .third) l in
+        let n : count ≡ length es = ap (λ (q : Line). q .fourth) l in
+        let long = length-words es in
+        let whole = ap length e ∙ length-append (words es) (drop (entryWords * length es) (zeros before)) in
+        let read : readEntries after 0 count ≡ es = rw n (read-words es after 0 (λ k lt. let z : 0 * entryWords + k ≡ k = omega arith in rw (z, e) (List·getD-append (words es) (drop (entryWords * length es) (zeros before)) 0 k (omega arith)))) in
+        record { is = rw (i, j, read) refl; fit = rw read p; held = omega arith }
+    go false p l e = let z : _≡_ {A = ℕ} 0 6 = ap (λ (q : Line). q .number) l in absurd (omega arith)
+
+-- what is written has the buffer's length
+pub written-long : (o : Outcome) (buffer : List ℕ) → length (written o buffer) ≡ length buffer
+unfolding written
+written-long (refused r) buffer = length-replicate (length buffer) 0
+written-long (planned form which es) buffer = go (fits es buffer) refl
+  where
+    go : (b : Bool) → fits es buffer ≡ b → length (cond b (words es ++ drop (entryWords * length es) (zeros buffer)) (zeros buffer)) ≡ length buffer
+    go true p =
+        let room = leb-true (length es) (space buffer) p in
+        let long = length-words es in
+        let whole = length-append (words es) (drop (entryWords * length es) (zeros buffer)) in
+        let cut = length-drop (entryWords * length es) (zeros buffer) in
+        let zero = length-replicate {A = ℕ} (length buffer) 0 in
+        omega arith
+    go false p = length-replicate (length buffer) 0

@@ -25,7 +25,7 @@ use Rattle.planner.proofs.destructuring.Walking.{walk-fits, walk-on, wa
 
 -- P holds of every occurrence
 module _ (P : ℕ → ℕ → Type 0) where
-  unfoldable Each : List Occurrence → Type 0
+  unfoldable pub Each : List Occurrence → Type 0
   Each [] = Unit {0}
   Each (o ∷ os) = P (o .node) (o .name) × Each os
 
@@ -43,7 +43,7 @@ module _ (P : ℕ → ℕ → Type 0) where
     mutual
       unfolding occurrences AllNames Each
 
-      each-occurrence : (e : Expr) → AllNames P e → Each (occurrences sets keys e)
+      pub each-occurrence : (e : Expr) → AllNames P e → Each (occurrences sets keys e)
       each-occurrence (literal n l) h = tt
       each-occurrence (name n x) h = (h, tt)
       each-occurrence (wildcard n) h = tt
@@ -63,7 +63,7 @@ module _ (P : ℕ → ℕ → Type 0) where
           (each-append (occurrences sets keys v) (occurrencesFields sets keys fs) (each-occurrence v (h .1)) (each-occurrence-fields fs (h .2)))
 
 -- the first node
-abbrev IsNode : ℕ → ℕ → Type 0
+abbrev pub IsNode : ℕ → ℕ → Type 0
 IsNode n x = 1 ≤ n
 
 first-append : (bad : ℕ → Bool) (os ps : List Occurrence) → Each IsNode os → firstNode bad (os ++ ps) ≡ cond (eqb (firstNode bad os) 0) (firstNode bad ps) (firstNode bad os)
@@ -85,7 +85,7 @@ first-same bad worse (o ∷ os) h = let r = first-same bad worse os (h .1) in si
 
 -- of a table
 module _ (sets keys : Bool) (T : Tables) (w : WellFormed T) (n : ℕ) (v : Node T n) where
-  occurs-at : Each IsNode (occurrences sets keys (expr T n))
+  pub occurs-at : Each IsNode (occurrences sets keys (expr T n))
   occurs-at = each-occurrence IsNode sets keys (expr T n) (names-all T w IsNode (λ m z k named. z .low) n v)
 
   pub first-agree : (bad worse : ℕ → Bool) → ((x : ℕ) → Named T x → isWildcard T x ≡ false → bad x ≡ worse x) → firstNode bad (occurrences sets keys (expr T n)) ≡ firstNode worse (occurrences sets keys (expr T n))

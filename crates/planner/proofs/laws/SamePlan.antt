@@ -103,7 +103,7 @@ class-wild bs u = go (sameBytes bs underscoreBytes) refl (sameBytes bs inputByte
     go false p false q true = simp (p, q)
     go false p false q false = simp (p, q)
 
-class-unbound : (bs : List ℕ) (u : Bool) → sameBytes bs underscoreBytes ≡ false → eqb (stateBy (classOf bs) u) 1 ≡ u
+pub class-unbound : (bs : List ℕ) (u : Bool) → sameBytes bs underscoreBytes ≡ false → eqb (stateBy (classOf bs) u) 1 ≡ u
 unfolding classOf
 class-unbound bs u p = go (sameBytes bs inputBytes || sameBytes bs dataBytes) refl u
   where

@@ -1,6 +1,6 @@
 -- What a table that passed the check gives, rule by rule.
 use Prim.Native.Nat.{ℕ, _+_, _-_, _*_, _%_, _≤_, _<_}
-use mathlib.Core.Path.{_≡_, refl, sym, _∙_}
+use mathlib.Core.Path.{_≡_, refl, sym, ap, _∙_}
 use mathlib.Core.Bool.{Bool, true, false, _&&_, false≢true}
 use mathlib.Core.Option.{Option, some}
 use mathlib.Core.Option as Option
@@ -12,11 +12,12 @@ use Rattle.literal.specs.Literal.{Literal, null, boolean, number, string, isNum
 use Rattle.base.specs.Lists.{part, allFrom, noRepeat}
 use Rattle.literal.specs.Reading.{literalOf}
 use Rattle.scope.specs.declared.Scope.{Scope}
+use Rattle.scope.specs.Scope.{isUnderscore}
 use Rattle.base.specs.Refusal.{overLimit, breaksRules, tooDeep, equalNames}
 use Rattle.base.specs.Refusal as Refusal
 use Rattle.table.specs.Tables.{Tables, kindOf, startOf, endOf, firstOf, countOf, nodeCount, numberCount, nameCount, width, childAt, nameStart, nameLength, nameBytes}
 use Rattle.table.specs.Expr.{depth}
-use Rattle.table.specs.Decode.{expr, literalAt, literalNode, refOf}
+use Rattle.table.specs.Decode.{expr, literalAt, literalNode, refOf, isWildcard}
 use Rattle.table.specs.Names.{sameBytes}
 use Rattle.table.specs.Rules.{withinLimits, wholeRecords, inside, spanOk, nameTextOk, wordsOk, belowAt, childrenBelow, nodeOk, nodeOkAt, entryOk, usedPlaces, numberOk, nameOk, nameOkAt, scopeOk, followsRules, depthOkAt, shallow, differAt, newNameAt, namesDiffer}
 use Rattle.table.specs.Check.{checked}
@@ -294,6 +295,20 @@ module _ (T : Tables) (s : Scope) (ok : checked T s ≡ Refusal.passed) where
       let here : differAt T (y - 1) (x - 1) ≡ true = from-zero (differAt T (y - 1)) (y - 1) all (x - 1) (omega arith) in
       let no-more : sameBytes (nameBytes (T .names) (T .text) x) (nameBytes (T .names) (T .text) y) ≡ false = not-true _ (rw (a, b) at here) in
       false≢true (sym no-more ∙ equal-same-bytes _ _ e)
+
+  -- the scope's number of `_` is 0 or that of the name `_`
+  pub no-underscore : (x : ℕ) → 1 ≤ x → isWildcard T x ≡ false → isUnderscore s x ≡ false
+  unfolding isUnderscore scopeOk
+  no-underscore x low named = go (eqb x (s .underscore)) refl
+    where
+      go : (b : Bool) → eqb x (s .underscore) ≡ b → b ≡ false
+      go true p =
+          let e = eqb-true x (s .underscore) p in
+          let some-name : eqb (s .underscore) 0 ≡ false = ne-eqb (s .underscore) 0 (λ z. omega arith) in
+          let by = rw some-name at (followed T s (passed T s ok .rules) .scope) in
+          let wild : isWildcard T (s .underscore) ≡ true = and-true (leb (s .underscore) (nameCount T)) (isWildcard T (s .underscore)) by .1 in
+          absurd (false≢true (sym named ∙ (ap (isWildcard T) e ∙ wild)))
+      go false p = refl
 
   pub sound-table : SoundTable T
   sound-table = record {

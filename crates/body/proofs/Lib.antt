@@ -1,0 +1,9 @@
+pub mod Knowing
+pub mod Learning
+pub mod Searching
+pub mod PlanLoops
+pub mod SideCases
+pub mod LineSteps
+pub mod BodySteps
+pub mod Promised
+pub mod Shortness
