@@ -1,6 +1,7 @@
 /*
- * stack BYTES SHEET..: makes every call on each sheet (on its text and on its tables), on a thread whose
- * stack was painted, and prints how much of the stack each took. Exit status 1 if one took more than BYTES.
+ * stack BYTES SHEET..: makes every call on each sheet (on its text and on its tables), and those of the plan
+ * store, on a thread whose stack was painted, and prints how much of the stack each took. Exit status 1 if one
+ * took more than BYTES.
  */
 #define _XOPEN_SOURCE 700
 #include <pthread.h>
@@ -33,6 +34,7 @@ static uint32_t plan[TELUDDRU_PLAN_ENTRIES * TELUDDRU_ENTRY_WORDS];
 static uint32_t list[TELUDDRU_MOST_NAMES];
 static uint32_t answer[TELUDDRU_BODY_ANSWER_WORDS];
 static uint32_t body[2 * TELUDDRU_LINE_WORDS];
+static uint32_t store[TELUDDRU_STORE_WORDS];
 
 #define TABLES                                                                                              \
     nodes, counts[0] * TELUDDRU_NODE_WORDS, children, counts[1], numbers,                                    \
@@ -153,6 +155,49 @@ static const struct {
     void *(*call)(void *);
 } calls[] = {{"plan_sheet", call_sheet}, {"pages", call_pages}, {"plan", call_plan}, {"plan_body", call_body}, {"run", call_run}, {"names_report", call_report}};
 
+/* Eight packs, of which the last keeps a plan before the first does. */
+static void *call_set_up(void *unused) {
+    volatile uint8_t local = 0;
+    const uint32_t shares[TELUDDRU_MOST_PACKS] = {100, 100, 100, 100, 100, 100, 100, 100};
+    call_place = (uintptr_t)&local;
+    answer[0] = teluddru_store_set_up(store, LENGTH(store), shares, LENGTH(shares));
+    return unused;
+}
+
+static void *call_keep_last(void *unused) {
+    volatile uint8_t local = 0;
+    call_place = (uintptr_t)&local;
+    teluddru_store_keep(store, LENGTH(store), TELUDDRU_MOST_PACKS, plan, LENGTH(plan), 400, answer, LENGTH(answer));
+    return unused;
+}
+
+static void *call_keep_first(void *unused) {
+    volatile uint8_t local = 0;
+    call_place = (uintptr_t)&local;
+    teluddru_store_keep(store, LENGTH(store), 1, plan, LENGTH(plan), 400, answer, LENGTH(answer));
+    return unused;
+}
+
+static void *call_read(void *unused) {
+    volatile uint8_t local = 0;
+    uint32_t entry[TELUDDRU_ENTRY_WORDS];
+    call_place = (uintptr_t)&local;
+    answer[0] = teluddru_store_read(store, LENGTH(store), TELUDDRU_MOST_PACKS, 399, entry, LENGTH(entry));
+    return unused;
+}
+
+static void *call_empty(void *unused) {
+    volatile uint8_t local = 0;
+    call_place = (uintptr_t)&local;
+    answer[0] = teluddru_store_empty(store, LENGTH(store));
+    return unused;
+}
+
+static const struct {
+    const char *name;
+    void *(*call)(void *);
+} store_calls[] = {{"store_set_up", call_set_up}, {"store_keep", call_keep_last}, {"store_keep", call_keep_first}, {"store_read", call_read}, {"store_empty", call_empty}};
+
 /* The bytes of a painted stack that a call changed, counted from the call down. */
 static size_t stack_taken(uint8_t *stack, void *(*call)(void *)) {
     pthread_attr_t attributes;
@@ -191,6 +236,11 @@ int main(int count, char **arguments) {
             printf("%6zu  %6u  %-12s  %s\n", taken, (unsigned)answer[0], calls[one].name, slash ? slash + 1 : arguments[number]);
             most = taken > most ? taken : most;
         }
+    }
+    for (size_t one = 0; one < LENGTH(store_calls); one++) {
+        size_t taken = stack_taken(stack, store_calls[one].call);
+        printf("%6zu  %6u  %-12s  no sheet\n", taken, (unsigned)answer[0], store_calls[one].name);
+        most = taken > most ? taken : most;
     }
     printf("%6zu bytes at most; allowed are %zu\n", most, allowed);
     free(stack);

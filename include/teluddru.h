@@ -1,7 +1,7 @@
 /*
  * Teluddru: plans how the patterns of joinery rules take values apart. Four calls over tables that the
  * host lends (planning, a rule body, Run, the names report), and two over a sheet's text (its listing, its pages for
- * print).
+ * print). Four more are of a plan store, in which rule packs keep plans.
  *
  * What a call assumes. Of the words and bytes that it is lent: nothing. Whatever they are, a call
  * returns; what breaks a rule is refused. It reads and writes only the ranges that it is given, and
@@ -33,6 +33,11 @@ extern "C" {
 #define TELUDDRU_LISTING_BYTES 47641
 #define TELUDDRU_PAGES_BYTES 113880
 #define TELUDDRU_PLAN_ENTRIES 1536
+
+/* A plan store: its words, its entries, and the most packs that share it. */
+#define TELUDDRU_STORE_WORDS 7697
+#define TELUDDRU_STORE_ENTRIES 1536
+#define TELUDDRU_MOST_PACKS 8
 
 /* A page: lines, characters of a line, and bytes (each line ends in LF). */
 #define TELUDDRU_PAGE_LINES 60
@@ -126,6 +131,8 @@ enum teluddru_answer {
     TELUDDRU_PLANNED = 0,                   /* then form, side, entries */
     TELUDDRU_REPORTED = 0,
     TELUDDRU_PAGES = 0,                     /* then the number of pages, which may be 0 */
+    TELUDDRU_READY = 0,                     /* a store is set up, or emptied */
+    TELUDDRU_KEPT = 0,                      /* then the plan's place */
     TELUDDRU_MATCH = 0,
     TELUDDRU_NO_MATCH = 100,
     TELUDDRU_OVER_LIMIT = 1,
@@ -149,6 +156,8 @@ enum teluddru_answer {
     TELUDDRU_NAME_WITHOUT_VALUE = 23,       /* a known name of the pattern */
     TELUDDRU_PAGE_BUFFER_TOO_SHORT = 30,    /* the pages don't fit; after all other refusals */
     TELUDDRU_RESERVED_NAME = 31,            /* the name; planning for TELUDDRU_REGO_V1 alone */
+    TELUDDRU_SHARES_REFUSED = 34,           /* set-up: shares above 1,536 in all, more than eight packs, or words of another length */
+    TELUDDRU_STORE_REFUSED = 35,            /* keeping: no space, a plan that ends past its buffer, an unknown pack; words that are no store */
     TELUDDRU_NOT_A_BODY = 37,               /* words that are no lines of a rule body, or too few or many; teluddru_plan_body alone */
     TELUDDRU_NAME_NOT_READY = 38            /* the name, which has no value yet; teluddru_plan_body alone */
 };
@@ -288,6 +297,40 @@ uint32_t teluddru_names_report(const uint32_t *nodes, size_t nodes_length,
                                uint32_t scheduler, uint32_t scoping, uint32_t pattern,
                                uint32_t *list, size_t list_length,
                                uint32_t *answer, size_t answer_length);
+
+/*
+ * The plan store: TELUDDRU_STORE_ENTRIES entries that up to TELUDDRU_MOST_PACKS rule packs share, numbered
+ * from 1. Each pack has a reserved share, in entries; what no share covers is common. The store is
+ * TELUDDRU_STORE_WORDS words of the host's, which these calls alone understand and write; they may be
+ * copied. Words that these calls can't give, or of another length, are no store. A refusal leaves the store
+ * as it was.
+ *
+ * Sets up a store, whatever stood in its words: a share for each pack, no entries. Its result is
+ * TELUDDRU_READY or TELUDDRU_SHARES_REFUSED.
+ */
+uint32_t teluddru_store_set_up(uint32_t *store, size_t store_length,
+                               const uint32_t *shares, size_t shares_length);
+
+/*
+ * Keeps a plan, the first entries of a buffer, for a pack: exactly if the pack's free reserve, and then the
+ * free common part, can take all of them. The answer is four words, written as those of the calls over
+ * tables: TELUDDRU_KEPT and the plan's place, how many of its pack's entries stand before it, or
+ * TELUDDRU_STORE_REFUSED.
+ */
+uint32_t teluddru_store_keep(uint32_t *store, size_t store_length, uint32_t pack,
+                             const uint32_t *plan, size_t plan_length, uint32_t entries,
+                             uint32_t *answer, size_t answer_length);
+
+/*
+ * Reads a pack's entry by its place, so a plan's first by the plan's place: its five words, or zeros if
+ * there is none or this is no store. As many are written as there is space for; words past the fifth stay
+ * as they were. Its result is 0.
+ */
+uint32_t teluddru_store_read(const uint32_t *store, size_t store_length, uint32_t pack, uint32_t place,
+                             uint32_t *entry, size_t entry_length);
+
+/* Empties a store: all entries end, and no share. Its result is TELUDDRU_READY or TELUDDRU_STORE_REFUSED. */
+uint32_t teluddru_store_empty(uint32_t *store, size_t store_length);
 
 /*
  * Plans a sheet and writes its listing to the output. Returns the bytes written, or 0 with the output

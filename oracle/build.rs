@@ -1,5 +1,5 @@
-//! Links the static libraries of crates `sheet` and `c_calls` where PLAN_SHEET_LIBRARY and
-//! RUN_LIBRARY name them.
+//! Links the static libraries of crates `sheet`, `c_calls` and `store_calls` where
+//! PLAN_SHEET_LIBRARY, RUN_LIBRARY and STORE_LIBRARY name them.
 
 use std::env;
 use std::path::Path;
@@ -7,6 +7,7 @@ use std::path::Path;
 fn main() {
     link("PLAN_SHEET_LIBRARY", "linked");
     link("RUN_LIBRARY", "run_linked");
+    link("STORE_LIBRARY", "store_linked");
 }
 
 fn link(variable: &str, condition: &str) {

@@ -5,6 +5,7 @@
 //!     bench lowest N                  the lowest ratios among edges, N drawn sheets and N changed ones
 //!     bench count                     every job once, for callgrind
 //!     bench counted FOLDER [--write]  the table of what callgrind counted
+//!     bench store [--write]           what the calls of the plan store cost
 
 mod callgrind;
 mod counts;
@@ -13,6 +14,7 @@ mod inputs;
 mod jobs;
 mod lowest;
 mod report;
+mod store;
 mod times;
 
 use std::path::Path;
@@ -32,8 +34,10 @@ fn main() -> ExitCode {
         ["count"] => counts::run(),
         ["counted", folder] => counts::report(Path::new(folder), false),
         ["counted", folder, "--write"] => counts::report(Path::new(folder), true),
+        ["store"] => store::run(false),
+        ["store", "--write"] => store::run(true),
         _ => {
-            eprintln!("usage: bench time [--write] | growth FILE | lowest N | count | counted FOLDER [--write]");
+            eprintln!("usage: bench time [--write] | growth FILE | lowest N | count | counted FOLDER [--write] | store [--write]");
             return ExitCode::from(2);
         }
     };

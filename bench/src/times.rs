@@ -92,7 +92,7 @@ fn enough(jobs: &mut Jobs, side: Side) -> u32 {
     (SAMPLE.as_secs_f64() / once).ceil().clamp(1.0, 10_000.0) as u32
 }
 
-fn median(mut times: Vec<f64>) -> Option<f64> {
+pub fn median(mut times: Vec<f64>) -> Option<f64> {
     times.sort_by(f64::total_cmp);
     times.get(times.len() / 2).copied()
 }

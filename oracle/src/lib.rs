@@ -7,6 +7,7 @@ mod c_calls;
 pub mod comparison;
 pub mod generate;
 pub mod matching;
+pub mod plan_store;
 pub mod refusals;
 pub mod reporting;
 pub mod selection;

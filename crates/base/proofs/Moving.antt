@@ -6,73 +6,91 @@ use mathlib.Core.List.{List, [], _∷_, _++_, append-assoc}
 use native.Mathlib.Omega.{arith}
 use borrow.Author.Tests.{le-leb, lt-leb, lt-ltb, le-ltb}
 use lib.Dec.{leb}
-use lib.ListN.{length, getD, take, drop, set, length-append, length-set, length-drop, take-append-drop, List·getD-append}
-use lib.Seq.{take-at, drop-at, take-suc-set, drop-cons, getD-take, getD-drop, getD-at, getD-append-add, set-append-left, length-take-le, take-set-lt}
+use lib.ListN.{length, getD, take, drop, set, length-append, length-set, length-drop, List·getD-append}
+use lib.Seq.{paste, paste-zero, take-at, drop-at, take-suc-set, drop-cons, getD-take, getD-drop, getD-at, getD-append-add, set-append-left, length-take-le, take-set-lt}
 use Rattle.base.specs.Insertion.{pushed, moved}
 
--- the move: what stood from q to `total` is moved
-pub record Moving (before : List ℕ) (place total : ℕ) (here : List ℕ) (q : ℕ) : Type 0 where
-  pub room : total < length before
+-- the move up by some places: what stood from q to `total` is moved
+pub record Moving (before : List ℕ) (place total by : ℕ) (here : List ℕ) (q : ℕ) : Type 0 where
+  pub room : total + by ≤ length before
   pub from : place ≤ q
   pub to : q ≤ total
   pub same-length : length here ≡ length before
-  pub parts : here ≡ take (q + 1) before ++ (take (total - q) (drop q before) ++ drop (total + 1) before)
+  pub parts : here ≡ paste before (q + by) (drop q before) (total - q)
 
-pub moving-start : (before : List ℕ) (place total : ℕ) → total < length before → place ≤ total → Moving before place total before total
-moving-start before place total room inside =
+pub moving-start : (before : List ℕ) (place total by : ℕ) → total + by ≤ length before → place ≤ total → Moving before place total by before total
+moving-start before place total by room inside =
     let z : total - total ≡ 0 = omega arith in
-    record { room = room; from = inside; to = omega arith; same-length = refl; parts = rw z (sym (take-append-drop (total + 1) before)) }
+    record { room = room; from = inside; to = omega arith; same-length = refl; parts = rw z (paste-zero before (total + by) (drop total before)) }
 
-module _ {before : List ℕ} {place total : ℕ} {here : List ℕ} {q : ℕ} (m : Moving before place total here q) where
+module _ {before : List ℕ} {place total by : ℕ} {here : List ℕ} {q : ℕ} (m : Moving before place total by here q) where
   rest : List ℕ
-  rest = take (total - q) (drop q before) ++ drop (total + 1) before
+  rest = take (total - q) (drop q before) ++ drop (q + by + (total - q)) before
 
-  front-length : length (take (q + 1) before) ≡ q + 1
-  front-length = let r = m .room in let t = m .to in length-take-le (q + 1) before (omega arith)
+  front-length : length (take (q + by) before) ≡ q + by
+  front-length = let r = m .room in let t = m .to in length-take-le (q + by) before (omega arith)
 
-  -- a number put at q
-  put-at : (x : ℕ) → set here q x ≡ take q before ++ (x ∷ rest)
+  split : here ≡ take (q + by) before ++ rest
   unfolding rest
-  put-at x =
+  split = m .parts ∙ append-assoc (take (q + by) before) (take (total - q) (drop q before)) (drop (q + by + (total - q)) before)
+
+  -- a number put at the last place before those that are moved
+  put-at : (at x : ℕ) → at + 1 ≡ q + by → set here at x ≡ take at before ++ (x ∷ rest)
+  put-at at x last =
       let r = m .room in
       let t = m .to in
       let f = front-length in
-      let one : q + 1 ≡ suc q = omega arith in
-      ap (λ (l : List ℕ). set l q x) (m .parts)
-      ∙ (set-append-left (take (q + 1) before) rest q x (omega arith)
-      ∙ (ap (λ (l : List ℕ). l ++ rest) (sym (take-set-lt (q + 1) before q x (omega arith)) ∙ (ap (λ (n : ℕ). take n (set before q x)) one ∙ take-suc-set before q x (omega arith)))
-      ∙ append-assoc (take q before) (x ∷ []) rest))
+      let one : q + by ≡ suc at = omega arith in
+      ap (λ (l : List ℕ). set l at x) split
+      ∙ (set-append-left (take (q + by) before) rest at x (omega arith)
+      ∙ (ap (λ (l : List ℕ). l ++ rest) (sym (take-set-lt (q + by) before at x (omega arith)) ∙ (ap (λ (n : ℕ). take n (set before at x)) one ∙ take-suc-set before at x (omega arith)))
+      ∙ append-assoc (take at before) (x ∷ []) rest))
 
-  pub moving-on : place < q → Moving before place total (set here q (getD here (q - 1) 0)) (q - 1)
+  pub moving-on : place < q → Moving before place total by (set here (q - 1 + by) (getD here (q - 1) 0)) (q - 1)
   unfolding rest
   moving-on lt =
       let r = m .room in
       let t = m .to in
       let f = front-length in
-      let back : q - 1 + 1 ≡ q = omega arith in
+      let at : ℕ = q - 1 + by in
       let next : total - (q - 1) ≡ suc (total - q) = omega arith in
+      let end : at + suc (total - q) ≡ q + by + (total - q) = omega arith in
       let same : getD here (q - 1) 0 ≡ getD before (q - 1) 0 =
-      ap (λ (l : List ℕ). getD l (q - 1) 0) (m .parts)
-      ∙ (List·getD-append (take (q + 1) before) rest 0 (q - 1) (omega arith) ∙ getD-take (q + 1) before (q - 1) 0 (omega arith)) in
+      ap (λ (l : List ℕ). getD l (q - 1) 0) split ∙ (List·getD-append (take (q + by) before) rest 0 (q - 1) (omega arith) ∙ getD-take (q + by) before (q - 1) 0 (omega arith)) in
       let one : suc (q - 1) ≡ q = omega arith in
       let cut : drop (q - 1) before ≡ getD before (q - 1) 0 ∷ drop q before = drop-cons before (q - 1) 0 (omega arith) ∙ ap (λ (n : ℕ). getD before (q - 1) 0 ∷ drop n before) one in
       record {
         room = m .room;
         from = omega arith;
         to = omega arith;
-        same-length = length-set here q (getD here (q - 1) 0) ∙ m .same-length;
-        parts = put-at (getD here (q - 1) 0) ∙ rw (back, next, cut, same);
+        same-length = length-set here at (getD here (q - 1) 0) ∙ m .same-length;
+        parts =
+            put-at at (getD here (q - 1) 0) (omega arith)
+            ∙ rw (next, cut, end, same) (sym (append-assoc (take at before) (getD before (q - 1) 0 ∷ take (total - q) (drop q before)) (drop (q + by + (total - q)) before)));
       }
 
-  pub moving-ends : q ≤ place → (number : ℕ) → set here place number ≡ moved before place total number
+  pub moving-ends : q ≤ place → here ≡ paste before (place + by) (drop place before) (total - place)
+  moving-ends le = let f = m .from in let e : place ≡ q = omega arith in rw e (m .parts)
+
+-- by one place: a number is put where the first stood
+pub inserting-start : (before : List ℕ) (place total : ℕ) → total < length before → place ≤ total → Moving before place total 1 before total
+inserting-start before place total room inside = moving-start before place total 1 (omega arith) inside
+
+module _ {before : List ℕ} {place total : ℕ} {here : List ℕ} {q : ℕ} (m : Moving before place total 1 here q) where
+  pub inserting-on : place < q → Moving before place total 1 (set here q (getD here (q - 1) 0)) (q - 1)
+  inserting-on lt = let e : q - 1 + 1 ≡ q = omega arith in let on = moving-on m lt in rw e at on
+
+  pub inserting-ends : q ≤ place → (number : ℕ) → set here place number ≡ moved before place total number
   unfolding rest
-  moving-ends le number =
+  inserting-ends le number =
       let f = m .from in
       let t = m .to in
+      let r = m .room in
       let e : place ≡ q = omega arith in
+      let end : q + 1 + (total - q) ≡ total + 1 = omega arith in
       let inside = le-leb place total (omega arith) in
-      let room = lt-ltb total (length before) (m .room) in
-      simp (inside, room) (rw e (put-at number))
+      let room = lt-ltb total (length before) (omega arith) in
+      simp (inside, room) (rw e (put-at m q number refl ∙ rw end))
 
 -- no part of the list
 module _ (before : List ℕ) (place total number : ℕ) where

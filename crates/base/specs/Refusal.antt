@@ -89,6 +89,25 @@ pageBufferTooShort = refusal 30 refl 0 0 0
 abbrev pub reservedName : ℕ → Refusal
 reservedName name = refusal 31 refl name 0 0
 
+-- a run with tolerance: the ends of a range
+abbrev pub rangeWrong : Refusal
+rangeWrong = refusal 32 refl 0 0 0
+
+-- adding a name: no place in the lent table, or for a 129th name
+abbrev pub noPlace : Refusal
+noPlace = refusal 33 refl 0 0 0
+
+-- the plan store: when it is set up; when a plan is kept or the store emptied
+abbrev pub sharesRefused : Refusal
+sharesRefused = refusal 34 refl 0 0 0
+
+abbrev pub storeRefused : Refusal
+storeRefused = refusal 35 refl 0 0 0
+
+-- the common example: larger than what was lent or the limits
+abbrev pub valueTooLarge : Refusal
+valueTooLarge = refusal 36 refl 0 0 0
+
 -- rule bodies
 abbrev pub notABody : Refusal
 notABody = refusal 37 refl 0 0 0

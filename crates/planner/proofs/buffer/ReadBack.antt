@@ -63,7 +63,7 @@ read-laid {es} {before} {scratch} {count} l few =
     rw z (ap (λ (ws : List ℕ). getD ws j 0) (l .stored ∙ sets-eq (words es) before 0 room) ∙ List·getD-append (words es) _ 0 j (omega arith))))
 
 -- the words of the entries that were read are those of the scratch
-words-read : (scratch : List ℕ) (i k j : ℕ) → j < k * entryWords → getD (words (readEntries scratch i k)) j 0 ≡ getD scratch (i * entryWords + j) 0
+pub words-read : (scratch : List ℕ) (i k j : ℕ) → j < k * entryWords → getD (words (readEntries scratch i k)) j 0 ≡ getD scratch (i * entryWords + j) 0
 unfolding readEntries words
 words-read scratch i zero j lt = absurd (omega arith)
 words-read scratch i (suc k) zero lt = let e : i * entryWords ≡ i * entryWords + 0 = omega arith in ap (λ (m : ℕ). getD scratch m 0) e

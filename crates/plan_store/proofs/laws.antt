@@ -1,0 +1,6 @@
+pub mod Sums
+pub mod Stores
+pub mod Encoding
+pub mod Histories
+pub mod Examples
+pub mod Answers
