@@ -150,10 +150,21 @@ static void *call_report(void *unused) {
     return unused;
 }
 
+/* The first byte of the text, behind the names in use if there is a place. */
+static void *call_add_name(void *unused) {
+    volatile uint8_t local = 0;
+    call_place = (uintptr_t)&local;
+    teluddru_add_name(nodes, counts[0] * TELUDDRU_NODE_WORDS, children, counts[1], numbers, counts[2] * TELUDDRU_NUMBER_WORDS,
+                      names, LENGTH(names), strings, counts[4], strings + counts[4], counts[5], (uint32_t)counts[3], 0, 1,
+                      answer, LENGTH(answer));
+    return unused;
+}
+
 static const struct {
     const char *name;
     void *(*call)(void *);
-} calls[] = {{"plan_sheet", call_sheet}, {"pages", call_pages}, {"plan", call_plan}, {"plan_body", call_body}, {"run", call_run}, {"names_report", call_report}};
+} calls[] = {{"plan_sheet", call_sheet}, {"pages", call_pages}, {"plan", call_plan}, {"plan_body", call_body}, {"run", call_run}, {"names_report", call_report},
+           {"add_name", call_add_name}};
 
 /* Eight packs, of which the last keeps a plan before the first does. */
 static void *call_set_up(void *unused) {

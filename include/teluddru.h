@@ -133,6 +133,7 @@ enum teluddru_answer {
     TELUDDRU_PAGES = 0,                     /* then the number of pages, which may be 0 */
     TELUDDRU_READY = 0,                     /* a store is set up, or emptied */
     TELUDDRU_KEPT = 0,                      /* then the plan's place */
+    TELUDDRU_NAMED = 0,                     /* then the name's number, and 1 where it was added or 0 */
     TELUDDRU_MATCH = 0,
     TELUDDRU_NO_MATCH = 100,
     TELUDDRU_OVER_LIMIT = 1,
@@ -156,6 +157,7 @@ enum teluddru_answer {
     TELUDDRU_NAME_WITHOUT_VALUE = 23,       /* a known name of the pattern */
     TELUDDRU_PAGE_BUFFER_TOO_SHORT = 30,    /* the pages don't fit; after all other refusals */
     TELUDDRU_RESERVED_NAME = 31,            /* the name; planning for TELUDDRU_REGO_V1 alone */
+    TELUDDRU_NO_PLACE = 33,                 /* for the name: the table is full, or has 128; teluddru_add_name alone */
     TELUDDRU_SHARES_REFUSED = 34,           /* set-up: shares above 1,536 in all, more than eight packs, or words of another length */
     TELUDDRU_STORE_REFUSED = 35,            /* keeping: no space, a plan that ends past its buffer, an unknown pack; words that are no store */
     TELUDDRU_NOT_A_BODY = 37,               /* words that are no lines of a rule body, or too few or many; teluddru_plan_body alone */
@@ -331,6 +333,26 @@ uint32_t teluddru_store_read(const uint32_t *store, size_t store_length, uint32_
 
 /* Empties a store: all entries end, and no share. Its result is TELUDDRU_READY or TELUDDRU_STORE_REFUSED. */
 uint32_t teluddru_store_empty(uint32_t *store, size_t store_length);
+
+/*
+ * Adds a name: the one that stands in the text at `start`, of `length` bytes. The name table is lent with all
+ * its places, a pair of words each. The first `used` places hold the names in use; the others are free, and
+ * what stands in them is not read. A name in use that has the same bytes is the answer; otherwise the name is
+ * written to the first free place. No other word changes, and none if the call is refused; marks stay as
+ * they are. Answers TELUDDRU_NAMED, the name's number, and 1 where it was added, so that one more is in use, or 0.
+ * Refusals: those of the table check, with TELUDDRU_OVER_LIMIT for more than 128 names in use and
+ * TELUDDRU_BREAKS_RULES for more than there are places or an odd number of words; TELUDDRU_BREAKS_RULES for a
+ * name of 0 or more than 255 bytes or one that ends past the text; last TELUDDRU_NO_PLACE. Lend the other
+ * calls the names in use alone: `used` pairs.
+ */
+uint32_t teluddru_add_name(const uint32_t *nodes, size_t nodes_length,
+                           const uint32_t *children, size_t children_length,
+                           const uint64_t *numbers, size_t numbers_length,
+                           uint32_t *names, size_t names_length,
+                           const uint8_t *strings, size_t strings_length,
+                           const uint8_t *text, size_t text_length,
+                           uint32_t used, uint32_t start, uint32_t length,
+                           uint32_t *answer, size_t answer_length);
 
 /*
  * Plans a sheet and writes its listing to the output. Returns the bytes written, or 0 with the output

@@ -8,6 +8,7 @@ pub mod comparison;
 pub mod generate;
 pub mod matching;
 pub mod plan_store;
+pub mod parties;
 pub mod refusals;
 pub mod reporting;
 pub mod selection;

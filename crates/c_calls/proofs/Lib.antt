@@ -3,3 +3,4 @@ pub mod Rows
 pub mod Shortness
 pub mod Called
 pub mod BodyCalls
+pub mod NamesTold

@@ -35,14 +35,14 @@ use Rattle.report.specs.Report.{ReportOutcome, filled, reportOutcome, reportAns
 use Rattle.c_calls.specs.Calls.{ranLine}
 
 -- a refusal of the table check is short
-table-short : (T : Tables) (s : Scope) (r : Refusal) → checked T s ≡ Refusal.refused r → ShortRefusal r
+pub table-short : (T : Tables) (s : Scope) (r : Refusal) → checked T s ≡ Refusal.refused r → ShortRefusal r
 table-short T s r e =
     let h = checked-short T s [] (planned 0 0 []) (λ w i. planned-short 0 0 [] (omega arith) (omega arith) (omega arith) tt) in
     rw e at h
 
 module _ {O : Type 0} (refuse : Refusal → O) (P : O → Type 0) (refused : (r : Refusal) → ShortRefusal r → P (refuse r)) where
   -- of a test, of the table check and the roots
-  require-is : (test : Bool) (r : Refusal) (o : O) → ShortRefusal r → (test ≡ true → P o) → P (requireOr refuse test r o)
+  pub require-is : (test : Bool) (r : Refusal) (o : O) → ShortRefusal r → (test ≡ true → P o) → P (requireOr refuse test r o)
   require-is true r o p q = q refl
   require-is false r o p q = refused r p
 

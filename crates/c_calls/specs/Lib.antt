@@ -1,3 +1,4 @@
 pub mod Given
 pub mod Calls
 pub mod Bodies
+pub mod NameCall

@@ -2,6 +2,7 @@
 mod answer;
 pub mod bodies;
 mod given;
+pub mod naming;
 pub mod planning;
 pub mod reporting;
 pub mod running;

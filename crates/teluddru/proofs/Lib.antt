@@ -6,3 +6,4 @@ pub mod LocalArray
 pub mod Trials
 pub mod Passing
 pub mod Demand
+pub mod AddedNames

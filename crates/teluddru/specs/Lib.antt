@@ -1,4 +1,5 @@
 pub mod Records
+pub mod Adding
 pub mod Trial
 pub mod Demand
 pub mod code

@@ -1,16 +1,22 @@
 // The library's calls for a caller in Rattle: names are a lent table of records.
+mod adding;
 mod bodies;
 mod plans;
 mod records;
 mod reports;
 mod runs;
 
+use crate::adding::add_words;
+use crate::adding::name_of;
+use crate::adding::place_of;
+use crate::adding::put_name;
 use crate::bodies::body_words;
 use crate::plans::plan_words;
 use crate::records::copy_names;
 use crate::reports::report_words;
 use crate::runs::run_words;
 use body::BodyPlanned;
+use name_table::NameAnswer;
 use operation::Operation;
 use planner::PlanAnswer;
 use report::ReportAnswer;
@@ -19,10 +25,12 @@ use scope::Scope;
 use scope::ScopingMode;
 ghost use Rattle.base.specs.Lent.{old};
 ghost use Rattle.body.specs.Body.{bodyOutcome, BodyAnsweredIn};
+ghost use Rattle.name_table.specs.Adding.{addOutcome};
 ghost use Rattle.planner.specs.Operations.{AnsweredIn};
 ghost use Rattle.report.specs.Report.{ReportedIn};
 ghost use Rattle.run.specs.Operations.{RanIn};
 ghost use Rattle.teluddru.specs.Records.{lentRecords};
+ghost use Rattle.teluddru.specs.Adding.{NameAddedTo};
 ghost use Rattle.operation.specs.Version.{versionOutcome};
 
 // A range of the rule text.
@@ -58,6 +66,38 @@ pub fn plan<'a>(
         version,
         plan,
     )
+}
+
+// Adds the name that stands at a range of the text. The first `used` records hold names, the others are free.
+pub fn add_name<'a>(
+    nodes: &[u32],
+    children: &[u32],
+    numbers: &[u64],
+    names: &mut [Name],
+    strings: &'a [u8],
+    text: &'a [u8],
+    used: u32,
+    start: u32,
+    length: u32,
+) -> NameAnswer
+    ensures { λ r. ⌜ NameAddedTo names (addOutcome (lentRecords nodes children numbers names strings text) used start length) used start length r ⌝ }
+{
+    let words = copy_names(names);
+    let answer = add_words(
+        nodes,
+        children,
+        numbers,
+        words,
+        strings,
+        text,
+        used,
+        start,
+        length,
+    );
+    let place = place_of(answer, used);
+    let name = name_of(start, length);
+    put_name(names, place, name);
+    answer
 }
 
 // Plans a body's lines in turn. The plan buffer then holds the last line's plan; a refusal leaves it all zeros and returns the scope as given.

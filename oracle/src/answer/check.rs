@@ -50,7 +50,7 @@ fn used_places(node: &Node) -> std::ops::Range<u32> {
 }
 
 fn range_holds(first: u32, length: u32, whole: usize) -> bool {
-    (first + length) as usize <= whole
+    first as usize + length as usize <= whole
 }
 
 fn name_holds(tables: &Tables, name: &Name) -> bool {

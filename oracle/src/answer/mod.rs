@@ -2,7 +2,7 @@
 //! the Rust's, but for 13 and 14 in the careful reading.
 
 mod careful;
-mod check;
+pub(crate) mod check;
 mod expr;
 mod layout;
 mod listing;
@@ -11,7 +11,7 @@ mod partners;
 mod ready;
 mod scope;
 mod sheet;
-mod tables;
+pub(crate) mod tables;
 mod texts;
 
 pub use careful::Present;

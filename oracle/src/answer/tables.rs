@@ -52,7 +52,7 @@ impl Node {
     pub fn width(&self) -> u32 {
         match self.kind {
             kind::ARRAY | kind::SET => self.count,
-            kind::OBJECT => 2 * self.count,
+            kind::OBJECT => self.count.saturating_mul(2),
             _ => 0,
         }
     }

@@ -3,7 +3,7 @@
 mod apart;
 pub(crate) mod damage;
 pub(crate) mod disguise;
-mod edges;
+pub(crate) mod edges;
 pub mod exhaustive;
 mod grow;
 mod mutate;
