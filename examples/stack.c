@@ -32,6 +32,8 @@ static uint32_t operation[6];
 static const uint8_t *strings;
 static uint32_t plan[TELUDDRU_PLAN_ENTRIES * TELUDDRU_ENTRY_WORDS];
 static uint32_t list[TELUDDRU_MOST_NAMES];
+static uint64_t lowest[TELUDDRU_MOST_NODES * TELUDDRU_NUMBER_WORDS];
+static uint64_t highest[TELUDDRU_MOST_NODES * TELUDDRU_NUMBER_WORDS];
 static uint32_t answer[TELUDDRU_BODY_ANSWER_WORDS];
 static uint32_t body[2 * TELUDDRU_LINE_WORDS];
 static uint32_t store[TELUDDRU_STORE_WORDS];
@@ -143,6 +145,18 @@ static void *call_body(void *unused) {
     return unused;
 }
 
+/* Every node may be 0 to 99, the literals of the worst sheets. */
+static void *call_run_with_tolerance(void *unused) {
+    volatile uint8_t local = 0;
+    call_place = (uintptr_t)&local;
+    for (size_t i = 0; i < counts[0]; i++) {
+        highest[i * TELUDDRU_NUMBER_WORDS + 1] = 99;
+    }
+    teluddru_run_with_tolerance(TABLES, operation[1], operation[2], operation[3], operation[4], list, LENGTH(list), lowest, LENGTH(lowest),
+                                highest, LENGTH(highest), plan, LENGTH(plan), answer, LENGTH(answer));
+    return unused;
+}
+
 static void *call_report(void *unused) {
     volatile uint8_t local = 0;
     call_place = (uintptr_t)&local;
@@ -207,7 +221,7 @@ static void *call_empty(void *unused) {
 static const struct {
     const char *name;
     void *(*call)(void *);
-} store_calls[] = {{"store_set_up", call_set_up}, {"store_keep", call_keep_last}, {"store_keep", call_keep_first}, {"store_read", call_read}, {"store_empty", call_empty}};
+} store_calls[] = {{"store_set_up", call_set_up}, {"store_keep", call_keep_last}, {"store_keep", call_keep_first}, {"store_read", call_read}, {"store_empty", call_empty}, {"tolerance", call_run_with_tolerance}};
 
 /* The bytes of a painted stack that a call changed, counted from the call down. */
 static size_t stack_taken(uint8_t *stack, void *(*call)(void *)) {

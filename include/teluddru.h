@@ -1,7 +1,8 @@
 /*
- * Teluddru: plans how the patterns of joinery rules take values apart. Four calls over tables that the
- * host lends (planning, a rule body, Run, the names report), and two over a sheet's text (its listing, its pages for
- * print). Four more are of a plan store, in which rule packs keep plans.
+ * Teluddru: plans how the patterns of joinery rules take values apart. Six calls over tables that the host
+ * lends (planning, a rule body, Run, Run with tolerances, the names report, adding a name), and two over a
+ * sheet's text (its listing, its pages for print). Four more are of a plan store, in which rule packs keep
+ * plans.
  *
  * What a call assumes. Of the words and bytes that it is lent: nothing. Whatever they are, a call
  * returns; what breaks a rule is refused. It reads and writes only the ranges that it is given, and
@@ -136,6 +137,9 @@ enum teluddru_answer {
     TELUDDRU_NAMED = 0,                     /* then the name's number, and 1 where it was added or 0 */
     TELUDDRU_MATCH = 0,
     TELUDDRU_NO_MATCH = 100,
+    TELUDDRU_ALWAYS = 0,                    /* whatever the numbers are; teluddru_run_with_tolerance alone, as the next two */
+    TELUDDRU_NEVER = 100,
+    TELUDDRU_SOMETIMES = 101,
     TELUDDRU_OVER_LIMIT = 1,
     TELUDDRU_BREAKS_RULES = 2,              /* or a mark is above 31 */
     TELUDDRU_TOO_DEEP = 3,
@@ -157,6 +161,7 @@ enum teluddru_answer {
     TELUDDRU_NAME_WITHOUT_VALUE = 23,       /* a known name of the pattern */
     TELUDDRU_PAGE_BUFFER_TOO_SHORT = 30,    /* the pages don't fit; after all other refusals */
     TELUDDRU_RESERVED_NAME = 31,            /* the name; planning for TELUDDRU_REGO_V1 alone */
+    TELUDDRU_RANGE_WRONG = 32,              /* a lowest and a highest number; teluddru_run_with_tolerance alone */
     TELUDDRU_NO_PLACE = 33,                 /* for the name: the table is full, or has 128; teluddru_add_name alone */
     TELUDDRU_SHARES_REFUSED = 34,           /* set-up: shares above 1,536 in all, more than eight packs, or words of another length */
     TELUDDRU_STORE_REFUSED = 35,            /* keeping: no space, a plan that ends past its buffer, an unknown pack; words that are no store */
@@ -284,6 +289,31 @@ uint32_t teluddru_run(const uint32_t *nodes, size_t nodes_length,
                       uint32_t *values, size_t values_length,
                       uint32_t *plan, size_t plan_length,
                       uint32_t *answer, size_t answer_length);
+
+/*
+ * Runs as teluddru_run does, on numbers that are only known to lie between a lowest and a highest, as measures
+ * are: each number of the value, or of a known name's value, that is no object key. A number that is exact has
+ * itself at both ends; a literal of the pattern is always exact. Each list has two words a node, as the numbers
+ * have (1 for below zero or 0, then the size): those of node n are words (n - 1) * 2 and (n - 1) * 2 + 1, and
+ * those of nodes that are no such number are not read. Answers TELUDDRU_ALWAYS if the pattern matches whatever
+ * these numbers are, TELUDDRU_SOMETIMES if it matches for some of them and not for all, TELUDDRU_NEVER if for
+ * none, or a refusal: after those of a run, TELUDDRU_PLAN_TOO_LARGE aside, TELUDDRU_RANGE_WRONG, for a list
+ * shorter than the nodes, and for such a number whose lowest is above its highest or whose ends are no numbers.
+ * The plan is written as by teluddru_run; only TELUDDRU_ALWAYS sets names, each to the node that it meets.
+ */
+uint32_t teluddru_run_with_tolerance(const uint32_t *nodes, size_t nodes_length,
+                                     const uint32_t *children, size_t children_length,
+                                     const uint64_t *numbers, size_t numbers_length,
+                                     const uint32_t *names, size_t names_length,
+                                     const uint8_t *strings, size_t strings_length,
+                                     const uint8_t *text, size_t text_length,
+                                     const uint8_t *marks, size_t marks_length,
+                                     uint32_t scheduler, uint32_t scoping, uint32_t pattern, uint32_t value,
+                                     uint32_t *values, size_t values_length,
+                                     const uint64_t *lowest, size_t lowest_length,
+                                     const uint64_t *highest, size_t highest_length,
+                                     uint32_t *plan, size_t plan_length,
+                                     uint32_t *answer, size_t answer_length);
 
 /*
  * Reports the names of a pattern: for each name a word of enum teluddru_reported in the list, then

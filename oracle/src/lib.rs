@@ -15,4 +15,5 @@ pub mod selection;
 pub mod sheets;
 pub mod subject;
 pub mod tally;
+pub mod tolerance;
 pub mod trials;

@@ -58,7 +58,8 @@ expressions:
 
 values:
   literals, arrays, and objects with literal keys that differ. --on and --given
-  take them as text.
+  take them as text. A number that is measured is written as a range, 17..19;
+  the run then answers always, sometimes or never.
 
 scope:
   NAMES are parted by commas; each option may stand more than once, and the
@@ -66,17 +67,17 @@ scope:
 
 files of rules:
   RULE => EXPECTED [OPTIONS], a rule a line. EXPECTED: planned, bind left, pairs,
-  refused 13, match, match w=18, no match, .. A line that begins with -- has
-  options for those that follow; tools/README.md has all of it.
+  refused 13, match, match w=18, no match, sometimes, .. A line that begins with
+  -- has options for those that follow; tools/README.md has all of it.
 
 rule bodies:
   a line of rule text a line; an expression alone is an index. Blank lines and
   comments are passed over. What a line binds is bound for those below it.
 
 exit status:
-  0 planned, matched, or nothing differs; 1 refused, no match, or something
-  differs; 2 no answer (rule text, usage, no library, a line that can't be read,
-  output that can't be written)
+  0 planned, matched (always), or nothing differs; 1 refused, no match (sometimes,
+  never), or something differs; 2 no answer (rule text, usage, no library, a line
+  that can't be read, output that can't be written)
 """
 
 

@@ -14,7 +14,8 @@ from rules.tables.sheet import (
     Sheet,
     Writer,
 )
-from rules.text.rule_text import Operation, Rule, read_expression, read_rule
+from rules.text.ranges import read_value
+from rules.text.rule_text import Operation, Rule, read_rule
 from rules.text.source import decoded, shown
 from rules.text.tokens import RuleTextError
 
@@ -81,10 +82,10 @@ def sheet_for(question: Question) -> Sheet:
     given = [item for item in question.given.items() if item[0] in writer.sheet.names]
     if question.on is not None:
         with blamed("value", question.on):
-            writer.value(question.on, read_expression(question.on))
+            writer.value(question.on, read_value(question.on))
     for name, text in given:
         with blamed(f"value of `{decoded(name)}`", text):
-            writer.given(name, text, read_expression(text))
+            writer.given(name, text, read_value(text))
     return writer.sheet
 
 

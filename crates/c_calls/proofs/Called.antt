@@ -86,7 +86,7 @@ no-refusal (refused r) e =
     let zero : r .number ≡ 0 = sym (ap (λ (l : Line). l .number) e) in
     absurd (false≢true (sym (r .refuses) ∙ eq-eqb (r .number) 0 zero))
 
-some-refusal : (t : Tested) {n : ℕ} → line n 0 0 0 ≡ testedLine t → (n ≡ 0 → ⊥) → testedLine t ≡ line 0 0 0 0 → ⊥
+pub some-refusal : (t : Tested) {n : ℕ} → line n 0 0 0 ≡ testedLine t → (n ≡ 0 → ⊥) → testedLine t ≡ line 0 0 0 0 → ⊥
 some-refusal t e some none = some (ap (λ (l : Line). l .number) (e ∙ none))
 
 given-passed : (T : Tables) (b : ByteScope) (o : OperationNumbers) → testedFirst T (convertible b) o ≡ passed → marksOk b ≡ true
@@ -165,13 +165,13 @@ module _ (T : Tables) (marks : List ℕ) (scheduler scoping pattern : ℕ) {o : 
   told-pattern : GivenTold T (conversionOf (made .answer)) (patternNumbers scheduler scoping pattern) before
   told-pattern = rw asked at told
 
-  pattern-first : line before 0 0 0 ≡ testedLine (givenFirst T marks (patternNumbers scheduler scoping pattern))
+  pub pattern-first : line before 0 0 0 ≡ testedLine (givenFirst T marks (patternNumbers scheduler scoping pattern))
   pattern-first = first-told T (byteScopeOf marks scheduler) (patternNumbers scheduler scoping pattern) from told-pattern
 
-  pattern-passed : before ≡ 0 → givenFirst T marks (patternNumbers scheduler scoping pattern) ≡ passed
+  pub pattern-passed : before ≡ 0 → givenFirst T marks (patternNumbers scheduler scoping pattern) ≡ passed
   pattern-passed = first-passed T (byteScopeOf marks scheduler) (patternNumbers scheduler scoping pattern) from told-pattern
 
-  pattern-scope : before ≡ 0 → made .scope ≡ scopeOf marks scheduler
+  pub pattern-scope : before ≡ 0 → made .scope ≡ scopeOf marks scheduler
   pattern-scope = made-scope T (byteScopeOf marks scheduler) (patternNumbers scheduler scoping pattern) from told-pattern
 
   pub run-refused :

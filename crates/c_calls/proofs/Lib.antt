@@ -4,3 +4,4 @@ pub mod Shortness
 pub mod Called
 pub mod BodyCalls
 pub mod NamesTold
+pub mod Tolerated

@@ -7,7 +7,7 @@ use native.Mathlib.Omega.{arith}
 use borrow.Author.Tests.{leb-true}
 use lib.Dec.{eqb, leb}
 use Rattle.base.specs.Refusal as Refusal
-use Rattle.base.specs.Refusal.{Refusal, overLimit, breaksRules, Tested, passed, requireOr, testedOr, Line, line}
+use Rattle.base.specs.Refusal.{Refusal, overLimit, breaksRules, Tested, passed, requireOr, testedOr, Line, line, noPlace}
 use Rattle.scope.specs.Names.{isName}
 use Rattle.scope.specs.Scope.{newScope}
 use Rattle.table.specs.declared.TableRefusal.{TableRefusal}
@@ -21,7 +21,7 @@ use Rattle.operation.specs.Rows.{rowLine, Told}
 use Rattle.operation.proofs.RowLaws.{table-row}
 use Rattle.name_table.specs.declared.NameAnswer.{NameAnswer}
 use Rattle.name_table.specs.declared.NameAnswer.the-variants as Name
-use Rattle.name_table.specs.Adding.{noPlace, inUse, inUseWithinLimits, hasNames, checkedInUse, allowed, numberWithBytes, hasPlace, AddOutcome, refused, existing, added, atEnd, existingOrAdded, addOutcome, addLine}
+use Rattle.name_table.specs.Adding.{inUse, inUseWithinLimits, hasNames, checkedInUse, allowed, numberWithBytes, hasPlace, AddOutcome, refused, existing, added, atEnd, existingOrAdded, addOutcome, addLine}
 use Rattle.name_table.specs.Answer.{nameLine, NameAdded}
 use Rattle.name_table.proofs.Laws.{name-laws}
 use Rattle.c_calls.specs.NameCall.{NameCalled}

@@ -67,11 +67,11 @@ pub plan-short : (T : Tables) (s : Scope) (version : ℕ) (operation : Operation
 plan-short T s version operation buffer = outcome-short (versionOutcome T s version operation) buffer (version-short T s version operation)
 
 -- a run
-abbrev ShortRun : RunOutcome → Type 0
+abbrev pub ShortRun : RunOutcome → Type 0
 ShortRun (Run.refused r) = ShortRefusal r
 ShortRun (carriedOut es o) = length es ≤ 512
 
-run-outcome-short : (T : Tables) (s : Scope) (mode : ScopingMode) (pattern value : ℕ) (values : List ℕ) → ShortRun (runOutcome T s mode pattern value values)
+pub run-outcome-short : (T : Tables) (s : Scope) (mode : ScopingMode) (pattern value : ℕ) (values : List ℕ) → ShortRun (runOutcome T s mode pattern value values)
 run-outcome-short T s mode pattern value values =
     checked-is Run.refused ShortRun (λ r p. p) T s (pattern ∷ (value ∷ [])) _ (λ w i.
     test (leb (nameCount T) (length values)) listTooShort _ (refusal-short (omega arith) (omega arith)) (λ a.

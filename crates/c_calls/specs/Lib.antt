@@ -2,3 +2,4 @@ pub mod Given
 pub mod Calls
 pub mod Bodies
 pub mod NameCall
+pub mod Tolerating

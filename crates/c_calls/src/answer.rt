@@ -5,7 +5,9 @@ ghost use Prim.Native.Nat.{_≤_};
 ghost use Rattle.base.specs.Refusal.{line};
 ghost use Rattle.run.specs.Answer.{resultOf};
 ghost use Rattle.report.specs.Answer.{reportLine};
+ghost use Rattle.tolerance.specs.Answer as Tolerance;
 ghost use Rattle.c_calls.specs.Calls.{ranLine};
+ghost use Rattle.c_calls.specs.Tolerating.{toleranceLine};
 ghost use Rattle.operation.specs.Rows.{rowLine, Told};
 use operation::inner::tell;
 use operation::row::Row;
@@ -13,6 +15,7 @@ use operation::row::row_from;
 use report::ReportAnswer;
 use run::RunAnswer;
 use table::refusal_number;
+use tolerance::ToleranceAnswer;
 
 pub(crate) fn run_row(answer: RunAnswer) -> Row
     ensures { λ r. ⌜ rowLine r ≡ ranLine (resultOf answer) ⌝ }
@@ -27,6 +30,18 @@ pub(crate) fn run_row(answer: RunAnswer) -> Row
         RunAnswer::NotAValue => row_from(22, 0, 0, 0),
         RunAnswer::NameWithoutValue => row_from(23, 0, 0, 0),
         RunAnswer::PlanTooLarge { needed } => row_from(6, 0, needed as u64, 0),
+    }
+}
+
+pub(crate) fn tolerance_row(answer: ToleranceAnswer) -> Row
+    ensures { λ r. ⌜ rowLine r ≡ toleranceLine (Tolerance.toleranceResultOf answer) ⌝ }
+{
+    match answer {
+        ToleranceAnswer::Always => row_from(0, 0, 0, 0),
+        ToleranceAnswer::Sometimes => row_from(101, 0, 0, 0),
+        ToleranceAnswer::Never => row_from(100, 0, 0, 0),
+        ToleranceAnswer::RangeWrong => row_from(32, 0, 0, 0),
+        ToleranceAnswer::Refused(refused) => run_row(refused),
     }
 }
 

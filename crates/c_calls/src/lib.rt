@@ -6,3 +6,4 @@ pub mod naming;
 pub mod planning;
 pub mod reporting;
 pub mod running;
+pub mod tolerating;

@@ -9,7 +9,7 @@ use lib.Dec.{eqb, leb, ltb}
 use lib.ListN.{length, take, drop, set}
 use lib.Seq.{length-take-le, sets-eq}
 use Rattle.base.specs.Lists.{part}
-use Rattle.base.specs.Refusal.{overLimit, Tested, passed, refused, require, requireOr}
+use Rattle.base.specs.Refusal.{overLimit, Tested, passed, refused, require, requireOr, noPlace}
 use Rattle.scope.specs.declared.Scope.{Scope}
 use Rattle.scope.specs.Scope.{newScope}
 use Rattle.table.specs.declared.TableAnswer.{TableAnswer}
@@ -24,7 +24,7 @@ use Rattle.table.proofs.trees.Words.{part-whole}
 use Rattle.table.proofs.tests.Bools.{and-true, told-no, told-yes, never}
 use Rattle.name_table.specs.declared.NameAnswer.{NameAnswer}
 use Rattle.name_table.specs.declared.NameAnswer.the-variants as Name
-use Rattle.name_table.specs.Adding.{noPlace, inUse, inUseWithinLimits, hasNames, checkedInUse, allowed, numberFrom, added, atEnd, addOutcome}
+use Rattle.name_table.specs.Adding.{inUse, inUseWithinLimits, hasNames, checkedInUse, allowed, numberFrom, added, atEnd, addOutcome}
 use Rattle.name_table.specs.Adding as Adding
 use Rattle.name_table.specs.Answer.{NameAdded}
 

@@ -10,7 +10,7 @@ use lib.Dec.{eqb, leb, ltb}
 use lib.ListN.{length, getD, List·getD-append, take, drop, take-append-drop, length-drop, length-append}
 use lib.Seq.{take-append-add, length-take-le, getD-take, getD-drop, getD-append-add}
 use Rattle.base.specs.Lists.{part}
-use Rattle.base.specs.Refusal.{Refusal, overLimit, breaksRules, Tested, passed, requireOr, testedOr, Line}
+use Rattle.base.specs.Refusal.{Refusal, overLimit, breaksRules, Tested, passed, requireOr, testedOr, Line, noPlace}
 use Rattle.base.specs.Refusal as Refusal
 use Rattle.scope.specs.declared.Scope.{Scope}
 use Rattle.scope.specs.Names.{isName}
@@ -24,7 +24,7 @@ use Rattle.table.proofs.tests.Bools.{and-true, never}
 use Rattle.table.proofs.tests.Bytes.{same-bytes-equal, equal-same-bytes}
 use Rattle.table.proofs.trees.Facts.{well-formed, sound-table}
 use Rattle.table.proofs.trees.Facts as Facts
-use Rattle.name_table.specs.Adding.{noPlace, places, withNames, inUse, inUseWithinLimits, hasNames, checkedInUse, allowed, numberFrom, numberWithBytes, hasPlace, AddOutcome, refused, existing, added, atEnd, addOutcome, namesAfter, usedAfter}
+use Rattle.name_table.specs.Adding.{places, withNames, inUse, inUseWithinLimits, hasNames, checkedInUse, allowed, numberFrom, numberWithBytes, hasPlace, AddOutcome, refused, existing, added, atEnd, addOutcome, namesAfter, usedAfter}
 use Rattle.name_table.specs.declared.NameAnswer.{NameAnswer}
 use Rattle.name_table.specs.declared.NameAnswer.the-variants as Name
 use Rattle.name_table.specs.Answer.{nameLine, AddAnswerLaws}

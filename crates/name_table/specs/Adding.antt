@@ -5,7 +5,7 @@ use mathlib.Core.List.{List, [], _∷_, _++_}
 use lib.Dec.{eqb, leb, ltb}
 use lib.ListN.{length, take, drop}
 use Rattle.base.specs.Lists.{part}
-use Rattle.base.specs.Refusal.{Refusal, overLimit, breaksRules, Tested, require, requireOr, testedOr, Line, line, refusalLine}
+use Rattle.base.specs.Refusal.{Refusal, overLimit, breaksRules, Tested, require, requireOr, testedOr, Line, line, refusalLine, noPlace}
 use Rattle.scope.specs.Scope.{newScope}
 use Rattle.table.specs.Tables.{Tables, tables, nodeCount, numberCount, nameBytes}
 use Rattle.table.specs.Names.{sameBytes}

@@ -3,11 +3,11 @@ use Prim.Native.Nat.{ℕ}
 use mathlib.Core.Path.{_≡_}
 use mathlib.Core.List.{List}
 use Rattle.base.specs.Lent.{Slices, old, new}
-use Rattle.base.specs.Refusal.{Line, line, refusalLine}
+use Rattle.base.specs.Refusal.{Line, line, refusalLine, noPlace}
 use Rattle.table.specs.Check.{tableRefused}
 use Rattle.name_table.specs.declared.NameAnswer.{NameAnswer}
 use Rattle.name_table.specs.declared.NameAnswer.the-variants as Name
-use Rattle.name_table.specs.Adding.{noPlace, AddOutcome, addLine, namesAfter}
+use Rattle.name_table.specs.Adding.{AddOutcome, addLine, namesAfter}
 
 abbrev pub nameLine : NameAnswer → Line
 nameLine (Name.Existing x) = line 0 x 0 0

@@ -2,9 +2,9 @@
 use Prim.Native.Nat.{ℕ}
 use mathlib.Core.Path.{_≡_}
 use mathlib.Core.List.{List, [], _∷_}
-use Rattle.base.specs.Refusal.{Line, line, refusalLine, overLimit, breaksRules, equalNames}
+use Rattle.base.specs.Refusal.{Line, line, refusalLine, overLimit, breaksRules, equalNames, noPlace}
 use Rattle.table.specs.Tables.{Tables, tables}
-use Rattle.name_table.specs.Adding.{noPlace, addOutcome, addLine, namesAfter}
+use Rattle.name_table.specs.Adding.{addOutcome, addLine, namesAfter}
 
 -- node 1 is the name x, the text is xyzx
 abbrev pub xyzx : List ℕ → Tables

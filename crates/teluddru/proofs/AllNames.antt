@@ -3,7 +3,7 @@ use Prim.Native.Nat.{ℕ, _/_, _<_}
 use mathlib.Core.Path.{_≡_, refl, sym, _∙_, ap, subst}
 use mathlib.Core.Bool.{Bool, true, false}
 use mathlib.Core.List.{List, [], _∷_}
-use lib.Dec.{eqb}
+use lib.Dec.{T as True, eqb}
 use lib.ListN.{length}
 use Rattle.scope.specs.declared.Scope.{Scope}
 use Rattle.scope.specs.declared.ScopingMode.{ScopingMode}
@@ -24,6 +24,10 @@ use Rattle.report.specs.Report as Report
 use Rattle.report.specs.Report.{ReportOutcome, reportOutcome, reportAnswer, reportList, ReportedBy}
 use Rattle.run.specs.declared.RunAnswer.{RunAnswer}
 use Rattle.run.specs.Operations.{RunOutcome, refused, runOutcome, plannedName, Ran, valuesAfter}
+use Rattle.tolerance.specs.declared.ToleranceAnswer.{ToleranceAnswer}
+use Rattle.tolerance.specs.Tolerance.{Answer}
+use Rattle.tolerance.specs.Operations as Tolerance
+use Rattle.tolerance.specs.Operations.{ToleranceOutcome, toleranceOutcome, toleranceResult, planLeft, valuesLeft, isJudged, Judged}
 use Rattle.teluddru.specs.declared.Name.{Name}
 use Rattle.operation.specs.declared.Operation.{Operation}
 use Rattle.teluddru.specs.declared.records.NameWords.{NameWords}
@@ -64,6 +68,26 @@ module _ (T T′ : Tables) (s : Scope) (buffer : List ℕ) (e : checked T s ≡ 
   unfolding bodyOutcome
   body-same words = ap (requireOr (refusedAt 0) (isBody words) notABody) (lines-same (operationsOf words))
 
+-- a refused run with a tolerance has no answer, and sets no name
+tolerance-refused : (T : Tables) (s : Scope) (mode : ScopingMode) (pattern value : ℕ) (values lows highs : List ℕ) (a : Answer) → checked T s ≡ Refusal.refused overLimit
+    → toleranceOutcome T s mode pattern value values lows highs a ≡ Tolerance.refused overLimit
+tolerance-refused T s mode pattern value values lows highs a e = simp e
+
+module _ (T T′ : Tables) (s : Scope) (mode : ScopingMode) (pattern value : ℕ) (values lows highs : List ℕ) (e : checked T s ≡ Refusal.refused overLimit) (e′ : checked T′ s ≡ Refusal.refused overLimit) where
+  judged-same : {buffer valuesExit bufferExit : List ℕ} {r : ToleranceAnswer} → Judged T s mode pattern value values lows highs buffer valuesExit bufferExit r → Judged T′ s mode pattern value values lows highs buffer valuesExit bufferExit r
+  unfolding valuesLeft
+  judged-same {buffer} j =
+      let o = tolerance-refused T s mode pattern value values lows highs (j .answer) e in
+      let o′ = tolerance-refused T′ s mode pattern value values lows highs (j .answer) e′ in
+      record {
+        answer = j .answer;
+        means = λ told. absurd (subst (λ (x : ToleranceOutcome). True (isJudged x)) o′ told);
+        told = j .told ∙ ap (λ (x : ToleranceOutcome). toleranceResult x buffer) (o ∙ sym o′);
+        plan = j .plan ∙ ap (λ (x : ToleranceOutcome). planLeft x buffer) (o ∙ sym o′);
+        list = j .list ∙ ap (λ (x : ToleranceOutcome). valuesLeft (plannedName (known s mode) (expr T pattern)) x buffer values) o
+            ∙ sym (ap (λ (x : ToleranceOutcome). valuesLeft (plannedName (known s mode) (expr T′ pattern)) x buffer values) o′);
+      }
+
 -- ---- tables over names
 module _ (over : List ℕ → Tables) (counts : (names : List ℕ) → nameCount (over names) ≡ length names / 2) (s : Scope) where
   too-many : (names : List ℕ) → 128 < length names / 2 → checked (over names) s ≡ Refusal.refused overLimit
@@ -96,6 +120,12 @@ module _ (over : List ℕ → Tables) (counts : (names : List ℕ) → nameCount
         (λ ws ws′ l l′ ran. subst (λ (o : RunOutcome). Ran (toSet ws′) o values buffer valuesExit bufferExit r) (sym (run-refused (over ws′) s mode pattern value values (too-many ws′ l′)))
         (sets-none (toSet ws) (toSet ws′) (subst (λ (o : RunOutcome). Ran (toSet ws) o values buffer valuesExit bufferExit r) (run-refused (over ws) s mode pattern value values (too-many ws l)) ran)))
         ns names copied
+
+    pub tolerance-all : (value : ℕ) (lows highs : List ℕ) (ns : List Name) (names : NameWords) → Copied ns names → {values buffer valuesExit bufferExit : List ℕ} {r : ToleranceAnswer}
+        → Judged (over (held names)) s mode pattern value values lows highs buffer valuesExit bufferExit r → Judged (over (nameWords ns)) s mode pattern value values lows highs buffer valuesExit bufferExit r
+    tolerance-all value lows highs ns names copied {values} {buffer} {valuesExit} {bufferExit} {r} =
+        as-all (λ ws. Judged (over ws) s mode pattern value values lows highs buffer valuesExit bufferExit r)
+        (λ ws ws′ l l′. judged-same (over ws) (over ws′) s mode pattern value values lows highs (too-many ws l) (too-many ws′ l′)) ns names copied
 
     pub report-all : (ns : List Name) (names : NameWords) → Copied ns names → {before later : List ℕ} {r : ReportAnswer}
         → ReportedBy (over (held names)) s mode pattern before later r → ReportedBy (over (nameWords ns)) s mode pattern before later r

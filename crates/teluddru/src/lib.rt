@@ -5,6 +5,7 @@ mod plans;
 mod records;
 mod reports;
 mod runs;
+mod tolerances;
 
 use crate::adding::add_words;
 use crate::adding::name_of;
@@ -15,6 +16,7 @@ use crate::plans::plan_words;
 use crate::records::copy_names;
 use crate::reports::report_words;
 use crate::runs::run_words;
+use crate::tolerances::tolerance_words;
 use body::BodyPlanned;
 use name_table::NameAnswer;
 use operation::Operation;
@@ -23,6 +25,7 @@ use report::ReportAnswer;
 use run::RunAnswer;
 use scope::Scope;
 use scope::ScopingMode;
+use tolerance::ToleranceAnswer;
 ghost use Rattle.base.specs.Lent.{old};
 ghost use Rattle.body.specs.Body.{bodyOutcome, BodyAnsweredIn};
 ghost use Rattle.name_table.specs.Adding.{addOutcome};
@@ -32,6 +35,7 @@ ghost use Rattle.run.specs.Operations.{RanIn};
 ghost use Rattle.teluddru.specs.Records.{lentRecords};
 ghost use Rattle.teluddru.specs.Adding.{NameAddedTo};
 ghost use Rattle.operation.specs.Version.{versionOutcome};
+ghost use Rattle.tolerance.specs.Operations.{JudgedIn};
 
 // A range of the rule text.
 pub struct Name {
@@ -156,6 +160,43 @@ pub fn run<'a>(
         pattern,
         value,
         values,
+        plan,
+    )
+}
+
+// Runs the pattern on the value for all choices of a number from the lowest to the highest of each node, two words a node in each list.
+pub fn run_with_tolerance<'a>(
+    nodes: &[u32],
+    children: &[u32],
+    numbers: &[u64],
+    names: &[Name],
+    strings: &'a [u8],
+    text: &'a [u8],
+    scope: Scope,
+    scoping: ScopingMode,
+    pattern: u32,
+    value: u32,
+    values: &mut [u32],
+    lowest: &[u64],
+    highest: &[u64],
+    plan: &mut [u32],
+) -> ToleranceAnswer
+    ensures { λ r. ⌜ JudgedIn values lowest highest plan (lentRecords nodes children numbers names strings text) scope scoping pattern value r ⌝ }
+{
+    tolerance_words(
+        nodes,
+        children,
+        numbers,
+        copy_names(names),
+        strings,
+        text,
+        scope,
+        scoping,
+        pattern,
+        value,
+        values,
+        lowest,
+        highest,
         plan,
     )
 }

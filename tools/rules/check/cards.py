@@ -7,7 +7,7 @@ from rules.answer import Answer
 from rules.check.checking import Checked
 from rules.check.lines import Line, Unreadable
 from rules.check.marks import PLACE, Mark, html_of, marked_html, marks_of
-from rules.run.verdict import NoMatch
+from rules.run.verdict import NoMatch, Sometimes
 from rules.tables.listing import Refusal
 from rules.tables.places import node_text
 from rules.tables.sheet import GIVEN, RULE, VALUE, Sheet
@@ -15,6 +15,7 @@ from rules.text.source import decoded
 from rules.words.notes import Note
 from rules.words.plans import Row, form_in_words, rows_of
 from rules.words.refusals import counts_in_words, meaning_in_words, places_of
+from rules.words.verdicts import choices_in_words
 
 CARD = """\
 <article class="rule {status}" id="line-{number}">
@@ -93,8 +94,11 @@ def plan(answer: Answer) -> str:
 
 def verdict(answer: Answer) -> str:
     match answer.verdict:
-        case NoMatch(miss):
-            return f"<p>no match: {in_html(miss.words)}</p>\n"
+        case NoMatch(miss) as found:
+            return f"<p>{found.said}: {in_html(miss.words)}</p>\n"
+        case Sometimes(undecided) as found:
+            lines = [f"sometimes: {undecided.words}", *choices_in_words(answer.sheet, found)]
+            return "".join(f"<p>{in_html(line.strip())}</p>\n" for line in lines)
         case Refusal() as refused:
             return refusal(answer.sheet, refused)
         case _:

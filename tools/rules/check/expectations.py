@@ -4,23 +4,25 @@ from collections.abc import Mapping
 from dataclasses import dataclass, field, replace
 
 from rules.answer import Answer
-from rules.run.values import are_equal, no_value
-from rules.run.verdict import Match, NoMatch, Verdict
+from rules.run.measuring import pairs_of
+from rules.run.values import no_value
+from rules.run.verdict import Match, NoMatch, Sometimes, Verdict
 from rules.tables.listing import Plan, Refusal
 from rules.tables.places import node_text
-from rules.tables.sheet import Scope, Sheet, Writer, sheet_of
-from rules.text.rule_text import Operation, Reader, Rule, read_expression
+from rules.tables.sheet import Scope, Sheet, Writer, range_of, sheet_of
+from rules.text.ranges import ValueReader, check_keys, read_value
+from rules.text.rule_text import Operation, Reader, Rule
 from rules.text.source import decoded
 from rules.text.tokens import RuleTextError, TokenKind
 from rules.words.plans import FORMS, form_of
 from rules.words.refusals import MEANINGS
 
-OF_RUNS = range(20, 24)
+OF_RUNS = (20, 21, 22, 23, 32)
 
 FORM_NAMES = [form.full_name() for forms in FORMS.values() for form in forms.values()]
 EXPECTED = (
     f"what may be expected: planned, {', '.join(FORM_NAMES)},"
-    " refused NUMBER, match, match NAME=VALUE, .. or no match"
+    " refused NUMBER, match, match NAME=VALUE, .., no match, always, sometimes or never"
 )
 
 
@@ -51,7 +53,12 @@ class NotMatched:
     """No match."""
 
 
-Expected = Planned | Refused | Matched | NotMatched
+@dataclass(frozen=True)
+class Undecided:
+    """A match for some of the measured numbers."""
+
+
+Expected = Planned | Refused | Matched | NotMatched | Undecided
 
 
 def asks_for_run(expected: Expected) -> bool:
@@ -59,7 +66,7 @@ def asks_for_run(expected: Expected) -> bool:
         case Refused(number):
             return number in OF_RUNS
         case _:
-            return isinstance(expected, Matched | NotMatched)
+            return isinstance(expected, Matched | NotMatched | Undecided)
 
 
 def read_expected(text: bytes) -> Expected:
@@ -70,12 +77,14 @@ def read_expected(text: bytes) -> Expected:
         return Planned()
     if said in FORM_NAMES:
         return Planned(said)
-    if said == "no match":
+    if said in ("no match", "never"):
         return NotMatched()
+    if said == "sometimes":
+        return Undecided()
     match words[:1]:
         case [b"refused"]:
             return read_refused(text)
-        case [b"match"]:
+        case [b"match" | b"always"]:
             return Matched(read_values(text))
         case _:
             raise RuleTextError(EXPECTED, 0, len(text))
@@ -99,7 +108,7 @@ def read_refused(text: bytes) -> Refused:
 
 def read_values(text: bytes) -> dict[bytes, bytes]:
     """The names and values of `match NAME=VALUE, ..`."""
-    reader = Reader(text)
+    reader = ValueReader(text)
     reader.next()
     values: dict[bytes, bytes] = {}
     while reader.peek().kind is not TokenKind.END:
@@ -110,13 +119,14 @@ def read_values(text: bytes) -> dict[bytes, bytes]:
             raise reader.error("expected a name that has not stood before")
         reader.next()
         reader.expect(b"=")
-        values[name.text] = read_value(reader)
+        values[name.text] = value_text(reader)
     return values
 
 
-def read_value(reader: Reader) -> bytes:
+def value_text(reader: Reader) -> bytes:
     """The text of a value."""
     expression = reader.expression()
+    check_keys(expression)
     sheet = sheet_of(Rule(reader.text, Operation.PATTERN, expression), Scope())
     fault = no_value(sheet, sheet.roots[0])
     if fault:
@@ -143,24 +153,28 @@ def agrees(expected: Expected, answer: Answer) -> bool:
                 name in values and is_equal(answer.sheet, values[name], value)
                 for name, value in expected_values.items()
             )
-        case NotMatched(), NoMatch():
+        case (NotMatched(), NoMatch()) | (Undecided(), Sometimes()):
             return True
         case _:
             return False
 
 
 def is_equal(sheet: Sheet, number: int, text: bytes) -> bool:
-    """A node's value is that of the text, which is laid out behind a copy of the sheet."""
+    """A node's value, ranges too, is that of the text, laid out behind a copy of the sheet."""
     both = replace(
         sheet,
         nodes=sheet.nodes.copy(),
         children=sheet.children.copy(),
         numbers=sheet.numbers.copy(),
         strings=sheet.strings.copy(),
+        ranges=sheet.ranges.copy(),
         parts=sheet.parts.copy(),
     )
-    Writer(both).value(text, read_expression(text))
-    return are_equal(both, number, both.value)
+    Writer(both).value(text, read_value(text))
+    pairs = pairs_of(both, number, both.value)
+    return pairs is not None and all(
+        range_of(both, left) == range_of(both, right) for left, right in pairs
+    )
 
 
 def is_at(text: bytes | None, sheet: Sheet, place: int) -> bool:
@@ -176,11 +190,11 @@ def found_in_words(expected: Expected, answer: Answer) -> str:
     match looked_at(expected, answer):
         case Plan() as plan:
             return form_of(answer.sheet, plan).full_name()
-        case Match(values):
+        case Match(values) as found:
             said = (f"{decoded(name)}={node_text(answer.sheet, values[name])}" for name in values)
-            return f"match {', '.join(said)}".rstrip()
+            return f"{found.said} {', '.join(said)}".rstrip()
         case Refusal(number, place):
             at = f" at {node_text(answer.sheet, place)}" if place else ""
             return f"refused {number}{at}"
-        case _:
-            return "no match"
+        case found:
+            return found.said

@@ -6,7 +6,7 @@ from html import escape
 from typing import NamedTuple
 
 from rules.answer import Answer
-from rules.run.verdict import NoMatch
+from rules.run.verdict import NoMatch, Sometimes
 from rules.tables.listing import Entry, EntryKind, Plan, Refusal
 from rules.tables.sheet import Sheet
 from rules.text.rule_text import Kind
@@ -18,6 +18,7 @@ COMPARED = "compared"
 IGNORED = "ignored"
 PLACE = "place"
 MISS = "miss"
+RANGE = "range"
 
 # What each mark says.
 LEGEND = {
@@ -27,6 +28,9 @@ LEGEND = {
     PLACE: "the place of a refusal or a note",
     MISS: "the first miss of a run",
 }
+# Said on pages that have it.
+OF_RANGES = {RANGE: "a number that is measured: a lowest and a highest"}
+TITLES = LEGEND | OF_RANGES
 OF_ENTRIES = {
     EntryKind.BIND: BOUND,
     EntryKind.IGNORE: IGNORED,
@@ -64,7 +68,7 @@ def marked_html(text: bytes, marks: Iterable[Mark], start: int = 0) -> str:
 
 def element(text: bytes, kind: str) -> str:
     spoken = f'<span class="spoken"> ({kind}) </span>'
-    return f'<span class="{kind}" title="{LEGEND[kind]}">{html_of(text)}{spoken}</span>'
+    return f'<span class="{kind}" title="{TITLES[kind]}">{html_of(text)}{spoken}</span>'
 
 
 def apart(marks: Iterable[Mark]) -> list[Mark]:
@@ -80,13 +84,14 @@ def marks_of(answer: Answer) -> Iterator[Mark]:
     """Of the answer's whole text, in the order of their weight."""
     for last in (answer.verdict, answer.outcome):
         match last:
-            case NoMatch(miss):
+            case NoMatch(miss) | Sometimes(miss):
                 yield mark_of(answer.sheet, miss.node, MISS)
             case Refusal():
                 places = places_of(answer.sheet, last)
                 yield from (mark_of(answer.sheet, node, PLACE) for node, _ in places)
             case Plan():
                 yield from marks_of_plan(answer.sheet, last)
+    yield from (mark_of(answer.sheet, node, RANGE) for node in answer.sheet.ranges)
 
 
 def mark_of(sheet: Sheet, number: int, kind: str) -> Mark:

@@ -7,7 +7,7 @@ from pathlib import Path
 from rules.check.cards import rule_card, unreadable_card
 from rules.check.checking import Checked, Result
 from rules.check.lines import Unreadable
-from rules.check.marks import LEGEND
+from rules.check.marks import LEGEND, OF_RANGES
 from rules.check.report import tally_of
 from rules.text.source import shown
 from rules.words.notes import Note
@@ -51,11 +51,13 @@ def page_of(name: str, results: Sequence[Result], notes: Mapping[int, Sequence[N
         section("What can\u2019t be read", unreadable),
         section("As expected", cards[True]),
     ]
+    ranges = any(result.answer.sheet.ranges for result in checked)
+    legend = LEGEND | (OF_RANGES if ranges else {})
     return PAGE.format(
         name=escape(shown(name)),
         tally=tally_of(results).in_words(),
         style=STYLE.read_text(),
-        legend="".join(LEGEND_ITEM.format(kind=kind, says=LEGEND[kind]) for kind in LEGEND),
+        legend="".join(LEGEND_ITEM.format(kind=kind, says=says) for kind, says in legend.items()),
         sections="".join(sections),
     )
 

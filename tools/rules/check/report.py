@@ -6,7 +6,7 @@ from typing import NamedTuple
 from rules.check.checking import Checked, Result
 from rules.check.expectations import looked_at
 from rules.check.lines import Unreadable
-from rules.run.verdict import NoMatch
+from rules.run.verdict import NoMatch, Sometimes
 from rules.tables.listing import Refusal
 from rules.tables.places import marked_node
 from rules.tables.sheet import RULE
@@ -61,7 +61,7 @@ def text_in_words(result: Checked) -> str:
     sheet = result.answer.sheet
     text = f"    {line_shown(result.line.rule.text)}"
     match looked_at(result.expected, result.answer):
-        case NoMatch(miss):
+        case NoMatch(miss) | Sometimes(miss):
             place, label = miss.node, miss.words
         case Refusal() as refusal:
             place, label = refusal.place, meaning_of(refusal).title

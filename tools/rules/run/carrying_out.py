@@ -47,14 +47,14 @@ class CarryingOut:
         asked = entry.node
         if self.sheet.node(asked).kind is Kind.NAME:
             return self.name_miss(asked, node)
-        if are_equal(self.sheet, asked, node):
+        if self.are_equal(asked, node):
             return None
         return self.found(node, asked, f"{self.text(asked)} is asked for {self.at(asked)}")
 
     def name_miss(self, asked: int, node: int) -> Miss | None:
         name = self.sheet.name_of(asked)
         value = self.values.get(name) or self.sheet.given[name]
-        if are_equal(self.sheet, value, node):
+        if self.are_equal(value, node):
             return None
         at = "(given)" if value in self.sheet.given.values() else self.at(value)
         return self.found(node, asked, f"`{self.text(asked)}` is {self.text(value)} {at}")
@@ -104,6 +104,9 @@ class CarryingOut:
                 words = f"{too_many}: the object asked for {self.at(pattern)} has none"
                 return Miss(key, pattern, words)
         return None
+
+    def are_equal(self, left: int, right: int) -> bool:
+        return are_equal(self.sheet, left, right)
 
     def key_of(self, place: int) -> Literal:
         return literal_of(self.sheet, self.entries[place].key)

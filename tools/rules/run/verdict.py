@@ -5,9 +5,11 @@ from typing import NamedTuple
 
 from rules.no_answer import NoAnswer
 from rules.run.carrying_out import CarryingOut, Miss
+from rules.run.choices import Choice, chosen, differing_choice, wrong_range
+from rules.run.measuring import Measuring
 from rules.run.values import Fault, names_below, no_value, not_simple
-from rules.tables.library import NO_MATCH, Library, Ran
-from rules.tables.listing import RunRefusal
+from rules.tables.library import NO_MATCH, SOMETIMES, Library, Ran
+from rules.tables.listing import Entry, RunRefusal
 from rules.tables.sheet import Sheet
 from rules.text.source import decoded
 
@@ -15,7 +17,9 @@ PLAN_TOO_LARGE = 6
 NOT_SIMPLE = 21
 NOT_A_VALUE = 22
 NO_VALUE_OF_NAME = 23
+RANGE_WRONG = 32
 MATCHED = 0
+VERDICTS = {MATCHED: "match", NO_MATCH: "no match", SOMETIMES: "sometimes"}
 
 
 class Task(NamedTuple):
@@ -31,14 +35,40 @@ class Match:
     """The node of each planned name's value."""
 
     values: dict[bytes, int]
+    said = "match"
+
+
+@dataclass(frozen=True)
+class Always(Match):
+    """A match whatever the measured numbers are."""
+
+    said = "always"
 
 
 @dataclass(frozen=True)
 class NoMatch:
     miss: Miss
+    said = "no match"
 
 
-Verdict = Match | NoMatch | RunRefusal
+@dataclass(frozen=True)
+class Never(NoMatch):
+    """No match whatever the measured numbers are."""
+
+    said = "never"
+
+
+@dataclass(frozen=True)
+class Sometimes:
+    """What decides whether it matches; numbers by node for which it does, and doesn't."""
+
+    undecided: Miss
+    matching: Choice
+    missing: Choice
+    said = "sometimes"
+
+
+Verdict = Match | NoMatch | Sometimes | RunRefusal
 
 
 def verdict_of(sheet: Sheet, task: Task, library: Library, entries: int) -> Verdict:
@@ -48,7 +78,19 @@ def verdict_of(sheet: Sheet, task: Task, library: Library, entries: int) -> Verd
     proved = ran.answer[0], ran.values
     if proved != numbers_of(sheet, read, listed):
         raise disagreement(sheet, proved, numbers_of(sheet, read, listed))
+    if isinstance(read, Sometimes):
+        check_choices(sheet, task, read, library, entries)
     return read
+
+
+def check_choices(
+    sheet: Sheet, task: Task, read: Sometimes, library: Library, entries: int
+) -> None:
+    """Each choice of numbers is run by the proved code too."""
+    for choice, expected in ((read.matching, Match), (read.missing, NoMatch)):
+        verdict = verdict_of(chosen(sheet, choice), task, library, entries)
+        if not isinstance(verdict, expected):
+            raise NoAnswer(f"the tool's choice of numbers is none: the run answers {verdict}")
 
 
 def read_verdict(sheet: Sheet, task: Task, ran: Ran) -> Verdict:
@@ -64,13 +106,27 @@ def read_verdict(sheet: Sheet, task: Task, ran: Ran) -> Verdict:
             "the tool's reading disagrees with the proved run, which answers"
             f" {told(sheet, number, ran.values)}; the tool finds nothing in the way of a run"
         )
+    if sheet.ranges:
+        return measured_verdict(sheet, task, ran.entries)
     carrying_out = CarryingOut(sheet, ran.entries)
     miss = carrying_out.miss(0, task.value)
     return NoMatch(miss) if miss else Match(carrying_out.values)
 
 
+def measured_verdict(sheet: Sheet, task: Task, entries: list[Entry]) -> Verdict:
+    carrying_out = Measuring(sheet, entries)
+    miss = carrying_out.miss(0, task.value)
+    if miss:
+        return Never(miss)
+    undecided = carrying_out.undecided()
+    if undecided is None:
+        return Always(carrying_out.values)
+    matching = carrying_out.classes.choice()
+    return Sometimes(undecided.miss, matching, differing_choice(sheet, undecided.pair))
+
+
 def run_refusal(sheet: Sheet, task: Task) -> RunRefusal | None:
-    """21, 22 or 23 with its place, if any."""
+    """21, 22, 23 or 32 with its place, if any."""
     fault = not_simple(sheet, task.pattern)
     if fault:
         return refused(NOT_SIMPLE, fault)
@@ -78,7 +134,17 @@ def run_refusal(sheet: Sheet, task: Task) -> RunRefusal | None:
     if fault:
         return refused(NOT_A_VALUE, fault)
     name = name_without_value(sheet, task)
-    return refused(NO_VALUE_OF_NAME, Fault(name, "the name")) if name else None
+    if name:
+        return refused(NO_VALUE_OF_NAME, Fault(name, "the name"))
+    wrong = wrong_range(sheet, known_roots(sheet, task))
+    return refused(RANGE_WRONG, Fault(wrong, "the range")) if wrong else None
+
+
+def known_roots(sheet: Sheet, task: Task) -> list[int]:
+    """The value and the values of known names, whose numbers are measured."""
+    given = sheet.given.items()
+    known = [node for name, node in given if sheet.scope.is_known(name, task.scoping)]
+    return [task.value, *known]
 
 
 def given_fault(sheet: Sheet) -> Fault | None:
@@ -111,6 +177,8 @@ def numbers_of(sheet: Sheet, verdict: Verdict, listed: list[int]) -> tuple[int, 
             return MATCHED, [values.get(name, before) for name, before in names]
         case NoMatch():
             return NO_MATCH, listed
+        case Sometimes():
+            return SOMETIMES, listed
         case _:
             return verdict.number, listed
 
@@ -126,6 +194,6 @@ def disagreement(
 
 def told(sheet: Sheet, number: int, values: list[int]) -> str:
     """A verdict's number and the nodes of the values that names have."""
-    words = {MATCHED: "match", NO_MATCH: "no match"}.get(number, f"refusal {number}")
+    words = VERDICTS.get(number, f"refusal {number}")
     nodes = [f"`{decoded(name)}` at node {node}" for name, node in zip(sheet.names, values) if node]
     return f"{words} with {', '.join(nodes) or 'no values'}"

@@ -17,7 +17,7 @@ from rules.tables.listing import (
     read_answer,
     read_entries,
 )
-from rules.tables.sheet import Sheet
+from rules.tables.sheet import Sheet, range_of
 
 WORD = "I"
 LONG = "Q"
@@ -26,6 +26,8 @@ LENT = [ctypes.c_void_p, ctypes.c_size_t]
 TABLES = 7
 NO_MATCH = 100
 BODY_COLUMNS = 5
+SOMETIMES = 101
+CARRIED_OUT = (0, NO_MATCH, SOMETIMES)
 # A range that is empty has an address too.
 NOTHING = array(LONG, [0])
 
@@ -59,10 +61,10 @@ class Library:
             )
         self.path = path
         try:
-            calls = ctypes.CDLL(str(path.resolve()))
-            self.plan_call = called(calls.teluddru_plan, 7, 2)
-            self.run_call = called(calls.teluddru_run, 4, 3)
-            self.body_call = body_called(calls.teluddru_plan_body)
+            self.calls = ctypes.CDLL(str(path.resolve()))
+            self.plan_call = called(self.calls.teluddru_plan, 7, 2)
+            self.run_call = called(self.calls.teluddru_run, 4, 3)
+            self.body_call = body_called(self.calls.teluddru_plan_body)
         except (OSError, AttributeError) as error:
             raise NoAnswer(f"{path} can't be called: {error}") from None
         self.entries = array(WORD)
@@ -82,12 +84,18 @@ class Library:
     def run(
         self, sheet: Sheet, pattern: int, value: int, scoping: int, listed: list[int], entries: int
     ) -> Ran:
-        """Runs a pattern on a value; `listed` has the node of each name's value, or 0."""
+        """Runs a pattern on a value; `listed` has the node of each name's value, or 0.
+
+        Where numbers of the sheet are measured, the run is one with tolerance.
+        """
         values = array(WORD, listed)
-        lent = (*self.lend(sheet), sheet.scope.scheduler, scoping, pattern, value)
-        self.run_call(*lent, *address(values), *self.space(entries), *address(self.answer))
+        lent = [*self.lend(sheet), sheet.scope.scheduler, scoping, pattern, value, *address(values)]
+        ends = ends_of(sheet) if sheet.ranges else []
+        call = self.tolerance_call() if ends else self.run_call
+        lent += chain.from_iterable(map(address, ends))
+        call(*lent, *self.space(entries), *address(self.answer))
         head = self.answer.tolist()
-        found = self.rows(self.planned(entries)) if head[0] in (0, NO_MATCH) else []
+        found = self.rows(self.planned(entries)) if head[0] in CARRIED_OUT else []
         try:
             return Ran(head, read_entries(found, len(sheet.nodes)), values.tolist())
         except ListingError as error:
@@ -107,6 +115,12 @@ class Library:
             return BodyAnswer(read_answer(head, rows, len(sheet.nodes)), line, marks.tolist())
         except ListingError as error:
             raise NoAnswer(f"the plan of {self.path} can't be read: {error}") from None
+
+    def tolerance_call(self) -> ctypes._CFuncPtr:
+        try:
+            return called(self.calls.teluddru_run_with_tolerance, 4, 5)
+        except AttributeError:
+            raise NoAnswer(f"{self.path} doesn't know ranges: build it anew") from None
 
     def lend(self, sheet: Sheet) -> list[int]:
         if self.tables is None or self.tables.sheet is not sheet:
@@ -136,7 +150,7 @@ class Tables:
 
     def __init__(self, sheet: Sheet) -> None:
         names = list(sheet.names.values())
-        signed = ((int(number < 0), abs(number)) for number in sheet.numbers)
+        signed = map(sign_and_size, sheet.numbers)
         self.sheet = sheet
         self.kept = [
             array(WORD, chain.from_iterable(sheet.nodes)),
@@ -148,6 +162,16 @@ class Tables:
             array(BYTE, [name.marks for name in names]),
         ]
         self.lent = list(chain.from_iterable(map(address, self.kept)))
+
+
+def sign_and_size(number: int) -> tuple[int, int]:
+    return int(number < 0), abs(number)
+
+
+def ends_of(sheet: Sheet) -> "list[array[int]]":
+    """The lowest and the highest numbers by node; those of an exact number are its own."""
+    ranges = [range_of(sheet, node) for node in range(1, len(sheet.nodes) + 1)]
+    return [array(LONG, chain.from_iterable(map(sign_and_size, ends))) for ends in zip(*ranges)]
 
 
 def called(call: ctypes._CFuncPtr, numbers: int, written: int) -> ctypes._CFuncPtr:

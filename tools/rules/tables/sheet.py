@@ -45,6 +45,13 @@ class Name(NamedTuple):
     marks: int
 
 
+class Range(NamedTuple):
+    """The lowest and the highest number of a node."""
+
+    lowest: int
+    highest: int
+
+
 @dataclass
 class Scope:
     """The marks of names, summed: 1 bound, 2 bound here, 4 unbound, 8 local, 16 global."""
@@ -80,7 +87,8 @@ class Part(NamedTuple):
 class Sheet:
     """The tables of a rule; nodes are numbered as they end in the text, names as they appear.
 
-    For a run its values stand in the same tables, their texts behind the rule's.
+    For a run its values stand in the same tables, their texts behind the rule's. A number that is
+    measured has its range in `ranges`, and the lowest as its own number.
     """
 
     text: bytes
@@ -94,6 +102,7 @@ class Sheet:
     strings: bytearray = field(default_factory=bytearray)
     value: int = 0
     given: dict[bytes, int] = field(default_factory=dict)
+    ranges: dict[int, Range] = field(default_factory=dict)
     parts: list[Part] = field(default_factory=list)
 
     def __post_init__(self) -> None:
@@ -142,6 +151,13 @@ class Sheet:
             *(columns(*name) for name in self.names.values()),
         ]
         return "".join(lines).encode() + self.strings + self.text
+
+
+def range_of(sheet: Sheet, number: int) -> Range:
+    """A node's range; a number without one is exact, and what is no number has 0."""
+    node = sheet.node(number)
+    own = sheet.numbers[node.first] if node.kind is Kind.NUMBER else 0
+    return sheet.ranges.get(number, Range(own, own))
 
 
 def columns(*numbers: int) -> str:
@@ -206,6 +222,8 @@ class Writer:
             expression.kind, start + expression.start, start + expression.end, first, count
         )
         self.sheet.nodes.append(node)
+        if expression.kind is Kind.NUMBER and expression.items:
+            self.sheet.ranges[len(self.sheet.nodes)] = Range(*map(self.number, expression.items))
         return len(self.sheet.nodes)
 
     def words(self, expression: Expression) -> tuple[int, int]:
@@ -217,7 +235,8 @@ class Writer:
             case Kind.RAW_STRING:
                 return self.part.start + expression.start + 1, len(text) - 2
             case Kind.NUMBER:
-                self.sheet.numbers.append(number_value(text, expression.start))
+                lowest, *_ = (*expression.items, expression)
+                self.sheet.numbers.append(self.number(lowest))
                 return len(self.sheet.numbers) - 1, 0
             case Kind.BOOL:
                 return int(text == b"true"), 0
@@ -229,6 +248,10 @@ class Writer:
                 return self.items(expression), len(expression.items) // 2
             case _:
                 return 0, 0
+
+    def number(self, expression: Expression) -> int:
+        text = self.part.text[expression.start : expression.end]
+        return number_value(text, expression.start)
 
     def string(self, value: bytes) -> tuple[int, int]:
         place = len(self.sheet.strings)

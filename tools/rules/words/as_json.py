@@ -2,10 +2,11 @@
 
 from rules.answer import Answer
 from rules.run.carrying_out import Miss
+from rules.run.choices import Choice, chosen_text
 from rules.run.values import fields_of, key_text, literal_of
-from rules.run.verdict import Match, NoMatch
+from rules.run.verdict import Match, NoMatch, Sometimes
 from rules.tables.listing import Entry, EntryKind, Plan, Refusal
-from rules.tables.sheet import Sheet
+from rules.tables.sheet import GIVEN, VALUE, Sheet
 from rules.text.rule_text import Kind, Operation
 from rules.text.source import column, decoded
 from rules.words.notes import Note
@@ -35,7 +36,7 @@ KINDS = {
 
 
 class NoJson(Exception):
-    """A value that JSON can't say: two keys of one object have equal text."""
+    """A value that JSON can't say: two keys of one object have equal text, a number has a range."""
 
 
 def answer_object(answer: Answer, notes: list[Note], careful_alone: bool) -> Object:
@@ -95,17 +96,35 @@ def run_object(answer: Answer) -> Object | None:
     sheet = answer.sheet
     on = {"on": node_object(sheet, answer.task.value)}
     match answer.verdict:
-        case Match(values):
+        case Match(values) as found:
             names = {decoded(name): value_object(sheet, node) for name, node in values.items()}
-            return {**on, "answer": "match", "names": names}
-        case NoMatch(miss):
-            return {**on, "answer": "no match", "miss": miss_object(sheet, miss)}
+            return {**on, "answer": found.said, "names": names}
+        case NoMatch(miss) as found:
+            return {**on, "answer": found.said, "miss": miss_object(sheet, miss)}
+        case Sometimes() as found:
+            return {**on, "answer": found.said, **sometimes_object(sheet, found)}
         case refusal:
             return {**on, **refusal_object(sheet, refusal)}
 
 
 def miss_object(sheet: Sheet, miss: Miss) -> Object:
     return {"words": miss.words, **node_object(sheet, miss.node)}
+
+
+def sometimes_object(sheet: Sheet, found: Sometimes) -> Object:
+    return {
+        "undecided": miss_object(sheet, found.undecided),
+        "matching": choice_object(sheet, found.matching),
+        "missing": choice_object(sheet, found.missing),
+    }
+
+
+def choice_object(sheet: Sheet, choice: Choice) -> Object:
+    """The texts of the values with the chosen numbers."""
+    texts = {part: decoded(chosen_text(sheet, part, choice)) for part in sheet.parts}
+    given = {decoded(part.name): text for part, text in texts.items() if part.what == GIVEN}
+    value = next((text for part, text in texts.items() if part.what == VALUE), None)
+    return {"value": value, "given": given}
 
 
 def value_object(sheet: Sheet, node: int) -> Object:
@@ -122,6 +141,8 @@ def json_value(sheet: Sheet, number: int) -> object:
         return [json_value(sheet, item) for item in sheet.items_of(number)]
     if kind is Kind.OBJECT:
         return json_object(sheet, number)
+    if number in sheet.ranges:
+        raise NoJson
     literal = literal_of(sheet, number)
     match literal.kind:
         case Kind.STRING:

@@ -131,6 +131,7 @@ MEANINGS = {
         "a name is read here that is neither known nor bound by an earlier line or pair",
         "the name",
     ),
+    32: Meaning("range wrong", "a range's lowest number is above its highest", "{what}"),
 }
 
 

@@ -43,6 +43,7 @@ class Documented(unittest.TestCase):
             found("[w, w] = [18, 16]", "--run"),
             found("x", "--on", "y"),
             found("_ = y"),
+            found("18", "--on", "17..19"),
             found('{"a": x} := {"b": 1}'),
             found("--check", "-", text=b"x => pattern\nx y => planned\n"),
         ]

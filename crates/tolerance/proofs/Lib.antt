@@ -1,0 +1,5 @@
+pub mod Answers
+pub mod orders
+pub mod trees
+pub mod nodes
+pub mod tables
