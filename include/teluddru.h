@@ -1,8 +1,8 @@
 /*
- * Teluddru: plans how the patterns of joinery rules take values apart. Six calls over tables that the host
- * lends (planning, a rule body, Run, Run with tolerances, the names report, adding a name), and two over a
- * sheet's text (its listing, its pages for print). Four more are of a plan store, in which rule packs keep
- * plans.
+ * Teluddru: plans how the patterns of joinery rules take values apart. Seven calls over tables that the
+ * host lends (planning, a rule body, Run, Run with tolerances, an example that two patterns both match, the names
+ * report, adding a name), and two over a sheet's text (its listing, its pages for print). Four more are of a plan
+ * store, in which rule packs keep plans.
  *
  * What a call assumes. Of the words and bytes that it is lent: nothing. Whatever they are, a call
  * returns; what breaks a rule is refused. It reads and writes only the ranges that it is given, and
@@ -140,6 +140,8 @@ enum teluddru_answer {
     TELUDDRU_ALWAYS = 0,                    /* whatever the numbers are; teluddru_run_with_tolerance alone, as the next two */
     TELUDDRU_NEVER = 100,
     TELUDDRU_SOMETIMES = 101,
+    TELUDDRU_EXAMPLE = 0,                   /* then the value's node, the nodes and the child entries written */
+    TELUDDRU_NO_EXAMPLE = 100,
     TELUDDRU_OVER_LIMIT = 1,
     TELUDDRU_BREAKS_RULES = 2,              /* or a mark is above 31 */
     TELUDDRU_TOO_DEEP = 3,
@@ -165,6 +167,7 @@ enum teluddru_answer {
     TELUDDRU_NO_PLACE = 33,                 /* for the name: the table is full, or has 128; teluddru_add_name alone */
     TELUDDRU_SHARES_REFUSED = 34,           /* set-up: shares above 1,536 in all, more than eight packs, or words of another length */
     TELUDDRU_STORE_REFUSED = 35,            /* keeping: no space, a plan that ends past its buffer, an unknown pack; words that are no store */
+    TELUDDRU_VALUE_TOO_LARGE = 36,          /* the example; after all other refusals of both sides */
     TELUDDRU_NOT_A_BODY = 37,               /* words that are no lines of a rule body, or too few or many; teluddru_plan_body alone */
     TELUDDRU_NAME_NOT_READY = 38            /* the name, which has no value yet; teluddru_plan_body alone */
 };
@@ -314,6 +317,35 @@ uint32_t teluddru_run_with_tolerance(const uint32_t *nodes, size_t nodes_length,
                                      const uint64_t *highest, size_t highest_length,
                                      uint32_t *plan, size_t plan_length,
                                      uint32_t *answer, size_t answer_length);
+
+/*
+ * Gives an example that two patterns of the same tables both match: TELUDDRU_EXAMPLE with the value's node and how
+ * many nodes and child entries were written, or TELUDDRU_NO_EXAMPLE, exactly if no value is matched by both. Each side
+ * has its own marks, scheduler, scoping, pattern and values by name number (0 for none), and its own names: x of the
+ * one is not x of the other. A known name holds its listed value; places that nothing fixes are null. The value's
+ * nodes are numbered on from the tables' and written, five words each, to example_nodes, children before parents;
+ * its child entries go on from the children and are written to example_children. So the tables with both
+ * appended hold the value, and a run of each pattern on its node matches, where they are within the limits. Both lists
+ * are zeros past the value, and throughout at TELUDDRU_NO_EXAMPLE or a refusal. Refusals: TELUDDRU_LAYOUT_BROKEN of
+ * either side, then those of teluddru_run of the first side, of the value list and of listed nodes as there, then those
+ * of the second, then TELUDDRU_VALUE_TOO_LARGE: the value needs more nodes or child entries than were lent, more
+ * than TELUDDRU_MOST_NODES nodes, or a depth above TELUDDRU_MOST_DEPTH.
+ */
+uint32_t teluddru_common_example(const uint32_t *nodes, size_t nodes_length,
+                                 const uint32_t *children, size_t children_length,
+                                 const uint64_t *numbers, size_t numbers_length,
+                                 const uint32_t *names, size_t names_length,
+                                 const uint8_t *strings, size_t strings_length,
+                                 const uint8_t *text, size_t text_length,
+                                 const uint8_t *first_marks, size_t first_marks_length,
+                                 uint32_t first_scheduler, uint32_t first_scoping, uint32_t first_pattern,
+                                 const uint32_t *first_values, size_t first_values_length,
+                                 const uint8_t *second_marks, size_t second_marks_length,
+                                 uint32_t second_scheduler, uint32_t second_scoping, uint32_t second_pattern,
+                                 const uint32_t *second_values, size_t second_values_length,
+                                 uint32_t *example_nodes, size_t example_nodes_length,
+                                 uint32_t *example_children, size_t example_children_length,
+                                 uint32_t *answer, size_t answer_length);
 
 /*
  * Reports the names of a pattern: for each name a word of enum teluddru_reported in the list, then

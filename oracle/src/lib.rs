@@ -4,11 +4,12 @@ pub mod answer;
 pub mod bodies;
 #[cfg(run_linked)]
 mod c_calls;
+pub mod common_example;
 pub mod comparison;
 pub mod generate;
 pub mod matching;
-pub mod plan_store;
 pub mod parties;
+pub mod plan_store;
 pub mod refusals;
 pub mod reporting;
 pub mod selection;

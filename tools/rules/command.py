@@ -10,6 +10,7 @@ from pathlib import Path
 from rules.answer import Answer, Planner, ask, refused_by_careful_alone
 from rules.body.command import body_said
 from rules.body.lines import BodyTextError
+from rules.both.command import both_said
 from rules.check.command import check_said
 from rules.no_answer import NoAnswer
 from rules.options import command_parser, planner_of, question_of
@@ -26,12 +27,15 @@ from rules.words.plans import plan_in_words
 from rules.words.refusals import refusal_in_words
 from rules.words.verdicts import verdict_in_words
 
-# Exit statuses: planned, matched or nothing differs; refused, no match or something differs; none.
+# Exit statuses: planned, matched, an example or nothing differs; refused, no match, no example or
+# something differs; none.
 GOOD = 0
 BAD = 1
 NO_ANSWER = 2
 
 STANDARD_INPUT = "-"
+# What may be asked for in place of a rule.
+MODES = {"check": "--check FILE", "body": "--body FILE", "both": "--both PATTERN PATTERN"}
 PLANNED_WITHOUT = (
     "without --careful this rule is planned: the check ends at the first part that it can't judge"
 )
@@ -59,6 +63,8 @@ def said(arguments: list[str]) -> int:
             return check_status(options)
         if options.body is not None:
             return body_status(options)
+        if options.both is not None:
+            return GOOD if both_said(options, planner_of(options)) else BAD
         question = question_of(options, rule_bytes(options.rule))
         if options.sheet:
             return sheet_said(question)
@@ -83,21 +89,22 @@ def said(arguments: list[str]) -> int:
 
 
 def check_usage(options: argparse.Namespace) -> None:
-    """A rule or a file of rules is asked for, which has its options in it."""
-    if options.check is None:
-        if options.html is not None:
-            raise NoAnswer("--html FILE goes with --check FILE")
-        if options.body is None and options.rule is None:
-            raise NoAnswer(
-                "a rule is asked for, or a file of rules: --check FILE, or a rule body: --body FILE"
-                " (see --help)"
-            )
-        if options.body is not None and (options.rule is not None or options.sheet):
-            raise NoAnswer("--body FILE goes without a rule and without --sheet")
-    elif options.body is not None:
-        raise NoAnswer("--check FILE goes without --body FILE")
-    elif options.rule is not None or options.sheet or question_of(options, b"") != Question(b""):
+    """One thing is asked for; a file of rules has their options in it."""
+    modes = [words for mode, words in MODES.items() if vars(options)[mode] is not None]
+    rule = options.rule is not None or options.sheet
+    if len(modes) > 1:
+        raise NoAnswer(f"{modes[0]} goes without {modes[1]}")
+    if options.html is not None and options.check is None:
+        raise NoAnswer("--html FILE goes with --check FILE")
+    if not modes and options.rule is None:
+        raise NoAnswer(
+            "a rule is asked for, or a file of rules: --check FILE, a rule body: --body FILE, two"
+            " patterns: --both PATTERN PATTERN (see --help)"
+        )
+    if options.check is not None and (rule or question_of(options, b"") != Question(b"")):
         raise NoAnswer("--check FILE goes without a rule and its options: these stand in the file")
+    if modes and rule:
+        raise NoAnswer(f"{modes[0]} goes without a rule and without --sheet")
 
 
 def check_status(options: argparse.Namespace) -> int:

@@ -34,7 +34,7 @@ BUILT_LIBRARY = Path(__file__).resolve().parents[2] / "target" / "tools" / "libt
 
 DESCRIPTION = """\
 Plans a line of rule text and says the plan, or why there is none, in words; runs
-it on a value.
+it on a value; gives a value that two patterns both match.
 """
 
 EPILOG = """\
@@ -74,10 +74,17 @@ rule bodies:
   a line of rule text a line; an expression alone is an index. Blank lines and
   comments are passed over. What a line binds is bound for those below it.
 
+two patterns:
+  --both PATTERN PATTERN gives an example that both match, null where nothing
+  fixes a part, or the places that can't agree. Their names differ, also where
+  they are spelled alike: 1:w is w of the first pattern, 2:w of the second, as in
+  --given 1:w=18 or --bound 2:w. A name that one of them alone has needs no 1: or
+  2:. --scheduler and --scoping are for both.
+
 exit status:
-  0 planned, matched (always), or nothing differs; 1 refused, no match (sometimes,
-  never), or something differs; 2 no answer (rule text, usage, no library, a line
-  that can't be read, output that can't be written)
+  0 planned, matched (always), an example, or nothing differs; 1 refused, no match
+  (sometimes, never), no example, or something differs; 2 no answer (rule text,
+  usage, no library, a line that can't be read, output that can't be written)
 """
 
 
@@ -152,7 +159,7 @@ def command_parser() -> argparse.ArgumentParser:
     parser.add_argument(
         "rule", metavar="RULE", nargs="?", help="rule text; - reads it from standard input"
     )
-    add_check_options(parser)
+    add_mode_options(parser)
     add_question_options(parser)
     printed = parser.add_mutually_exclusive_group()
     printed.add_argument("--json", action="store_true", help="print the answer as a JSON object")
@@ -163,7 +170,8 @@ def command_parser() -> argparse.ArgumentParser:
     return parser
 
 
-def add_check_options(parser: argparse.ArgumentParser) -> None:
+def add_mode_options(parser: argparse.ArgumentParser) -> None:
+    """What is asked for in place of a rule."""
     parser.add_argument(
         "--check",
         metavar="FILE",
@@ -176,6 +184,13 @@ def add_check_options(parser: argparse.ArgumentParser) -> None:
         metavar="FILE",
         help="plan a rule body, a line of rule text a line: each line's plan, or the first name"
         " that has no value yet; - is standard input",
+    )
+    parser.add_argument(
+        "--both",
+        nargs=2,
+        metavar="PATTERN",
+        help="give an example that both patterns match, and run both on it; or tell why there is"
+        " none",
     )
 
 

@@ -27,6 +27,8 @@ OPERATIONS = {
 SCOPINGS = {"respect": RESPECT_PARENT, "shadow": ALLOW_SHADOWING}
 VERSIONS = {"v0": 0, "v1": 1}
 MOST_ENTRIES = 1536
+WILDCARD_GIVEN = "--given: `_` is no name, each of its places has a value of its own"
+TAKEN_WHOLE = "(names inside an expression that is taken whole are not the planner's)"
 
 
 @dataclass(frozen=True)
@@ -112,10 +114,7 @@ def rule_of(question: Question) -> Rule:
 def check_names(sheet: Sheet, question: Question) -> None:
     """Every name of the options is one of the rule, whose names alone stand in the sheet by now."""
     if WILDCARD in question.given:
-        raise NoAnswer("--given: `_` is no name, each of its places has a value of its own")
+        raise NoAnswer(WILDCARD_GIVEN)
     for name, option in {**dict.fromkeys(question.given, "--given"), **question.named}.items():
         if name not in sheet.names and name not in question.perhaps:
-            raise NoAnswer(
-                f"{option}: the rule has no name `{shown(decoded(name))}` (names inside"
-                " an expression that is taken whole are not the planner's)"
-            )
+            raise NoAnswer(f"{option}: the rule has no name `{shown(decoded(name))}` {TAKEN_WHOLE}")

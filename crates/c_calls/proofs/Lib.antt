@@ -5,3 +5,4 @@ pub mod Called
 pub mod BodyCalls
 pub mod NamesTold
 pub mod Tolerated
+pub mod Exampled

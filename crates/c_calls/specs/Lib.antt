@@ -3,3 +3,4 @@ pub mod Calls
 pub mod Bodies
 pub mod NameCall
 pub mod Tolerating
+pub mod Examples

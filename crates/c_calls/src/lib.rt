@@ -1,6 +1,7 @@
 // The calls for a C host over lent tables: marks as bytes, all else as numbers, the answer's four numbers in lent words.
 mod answer;
 pub mod bodies;
+pub mod examples;
 mod given;
 pub mod naming;
 pub mod planning;

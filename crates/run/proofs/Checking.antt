@@ -93,7 +93,7 @@ module _ (T : Tables) (value : ℕ) (values : List ℕ) (a : AllAsks T value val
         go true e = ap (λ (b : Bool). isNode T n && b) (marked-at T false (a .good .table) m n (node-of-test T n e))
         go false e = rw e
 
-    listed-is : allMarked (T .nodes) (T .names) marks values ≡ valuesListed T values
+    pub listed-is : allMarked (T .nodes) (T .names) marks values ≡ valuesListed T values
     unfolding allMarked valuesListed
     listed-is = ap (λ (p : ℕ → Bool). allFrom p 1 (nameCount T)) (fun-ext (λ x. ap (λ (b : Bool). eqb (listedNode values x) 0 || b) (node-is (listedNode values x))))
 

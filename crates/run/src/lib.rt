@@ -3,12 +3,12 @@ ghost use Rattle.base.specs.Lent.{old};
 ghost use Rattle.table.specs.Lent.{given, lent};
 ghost use Rattle.run.specs.Operations.{RanIn};
 ghost use Rattle.run.specs.code.Post.{RunAsks, MatchValuesAsks, ValuesCameIn, CarriedIn, CheckedAsks, CheckedIn};
-use checks::all_values;
-use checks::is_simple;
+use inner::checks::all_values;
+use inner::checks::is_simple;
+use inner::names::known_listed;
+use inner::names::set_names;
+use inner::names::start_list;
 use matching::inner::match_pattern;
-use names::known_listed;
-use names::set_names;
-use names::start_list;
 use planner::buffer::ENTRY_WORDS;
 use planner::buffer::PATTERN_WORDS;
 use planner::buffer::clear;
@@ -22,8 +22,7 @@ use table::TableRefusal;
 use table::check;
 use table::reading::is_node;
 
-mod checks;
-mod names;
+pub mod inner;
 
 pub enum RunAnswer {
     Match,

@@ -19,6 +19,11 @@ use Rattle.planner.specs.Operations.{Outcome, Answered}
 use Rattle.body.specs.declared.BodyPlanned.{BodyPlanned}
 use Rattle.body.specs.Lines.{isBody, operationsOf}
 use Rattle.body.specs.Body.{BodyOutcome, refusedAt, lineOutcome, bodyFrom, noPlan, bodyOutcome, BodyAnswered}
+use Rattle.common_example.specs.declared.ExampleAnswer.{ExampleAnswer}
+use Rattle.common_example.specs.declared.sides.ScopedPattern.{ScopedPattern}
+use Rattle.common_example.specs.Operations as Example
+use Rattle.common_example.specs.Operations.{PatternSide, sideChecked, ExampleOutcome, exampleOutcome, exampleAnswer, nodesAfter, childrenAfter}
+use Rattle.common_example.specs.Common.{Gives, patternSide}
 use Rattle.report.specs.declared.ReportAnswer.{ReportAnswer}
 use Rattle.report.specs.Report as Report
 use Rattle.report.specs.Report.{ReportOutcome, reportOutcome, reportAnswer, reportList, ReportedBy}
@@ -88,6 +93,23 @@ module _ (T T′ : Tables) (s : Scope) (mode : ScopingMode) (pattern value : ℕ
             ∙ sym (ap (λ (x : ToleranceOutcome). valuesLeft (plannedName (known s mode) (expr T′ pattern)) x buffer values) o′);
       }
 
+-- the example of two sides is refused at the first, and both lists are cleared
+example-refused : (T : Tables) (s₁ s₂ : PatternSide) → checked T (s₁ .scope) ≡ Refusal.refused overLimit → exampleOutcome T s₁ s₂ ≡ Example.refused overLimit
+unfolding exampleOutcome sideChecked
+example-refused T s₁ s₂ e = simp e
+
+module _ (T T′ : Tables) (s₁ s₂ : PatternSide) (e : checked T (s₁ .scope) ≡ Refusal.refused overLimit) (e′ : checked T′ (s₁ .scope) ≡ Refusal.refused overLimit) where
+  gives-same : {nodes children nodesExit childrenExit : List ℕ} {r : ExampleAnswer} → Gives T (exampleOutcome T s₁ s₂) nodes children nodesExit childrenExit r → Gives T′ (exampleOutcome T′ s₁ s₂) nodes children nodesExit childrenExit r
+  unfolding exampleAnswer nodesAfter childrenAfter
+  gives-same {nodes} {children} g =
+      let o = example-refused T s₁ s₂ e in
+      let o′ = sym (example-refused T′ s₁ s₂ e′) in
+      record {
+        answer = g .answer ∙ ap (λ (x : ExampleOutcome). exampleAnswer T x nodes children) o ∙ ap (λ (x : ExampleOutcome). exampleAnswer T′ x nodes children) o′;
+        nodes-are = g .nodes-are ∙ ap (λ (x : ExampleOutcome). nodesAfter T x nodes children) o ∙ ap (λ (x : ExampleOutcome). nodesAfter T′ x nodes children) o′;
+        children-are = g .children-are ∙ ap (λ (x : ExampleOutcome). childrenAfter T x nodes children) o ∙ ap (λ (x : ExampleOutcome). childrenAfter T′ x nodes children) o′;
+      }
+
 -- ---- tables over names
 module _ (over : List ℕ → Tables) (counts : (names : List ℕ) → nameCount (over names) ≡ length names / 2) (s : Scope) where
   too-many : (names : List ℕ) → 128 < length names / 2 → checked (over names) s ≡ Refusal.refused overLimit
@@ -139,3 +161,13 @@ module _ (over : List ℕ → Tables) (counts : (names : List ℕ) → nameCount
           list = by .list ∙ ap (λ (o : ReportOutcome). reportList o (over ws) s mode pattern before) e ∙ sym (ap (λ (o : ReportOutcome). reportList o (over ws′) s mode pattern before) e′);
         })
         ns names copied
+
+module _ (over : List ℕ → Tables) (counts : (names : List ℕ) → nameCount (over names) ≡ length names / 2) (p q : ScopedPattern) (values₁ values₂ : List ℕ) where
+  abbrev outcomeOf : List ℕ → ExampleOutcome
+  outcomeOf ws = exampleOutcome (over ws) (patternSide p values₁) (patternSide q values₂)
+
+  pub example-all : (ns : List Name) (names : NameWords) → Copied ns names → {nodes children nodesExit childrenExit : List ℕ} {r : ExampleAnswer}
+      → Gives (over (held names)) (outcomeOf (held names)) nodes children nodesExit childrenExit r → Gives (over (nameWords ns)) (outcomeOf (nameWords ns)) nodes children nodesExit childrenExit r
+  example-all ns names copied {nodes} {children} {nodesExit} {childrenExit} {r} =
+      as-all (λ ws. Gives (over ws) (outcomeOf ws) nodes children nodesExit childrenExit r)
+      (λ ws ws′ l l′. gives-same (over ws) (over ws′) (patternSide p values₁) (patternSide q values₂) (too-many over counts (p .scope) ws l) (too-many over counts (p .scope) ws′ l′)) ns names copied

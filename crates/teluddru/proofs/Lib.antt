@@ -1,4 +1,5 @@
 pub mod Locals
+pub mod Params
 pub mod Copying
 pub mod Limits
 pub mod AllNames

@@ -1,6 +1,7 @@
 // The library's calls for a caller in Rattle: names are a lent table of records.
 mod adding;
 mod bodies;
+mod examples;
 mod plans;
 mod records;
 mod reports;
@@ -12,12 +13,15 @@ use crate::adding::name_of;
 use crate::adding::place_of;
 use crate::adding::put_name;
 use crate::bodies::body_words;
+use crate::examples::example_words;
 use crate::plans::plan_words;
 use crate::records::copy_names;
 use crate::reports::report_words;
 use crate::runs::run_words;
 use crate::tolerances::tolerance_words;
 use body::BodyPlanned;
+use common_example::ExampleAnswer;
+use common_example::sides::ScopedPattern;
 use name_table::NameAnswer;
 use operation::Operation;
 use planner::PlanAnswer;
@@ -28,6 +32,7 @@ use scope::ScopingMode;
 use tolerance::ToleranceAnswer;
 ghost use Rattle.base.specs.Lent.{old};
 ghost use Rattle.body.specs.Body.{bodyOutcome, BodyAnsweredIn};
+ghost use Rattle.common_example.specs.Common.{CommonIn};
 ghost use Rattle.name_table.specs.Adding.{addOutcome};
 ghost use Rattle.planner.specs.Operations.{AnsweredIn};
 ghost use Rattle.report.specs.Report.{ReportedIn};
@@ -198,6 +203,40 @@ pub fn run_with_tolerance<'a>(
         lowest,
         highest,
         plan,
+    )
+}
+
+// A value that both patterns match, or none; each side is a pattern in its scope and the values of its own names. The example's nodes go on from the tables' and its child entries from their child list.
+pub fn common_example<'a>(
+    nodes: &[u32],
+    children: &[u32],
+    numbers: &[u64],
+    names: &[Name],
+    strings: &'a [u8],
+    text: &'a [u8],
+    first: ScopedPattern,
+    values1: &[u32],
+    second: ScopedPattern,
+    values2: &[u32],
+    example_nodes: &mut [u32],
+    example_children: &mut [u32],
+) -> ExampleAnswer
+    ensures { λ r. let T = lentRecords nodes children numbers names strings text in
+        ⌜ CommonIn T first values1 second values2 «example_nodes» «example_children» r ⌝ }
+{
+    example_words(
+        nodes,
+        children,
+        numbers,
+        copy_names(names),
+        strings,
+        text,
+        first,
+        values1,
+        second,
+        values2,
+        example_nodes,
+        example_children,
     )
 }
 

@@ -9,46 +9,46 @@ use Rattle.value.specs.Value.{Value, literalᵛ, arrayᵛ, objectᵛ, Va
 use Rattle.value.proofs.Keys.{and-left, and-right, both, or-left, or-right, is-true, is-false, true-is, key→, key-refl, within→, within←}
 
 mutual
-  data Meaning : Type 0 where
+  pub data Meaning : Type 0 where
     aLiteral : Literal → Meaning
     anArray : Meanings → Meaning
     anObject : (Literal → Under) → Meaning
 
-  data Meanings : Type 0 where
+  pub data Meanings : Type 0 where
     noMore : Meanings
     oneMore : Meaning → Meanings → Meanings
 
-  data Under : Type 0 where
+  pub data Under : Type 0 where
     absent : Under
     present : Meaning → Under
 
-abbrev pick : Bool → Under → Under → Under
+abbrev pub pick : Bool → Under → Under → Under
 pick true a b = a
 pick false a b = b
 
-abbrev isPresent : Under → Bool
+abbrev pub isPresent : Under → Bool
 isPresent absent = false
 isPresent (present m) = true
 
-mutual
-  meaning : Value → Meaning
+unfoldable mutual
+  pub meaning : Value → Meaning
   meaning (literalᵛ n l) = aLiteral l
   meaning (arrayᵛ n vs) = anArray (meanings vs)
   meaning (objectᵛ n fs) = anObject (λ k. meaningAt fs k)
 
-  meanings : Values → Meanings
+  pub meanings : Values → Meanings
   meanings noneᵛ = noMore
   meanings (itemᵛ v vs) = oneMore (meaning v) (meanings vs)
 
-  meaningAt : ValueFields → Literal → Under
+  pub meaningAt : ValueFields → Literal → Under
   meaningAt doneᵛ k = absent
   meaningAt (fieldᵛ l v fs) k = pick (sameKey k l) (present (meaning v)) (meaningAt fs k)
 
-abbrev meant : Option Value → Under
+abbrev pub meant : Option Value → Under
 meant none = absent
 meant (some v) = present (meaning v)
 
-meant-under : (k : Literal) (fs : ValueFields) → meaningAt fs k ≡ meant (under k fs)
+pub meant-under : (k : Literal) (fs : ValueFields) → meaningAt fs k ≡ meant (under k fs)
 unfolding meaning under
 meant-under k doneᵛ = refl
 meant-under k (fieldᵛ l v fs) = go (sameKey k l) (meant-under k fs)
@@ -57,7 +57,7 @@ meant-under k (fieldᵛ l v fs) = go (sameKey k l) (meant-under k fs)
     go true e = refl
     go false e = e
 
-present-key : (k : Literal) (fs : ValueFields) → isPresent (meaningAt fs k) ≡ hasKey k (keysᵛ fs)
+pub present-key : (k : Literal) (fs : ValueFields) → isPresent (meaningAt fs k) ≡ hasKey k (keysᵛ fs)
 unfolding meaning hasKey keysᵛ
 present-key k doneᵛ = refl
 present-key k (fieldᵛ l v fs) = go (sameKey k l) (present-key k fs)
@@ -66,7 +66,7 @@ present-key k (fieldᵛ l v fs) = go (sameKey k l) (present-key k fs)
     go true e = refl
     go false e = e
 
-not-present : (u : Under) → isPresent u ≡ false → u ≡ absent
+pub not-present : (u : Under) → isPresent u ≡ false → u ≡ absent
 not-present absent e = refl
 not-present (present m) e = cc
 
@@ -89,7 +89,7 @@ key-sets fs gs k t f = go (hasKey k (keysᵛ fs)) refl
 mutual
   unfolding same meaning hasKey keysᵛ
 
-  same→ : (v w : Value) → Same v w → meaning v ≡ meaning w
+  pub same→ : (v w : Value) → Same v w → meaning v ≡ meaning w
   same→ (literalᵛ n l) (literalᵛ m k) t = ap aLiteral (key→ l k t)
   same→ (literalᵛ n l) (arrayᵛ m ws) t = absurd t
   same→ (literalᵛ n l) (objectᵛ m gs) t = absurd t
@@ -100,13 +100,13 @@ mutual
   same→ (objectᵛ n fs) (arrayᵛ m ws) t = absurd t
   same→ (objectᵛ n fs) (objectᵛ m gs) t = ap anObject (fun-ext (λ k. key-sets fs gs k (and-left (sameKeySets (keysᵛ fs) (keysᵛ gs)) (sameFields fs gs) t) (λ h. fields→ fs gs (and-right (sameKeySets (keysᵛ fs) (keysᵛ gs)) (sameFields fs gs) t) k h)))
 
-  items→ : (vs ws : Values) → T (sameItems vs ws) → meanings vs ≡ meanings ws
+  pub items→ : (vs ws : Values) → T (sameItems vs ws) → meanings vs ≡ meanings ws
   items→ noneᵛ noneᵛ t = refl
   items→ noneᵛ (itemᵛ w ws) t = absurd t
   items→ (itemᵛ v vs) noneᵛ t = absurd t
   items→ (itemᵛ v vs) (itemᵛ w ws) t = ap₂ oneMore (same→ v w (and-left (same v w) (sameItems vs ws) t)) (items→ vs ws (and-right (same v w) (sameItems vs ws) t))
 
-  fields→ : (fs gs : ValueFields) → T (sameFields fs gs) → (k : Literal) → T (hasKey k (keysᵛ fs)) → meaningAt fs k ≡ meaningAt gs k
+  pub fields→ : (fs gs : ValueFields) → T (sameFields fs gs) → (k : Literal) → T (hasKey k (keysᵛ fs)) → meaningAt fs k ≡ meaningAt gs k
   fields→ doneᵛ gs t k h = absurd h
   fields→ (fieldᵛ l v fs) gs t k h = go (sameKey k l) refl (λ w s. same→ v w s) (λ h′. fields→ fs gs (and-right (holds (λ w. same v w) (under l gs)) (sameFields fs gs) t) k h′) h
     where
@@ -120,7 +120,7 @@ at-key : (v : Value) (o : Option Value) → ((w : Value) → meaning v ≡ meani
 at-key v none f e = false≢true (cc)
 at-key v (some w) f e = f w (cc)
 
-object-path : (f g : Literal → Under) → anObject f ≡ anObject g → f ≡ g
+pub object-path : (f g : Literal → Under) → anObject f ≡ anObject g → f ≡ g
 object-path f g e = cc
 
 same-sets : (fs gs : ValueFields) → ((k : Literal) → meaningAt fs k ≡ meaningAt gs k) → T (sameKeySets (keysᵛ fs) (keysᵛ gs))
@@ -129,19 +129,19 @@ same-sets fs gs f = both (within (keysᵛ fs) (keysᵛ gs)) (within (keysᵛ gs)
     keys : (k : Literal) → hasKey k (keysᵛ fs) ≡ hasKey k (keysᵛ gs)
     keys k = sym (present-key k fs) ∙ (ap isPresent (f k) ∙ present-key k gs)
 
-here : (l : Literal) (v : Value) (fs : ValueFields) → meaningAt (fieldᵛ l v fs) l ≡ present (meaning v)
+pub here : (l : Literal) (v : Value) (fs : ValueFields) → meaningAt (fieldᵛ l v fs) l ≡ present (meaning v)
 unfolding meaning
 here l v fs = let e : sameKey l l ≡ true = is-true (key-refl l) in rw e
 
 -- past a first field of another key
-past : (l : Literal) (v : Value) (fs : ValueFields) (k : Literal) → T (not (hasKey l (keysᵛ fs))) → T (hasKey k (keysᵛ fs)) → meaningAt (fieldᵛ l v fs) k ≡ meaningAt fs k
+pub past : (l : Literal) (v : Value) (fs : ValueFields) (k : Literal) → T (not (hasKey l (keysᵛ fs))) → T (hasKey k (keysᵛ fs)) → meaningAt (fieldᵛ l v fs) k ≡ meaningAt fs k
 unfolding meaning
 past l v fs k d h = let e : sameKey k l ≡ false = is-false (λ (s : T (sameKey k l)). T-not (hasKey l (keysᵛ fs)) d (let q : k ≡ l = key→ k l s in rw q at h)) in rw e
 
 mutual
   unfolding same meaning proper hasKey keysᵛ differing
 
-  same← : (v w : Value) → Proper v → meaning v ≡ meaning w → Same v w
+  pub same← : (v w : Value) → Proper v → meaning v ≡ meaning w → Same v w
   same← (literalᵛ n l) (literalᵛ m k) p e = let q : l ≡ k = cc in rw (← q) (key-refl l)
   same← (literalᵛ n l) (arrayᵛ m ws) p e = false≢true (cc)
   same← (literalᵛ n l) (objectᵛ m gs) p e = false≢true (cc)
@@ -154,13 +154,13 @@ mutual
       let f : (k : Literal) → meaningAt fs k ≡ meaningAt gs k = λ k. ap (λ m. m k) (object-path (λ k. meaningAt fs k) (λ k. meaningAt gs k) e) in
       both (sameKeySets (keysᵛ fs) (keysᵛ gs)) (sameFields fs gs) (same-sets fs gs f) (fields← fs gs (and-left (differing (keysᵛ fs)) (properFields fs) p) (and-right (differing (keysᵛ fs)) (properFields fs) p) (λ k h. f k))
 
-  items← : (vs ws : Values) → T (properAll vs) → meanings vs ≡ meanings ws → T (sameItems vs ws)
+  pub items← : (vs ws : Values) → T (properAll vs) → meanings vs ≡ meanings ws → T (sameItems vs ws)
   items← noneᵛ noneᵛ p e = tt
   items← noneᵛ (itemᵛ w ws) p e = false≢true (cc)
   items← (itemᵛ v vs) noneᵛ p e = false≢true (cc)
   items← (itemᵛ v vs) (itemᵛ w ws) p e = both (same v w) (sameItems vs ws) (same← v w (and-left (proper v) (properAll vs) p) (cc)) (items← vs ws (and-right (proper v) (properAll vs) p) (cc))
 
-  fields← : (fs gs : ValueFields) → T (differing (keysᵛ fs)) → T (properFields fs) → ((k : Literal) → T (hasKey k (keysᵛ fs)) → meaningAt fs k ≡ meaningAt gs k) → T (sameFields fs gs)
+  pub fields← : (fs gs : ValueFields) → T (differing (keysᵛ fs)) → T (properFields fs) → ((k : Literal) → T (hasKey k (keysᵛ fs)) → meaningAt fs k ≡ meaningAt gs k) → T (sameFields fs gs)
   fields← doneᵛ gs d p f = tt
   fields← (fieldᵛ l v fs) gs d p f = both (holds (λ w. same v w) (under l gs)) (sameFields fs gs)
       (at-key v (under l gs) (λ w e. same← v w (and-left (proper v) (properFields fs) p) e) (sym (here l v fs) ∙ (f l (or-left (sameKey l l) (hasKey l (keysᵛ fs)) (key-refl l)) ∙ meant-under l gs)))

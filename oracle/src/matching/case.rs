@@ -3,7 +3,7 @@
 use crate::answer::ENTRY_WORDS;
 use crate::sheets::Draft;
 
-#[derive(Clone, Debug)]
+#[derive(Clone, Debug, PartialEq)]
 pub struct Case {
     /// The tables; the first root is the pattern, the second the value.
     pub draft: Draft,

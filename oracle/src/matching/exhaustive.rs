@@ -14,8 +14,8 @@ const NAMES: [&str; 2] = ["x", "y"];
 pub fn for_each_case(mut visit: impl FnMut(Case)) {
     let literals = [Tree::Number(1), Tree::string("1")];
     let names = NAMES.iter().chain(&["_"]).map(|name| Tree::name(name));
-    let patterns = trees(&[&literals[..], &names.collect::<Vec<_>>()].concat());
-    let values = trees(&literals);
+    let patterns = trees(&[&literals[..], &names.collect::<Vec<_>>()].concat(), SIZE);
+    let values = trees(&literals, SIZE);
     for pattern in &patterns {
         for value in &values {
             with_lists(pattern, value, &mut visit);
@@ -46,10 +46,11 @@ fn with_lists(pattern: &Tree, value: &Tree, visit: &mut impl FnMut(Case)) {
     }
 }
 
-/// The trees over some leaves, with `[]`, `{}` and the keys "a" and 1.
-fn trees(leaves: &[Tree]) -> Vec<Tree> {
+/// The trees over some leaves, with `[]`, `{}` and the keys "a" and 1, of at most so many nodes,
+/// keys aside; smaller ones first.
+pub(crate) fn trees(leaves: &[Tree], most: usize) -> Vec<Tree> {
     let mut sizes: Vec<Vec<Tree>> = vec![Vec::new()];
-    for size in 1..=SIZE {
+    for size in 1..=most {
         let mut trees = if size == 1 { leaves.to_vec() } else { Vec::new() };
         for items in lists(&sizes, size - 1) {
             trees.extend(objects(&items));
@@ -78,7 +79,7 @@ mod tests {
 
     #[test]
     fn trees_are_all_different() {
-        let trees = trees(&[Tree::Null]);
+        let trees = trees(&[Tree::Null], SIZE);
         assert!(trees.contains(&Tree::Array(vec![Tree::Array(Vec::new()), Tree::Null])));
         let texts: std::collections::BTreeSet<String> =
             trees.iter().map(|tree| format!("{tree:?}")).collect();

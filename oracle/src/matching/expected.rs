@@ -36,30 +36,46 @@ pub fn expected(case: &Case) -> Expected {
     }
 }
 
-/// What the call refuses first, then the refusals in the order of document 01, "What each operation
-/// turns back".
+/// A run's refusals, then 6.
 fn run(case: &Case) -> Result<Ran, [u32; 4]> {
-    let refuse = |refused: bool, number: u32| if refused { Err(alone(number)) } else { Ok(()) };
-    let plan = plan_first(case)?;
-    refuse(!is_node(case, case.pattern()) || !is_node(case, case.value()), 5)?;
-    refuse(case.values.len() < case.draft.names.len(), 20)?;
-    let pattern = expr(case, case.pattern());
-    refuse(!is_simple(&pattern), 21)?;
-    let value = value_at(case, case.value()).ok_or(alone(22))?;
-    let listed = &case.values[..case.draft.names.len()];
-    refuse(listed.iter().any(|&node| node != 0 && value_at(case, node).is_none()), 22)?;
-    let mut met = names(&pattern).0;
-    met.retain(|name| !case.is_unbound(*name));
-    refuse(met.iter().any(|name| listed[*name as usize - 1] == 0), 23)?;
+    let Checked { pattern, known, plan } = checked(case, Some(case.value()))?;
     let entries = plan.len() / ENTRY_WORDS;
     if case.room / ENTRY_WORDS < entries {
         return Err([6, 0, entries as u32, 0]);
     }
-    let node = |name: u32| value_at(case, listed[name as usize - 1]).expect("it is a value");
-    let known: BTreeMap<_, _> = met.into_iter().map(|name| (name, node(name))).collect();
+    let value = |node: u32| value_at(case, node).expect("it is a value");
+    let known = known.into_iter().map(|(name, node)| (name, value(node))).collect();
     let blanks = Blanks::new(&pattern, known);
-    let (fillings, planned) = (blanks.fillings(&value), blanks.unknown);
+    let (fillings, planned) = (blanks.fillings(&value(case.value())), blanks.unknown);
     Ok(Ran { pattern, planned, fillings, plan })
+}
+
+/// What the checks of a run leave.
+pub(crate) struct Checked {
+    pub pattern: Expr,
+    /// The listed nodes of the pattern's known names.
+    pub known: BTreeMap<u32, u32>,
+    /// The words of the pattern's plan.
+    pub plan: Vec<u32>,
+}
+
+/// What the call refuses first, then the refusals to 23 in the order of document 01, "What each
+/// operation turns back"; of the pattern alone where there is no value yet.
+pub(crate) fn checked(case: &Case, value: Option<u32>) -> Result<Checked, [u32; 4]> {
+    let refuse = |refused: bool, number: u32| if refused { Err(alone(number)) } else { Ok(()) };
+    let plan = plan_first(case)?;
+    let is_outside = |node: u32| !is_node(case, node);
+    refuse(is_outside(case.pattern()) || value.is_some_and(is_outside), 5)?;
+    refuse(case.values.len() < case.draft.names.len(), 20)?;
+    let pattern = expr(case, case.pattern());
+    refuse(!is_simple(&pattern), 21)?;
+    let listed = &case.values[..case.draft.names.len()];
+    let mut values = listed.iter().copied().filter(|&node| node != 0).chain(value);
+    refuse(values.any(|node| value_at(case, node).is_none()), 22)?;
+    let met = names(&pattern).0.into_iter().filter(|&name| !case.is_unbound(name));
+    let known: BTreeMap<u32, u32> = met.map(|name| (name, listed[name as usize - 1])).collect();
+    refuse(known.values().any(|&node| node == 0), 23)?;
+    Ok(Checked { pattern, known, plan })
 }
 
 /// A refusal that has no place and no counts.
@@ -101,7 +117,7 @@ fn checked_plan(case: &Case) -> Result<Vec<u32>, u32> {
 }
 
 /// A scheduler and a scoping that documents 01 and 02 list.
-fn is_listed(case: &Case) -> bool {
+pub(crate) fn is_listed(case: &Case) -> bool {
     case.scheduler <= 1 && (1..=4).contains(&case.scoping)
 }
 

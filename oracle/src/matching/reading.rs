@@ -46,7 +46,8 @@ fn children<'a>(draft: &'a Draft, node: &[u32; 5]) -> &'a [u32] {
     }
 }
 
-fn literal(draft: &Draft, node: &[u32; 5]) -> Option<Literal> {
+/// The literal of a node, if it is one.
+pub(crate) fn literal(draft: &Draft, node: &[u32; 5]) -> Option<Literal> {
     let first = node[FIRST] as usize;
     let bytes = |store: &[u8]| Literal::String(store[first..][..node[COUNT] as usize].to_vec());
     match node[KIND] {

@@ -39,7 +39,7 @@ fn twin(random: &mut Random, scope: &[(String, u32)], side: &Tree) -> Tree {
 }
 
 /// Names and underscores for parts, and parts for names and underscores.
-fn opposite(random: &mut Random, scope: &[(String, u32)], side: &Tree) -> Tree {
+pub(crate) fn opposite(random: &mut Random, scope: &[(String, u32)], side: &Tree) -> Tree {
     if random.chance(8) {
         return pattern(random, scope, 0);
     }

@@ -10,4 +10,4 @@ pub mod tally;
 mod tests;
 pub mod trial;
 mod trying;
-mod unification;
+pub(crate) mod unification;

@@ -2,7 +2,7 @@
 
 use std::io::Write;
 
-#[derive(Clone, Debug, Default)]
+#[derive(Clone, Debug, Default, PartialEq)]
 pub struct Draft {
     pub operation: u32,
     pub scheduler: u32,

@@ -5,10 +5,12 @@ from rules.body.planning import BodyOutcome, BodyRefusal, PlannedLine
 from rules.tables.places import marked_node
 from rules.text.source import decoded, shown
 from rules.words.plans import plan_in_words
-from rules.words.refusals import meaning_in_words, over_limits, refusal_in_words
-
-# Refusals 1 to 4 are of the tables, which all lines share.
-LAST_OF_TABLES = 4
+from rules.words.refusals import (
+    LAST_OF_TABLES,
+    meaning_in_words,
+    over_limits,
+    refusal_in_words,
+)
 
 
 def body_in_words(outcome: BodyOutcome, binder: int) -> str:

@@ -17,7 +17,8 @@ from rules.tables.listing import (
     read_answer,
     read_entries,
 )
-from rules.tables.sheet import Sheet, range_of
+from rules.tables.sheet import Node, Sheet, range_of
+from rules.text.rule_text import Kind
 
 WORD = "I"
 LONG = "Q"
@@ -27,6 +28,11 @@ TABLES = 7
 NO_MATCH = 100
 BODY_COLUMNS = 5
 SOMETIMES = 101
+EXAMPLE = 0
+NO_EXAMPLE = 100
+# What is lent for an example: no value is larger.
+NODE_WORDS = 5
+MOST_NODES = 512
 CARRIED_OUT = (0, NO_MATCH, SOMETIMES)
 # A range that is empty has an address too.
 NOTHING = array(LONG, [0])
@@ -46,6 +52,24 @@ class BodyAnswer(NamedTuple):
     outcome: Plan | Refusal
     line: int
     marks: list[int]
+
+
+class LentSide(NamedTuple):
+    """A side of teluddru_common_example; marks and values by name number."""
+
+    marks: list[int]
+    scheduler: bool
+    scoping: int
+    pattern: int
+    values: list[int]
+
+
+class ExampleAnswer(NamedTuple):
+    """The answer's words, and the nodes and child entries that these count; or none."""
+
+    answer: list[int]
+    nodes: list[Node]
+    children: list[int]
 
 
 class Library:
@@ -116,6 +140,33 @@ class Library:
         except ListingError as error:
             raise NoAnswer(f"the plan of {self.path} can't be read: {error}") from None
 
+    def common_example(self, sheet: Sheet, *sides: LentSide) -> ExampleAnswer:
+        """A value that the patterns of two sides both match, behind the tables of the sheet."""
+        *tables, _, _ = self.lend(sheet)
+        kept = [(array(BYTE, side.marks), array(WORD, side.values)) for side in sides]
+        lent = []
+        for (marks, values), side in zip(kept, sides):
+            numbers = (side.scheduler, side.scoping, side.pattern)
+            lent += [*address(marks), *numbers, *address(values)]
+        nodes = array(WORD, [0] * (MOST_NODES * NODE_WORDS))
+        children = array(WORD, [0] * MOST_NODES)
+        written = chain.from_iterable(map(address, (nodes, children, self.answer)))
+        self.example_call()(*tables, *lent, *written)
+        head = self.answer.tolist()
+        _, _, node_count, child_count = head
+        rows = zip(*[iter(nodes[: node_count * NODE_WORDS])] * NODE_WORDS)
+        try:
+            found = [Node(Kind(kind), *words) for kind, *words in rows]
+        except ValueError as error:
+            raise NoAnswer(f"the example of {self.path} can't be read: {error}") from None
+        return ExampleAnswer(head, found, children[:child_count].tolist())
+
+    def example_call(self) -> ctypes._CFuncPtr:
+        try:
+            return example_called(self.calls.teluddru_common_example)
+        except AttributeError:
+            raise NoAnswer(f"{self.path} doesn't know --both: build it anew") from None
+
     def tolerance_call(self) -> ctypes._CFuncPtr:
         try:
             return called(self.calls.teluddru_run_with_tolerance, 4, 5)
@@ -184,6 +235,14 @@ def called(call: ctypes._CFuncPtr, numbers: int, written: int) -> ctypes._CFuncP
 def body_called(call: ctypes._CFuncPtr) -> ctypes._CFuncPtr:
     """The tables, the scheduler, the lines, and the two ranges that are written."""
     call.argtypes = LENT * TABLES + [ctypes.c_uint32] + LENT * 3
+    call.restype = ctypes.c_uint32
+    return call
+
+
+def example_called(call: ctypes._CFuncPtr) -> ctypes._CFuncPtr:
+    """The tables without marks, two sides with their own, and the three ranges that are written."""
+    side = LENT + [ctypes.c_uint32] * 3 + LENT
+    call.argtypes = LENT * (TABLES - 1) + side * 2 + LENT * 3
     call.restype = ctypes.c_uint32
     return call
 

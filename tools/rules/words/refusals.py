@@ -31,6 +31,8 @@ class Meaning:
     node_in_first_count: str = ""
 
 
+# 1 to 4 are of the tables, which the lines of a body, or two patterns, share.
+LAST_OF_TABLES = 4
 UNREADABLE = 7
 # Pattern and value can't fit.
 BY_STRUCTURE = (13, 14)
@@ -124,6 +126,10 @@ MEANINGS = {
         "reserved name",
         "Rego v1 reserves `input` and `data`, which no rule may give a value",
         "the name",
+    ),
+    36: Meaning(
+        "value too large",
+        "the example that both patterns match has more than 512 nodes, or more than 32 levels",
     ),
     37: Meaning("not a body", "a rule body has 1 to 64 lines"),
     38: Meaning(

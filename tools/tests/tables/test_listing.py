@@ -1,7 +1,7 @@
 import unittest
 
 from rules.tables.listing import ListingError, Plan, Refusal, read_listing
-from tests.listings import listing
+from tests.tables.listings import listing
 
 
 class Listings(unittest.TestCase):

@@ -2,7 +2,7 @@ import unittest
 
 from rules.tables.listing import ListingError
 from rules.text.rule_text import Operation
-from tests.listings import words
+from tests.tables.listings import words
 
 
 class Plans(unittest.TestCase):

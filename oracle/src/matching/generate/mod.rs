@@ -1,6 +1,6 @@
 //! The seeded generator of runs: a small simple pattern, a value made from it, a scope and a list.
 
-mod faults;
+pub(crate) mod faults;
 pub(crate) mod trees;
 
 use super::case::{is_unbound, Case, Origin};
@@ -21,17 +21,33 @@ const UNBOUND_MARKS: [u32; 6] = [0, 0, 0, 2, 4, 5];
 const MOST_CHOICES: usize = 20_000;
 
 /// A case before it is laid out in tables.
-struct Parts {
-    pattern: Tree,
-    value: Tree,
+pub(crate) struct Parts {
+    pub pattern: Tree,
+    pub value: Tree,
     /// Names with their marks, `_` among them at times.
-    scope: Vec<(String, u32)>,
+    pub scope: Vec<(String, u32)>,
     /// A value for each name of the scope, where it is listed.
-    listed: Vec<Option<Tree>>,
+    pub listed: Vec<Option<Tree>>,
     /// Trees that nothing uses.
-    spare: Vec<Tree>,
-    scheduler: bool,
-    shadowing: bool,
+    pub spare: Vec<Tree>,
+    pub scheduler: bool,
+    pub shadowing: bool,
+}
+
+impl Parts {
+    /// Of a pattern whose names have these values; known ones are mostly listed with them.
+    pub fn new(
+        random: &mut Random,
+        pattern: Tree,
+        scope: Vec<(String, u32)>,
+        values: &[Tree],
+    ) -> Self {
+        let (scheduler, shadowing) = (random.chance(30), random.chance(25));
+        let unbound = scope.iter().map(|(_, marks)| is_unbound(*marks, scheduler, shadowing));
+        let listed = unbound.zip(values).map(|(unbound, value)| listed(random, unbound, value));
+        let (listed, value) = (listed.collect(), Tree::Null);
+        Self { pattern, value, scope, listed, spare: Vec::new(), scheduler, shadowing }
+    }
 }
 
 /// The case of a number; a seed and a number give the same case everywhere. Scoping 3 and 4 stand
@@ -71,7 +87,7 @@ fn choices(parts: &Parts) -> usize {
     (parts.value.size() + 1).saturating_pow(blanks)
 }
 
-fn parts(random: &mut Random, origin: Origin) -> Parts {
+pub(crate) fn parts(random: &mut Random, origin: Origin) -> Parts {
     let scope = scope(random);
     let pattern = trees::pattern(random, &scope, 3);
     let values: Vec<Tree> = scope.iter().map(|_| trees::value(random, 1)).collect();
@@ -85,14 +101,10 @@ fn parts(random: &mut Random, origin: Origin) -> Parts {
         Origin::Unrelated => value = trees::value(random, 3),
         _ => {}
     }
-    let (scheduler, shadowing) = (random.chance(30), random.chance(25));
-    let unbound = scope.iter().map(|(_, marks)| is_unbound(*marks, scheduler, shadowing));
-    let listed = unbound.zip(&values).map(|(unbound, value)| listed(random, unbound, value));
-    let listed = listed.collect();
-    Parts { pattern, value, scope, listed, spare: Vec::new(), scheduler, shadowing }
+    Parts { value, ..Parts::new(random, pattern, scope, &values) }
 }
 
-fn scope(random: &mut Random) -> Vec<(String, u32)> {
+pub(crate) fn scope(random: &mut Random) -> Vec<(String, u32)> {
     let mut names = NAMES;
     random.shuffle(&mut names);
     let count = 1 + random.below(3);
@@ -135,7 +147,7 @@ fn laid_out(random: &mut Random, origin: Origin, mut parts: Parts) -> Case {
     if random.chance(50) {
         case.answer_room = random.below(7);
     }
-    list(random, &parts, &mut case);
+    list(random, &parts, 0, &mut case);
     add_unused(random, &mut case);
     faults.iter().for_each(|fault| fault.in_case(random, &mut case));
     case
@@ -153,9 +165,10 @@ fn draft(parts: &Parts) -> Draft {
     })
 }
 
-/// Lists the values; sometimes by any node that has an equal one.
-fn list(random: &mut Random, parts: &Parts, case: &mut Case) {
-    let first = case.draft.nodes[case.draft.roots[2] as usize - 1][FIRST] as usize;
+/// Lists the values, which stand in the third root behind so many others; sometimes by any node that
+/// has an equal one.
+pub(crate) fn list(random: &mut Random, parts: &Parts, before: usize, case: &mut Case) {
+    let first = case.draft.nodes[case.draft.roots[2] as usize - 1][FIRST] as usize + before;
     let listed = parts.scope.iter().zip(&parts.listed).filter(|(_, value)| value.is_some());
     for (place, ((name, _), _)) in (first..).zip(listed) {
         let node = case.draft.children[place];
@@ -173,7 +186,7 @@ fn any_equal(random: &mut Random, case: &Case, node: u32) -> u32 {
 }
 
 /// List words past the names, marks past the names and past 128.
-fn add_unused(random: &mut Random, case: &mut Case) {
+pub(crate) fn add_unused(random: &mut Random, case: &mut Case) {
     for _ in 0..random.weighted(&[50, 20, 20, 10]) {
         case.values.push(*random.pick(&[0, 1, 999_999, u32::MAX]));
     }

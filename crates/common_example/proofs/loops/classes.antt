@@ -1,0 +1,5 @@
+-- Classes of places.
+pub mod ClassLoop
+pub mod MeetLoops
+pub mod RoundLoops
+pub mod RootLoops

@@ -1,0 +1,4 @@
+-- Writing the value.
+pub mod WriteWords
+pub mod WriteLoops
+pub mod WriteParts
