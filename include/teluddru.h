@@ -47,7 +47,8 @@ extern "C" {
 
 /*
  * What a call needs at most of its thread's stack: measured on the worst sheets that were found (examples/stack),
- * not proved. A call keeps nothing between calls, so calls from several threads are independent.
+ * not proved. Proved is what it rests on: planning calls itself at most 32 deep, the depth of tables. A call keeps nothing
+ * between calls, so calls from several threads are independent.
  */
 #define TELUDDRU_STACK_BYTES 98304
 

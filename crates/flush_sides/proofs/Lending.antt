@@ -36,7 +36,7 @@ use Rattle.scope.proofs.Scope.Laws as S′
 use Rattle.teluddru.specs.declared.Name.{Name}
 use Rattle.teluddru.proofs.Name as T
 use Rattle.teluddru.proofs.Name.Laws as T′
-use Rattle.teluddru.proofs.LocalArray.{lies-in, lies-out}
+use Rattle.teluddru.proofs.laws.LocalArray.{lies-in, lies-out}
 
 module _ (n : ℕ) (κs : Lfts (suc (suc (suc (suc n))))) (Ts : List RattleType) where
   abbrev Nodes : RattleType

@@ -1,24 +1,18 @@
 // The library's calls for a caller in Rattle: names are a lent table of records.
-mod adding;
-mod bodies;
-mod examples;
-mod plans;
 mod records;
-mod reports;
-mod runs;
-mod tolerances;
+mod words;
 
-use crate::adding::add_words;
-use crate::adding::name_of;
-use crate::adding::place_of;
-use crate::adding::put_name;
-use crate::bodies::body_words;
-use crate::examples::example_words;
-use crate::plans::plan_words;
 use crate::records::copy_names;
-use crate::reports::report_words;
-use crate::runs::run_words;
-use crate::tolerances::tolerance_words;
+use crate::records::name_of;
+use crate::records::place_of;
+use crate::records::put_name;
+use crate::words::adding::add_words;
+use crate::words::bodies::body_words;
+use crate::words::examples::example_words;
+use crate::words::plans::plan_words;
+use crate::words::reports::report_words;
+use crate::words::runs::run_words;
+use crate::words::tolerances::tolerance_words;
 use body::BodyPlanned;
 use common_example::ExampleAnswer;
 use common_example::sides::ScopedPattern;

@@ -1,11 +1,14 @@
-// Names from records to pairs of words. A function that takes the records is proved by hand.
+// Names from records to pairs of words, and a new name into the records. A function that takes the records is proved by hand.
 use crate::Name;
+use name_table::NameAnswer;
 ghost use Rattle.base.specs.Lent.{old, new};
 ghost use mathlib.Core.Path.{_≡_};
 ghost use Prim.Native.Nat.{_+_, _*_, _<_, min};
 ghost use lib.ListN.{length, set};
 ghost use Rattle.teluddru.specs.Records.{recordsIn};
+ghost use Rattle.teluddru.specs.Adding.{recordsOut};
 ghost use Rattle.teluddru.specs.code.Copying.{nameAt, Copied};
+ghost use Rattle.teluddru.specs.code.Placing.{aName, placeOf};
 
 // The first `count` pairs of the words are names.
 pub(crate) struct NameWords {
@@ -49,4 +52,30 @@ pub(crate) fn copy_names(names: &[Name]) -> NameWords
         i += 1;
     }
     NameWords { words, count }
+}
+
+pub(crate) fn place_of(answer: NameAnswer, used: u32) -> usize
+    ensures { λ r. ⌜ r ≡ placeOf answer used ⌝ }
+{
+    match answer {
+        NameAnswer::Existing { .. } => 18446744073709551615,
+        NameAnswer::Added { .. } => used as usize,
+        NameAnswer::TableRefused(_) => 18446744073709551615,
+        NameAnswer::NoPlace => 18446744073709551615,
+    }
+}
+
+pub(crate) fn name_of(start: u32, length: u32) -> Name
+    ensures { λ r. ⌜ r ≡ aName start length ⌝ }
+{
+    Name { start, length }
+}
+
+// Writes a record, if there is one at the place.
+pub(crate) fn put_name(names: &mut [Name], place: usize, name: Name)
+    ensures { λ _. ⌜ recordsOut names ≡ set (recordsIn names) place name ⌝ }
+{
+    if place < names.len() {
+        names[place] = name;
+    }
 }

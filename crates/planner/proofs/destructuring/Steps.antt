@@ -1,9 +1,10 @@
--- The steps of a pattern call are at least its entries and at most twice the pattern's nodes.
+-- The steps of a pattern call are at least its entries and at most twice the pattern's nodes; its calls stand at most 32 deep in each other.
 use Prim.Native.Nat.{ℕ, _≤_}
 use mathlib.Core.Bool.{Bool, true, false}
 use mathlib.Core.List.{List, [], _∷_, _++_}
 use native.Mathlib.Omega.{arith}
-use lib.Dec.{eqb}
+use lib.Dec.{eqb, leb}
+use borrow.Author.Tests.{leb-true}
 use lib.ListN.{length, length-append}
 use Rattle.scope.specs.declared.Scope.{Scope}
 use Rattle.scope.specs.declared.ScopingMode.{ScopingMode}
@@ -11,13 +12,15 @@ use Rattle.scope.specs.declared.ScopingMode.the-variants.{RespectParent}
 use Rattle.scope.specs.Scope.{isUnbound}
 use Rattle.base.specs.Refusal as Refusal
 use Rattle.base.specs.Refusal.{Refusal, Tested, rootOutside, variableAlreadyDefined}
-use Rattle.table.specs.Tables.{Tables}
-use Rattle.table.specs.Expr.{Expr, literal, name, wildcard, array, set, object, other, Exprs, none, item, Fields, done, field, parts, partsAll, partsFields}
+use Rattle.table.specs.Tables.{Tables, nodeCount}
+use Rattle.table.specs.Expr.{Expr, literal, name, wildcard, array, set, object, other, Exprs, none, item, Fields, done, field, parts, partsAll, partsFields, depth, depthAll, depthFields}
 use Rattle.table.specs.Decode.{expr}
 use Rattle.table.specs.Check.{checked, allNodes}
+use Rattle.table.proofs.trees.Facts.{sound-table}
+use Rattle.table.proofs.tests.Bools.{and-true}
 use Rattle.planner.specs.Layout.{top}
 use Rattle.planner.specs.Operations.{Outcome, require, tableFirst, checkedFirst, patternPlanned, patternOutcome, parameterCheck, parameterOutcome}
-use Rattle.planner.specs.Steps.{writtenSteps, writtenStepsAll, writtenStepsFields, steps, StepLaws, StepsBetween, StepsOfRoot, OutcomeSteps}
+use Rattle.planner.specs.Steps.{writtenSteps, writtenStepsAll, writtenStepsFields, steps, StepLaws, StepsBetween, StepsOfRoot, OutcomeSteps, levels, levelsAll, levelsFields, LevelLaws}
 use Rattle.planner.proofs.laws.ShortPlans.{plan-few}
 
 mutual
@@ -83,4 +86,35 @@ outcome-steps T s root = record {
   pattern = λ mode. pattern-between T s mode root;
   index = pattern-between T s RespectParent root;
   parameter = λ mode. parameter-between T s mode root;
+}
+
+-- how deep the calls stand in each other
+mutual
+  unfolding levels depth
+
+  levels-most : (e : Expr) → levels e ≤ depth e
+  levels-most (literal n l) = omega arith
+  levels-most (name n x) = omega arith
+  levels-most (wildcard n) = omega arith
+  levels-most (array n es) = let h = levels-most-all es in omega arith
+  levels-most (set n es) = omega arith
+  levels-most (object n fs) = let h = levels-most-fields fs in omega arith
+  levels-most (other n) = omega arith
+
+  levels-most-all : (es : Exprs) → levelsAll es ≤ depthAll es
+  levels-most-all none = omega arith
+  levels-most-all (item e es) = let h = levels-most e in let t = levels-most-all es in omega arith
+
+  levels-most-fields : (fs : Fields) → levelsFields fs ≤ depthFields fs
+  levels-most-fields done = omega arith
+  levels-most-fields (field k v fs) = let h = levels-most v in let t = levels-most-fields fs in omega arith
+
+pub level-laws : LevelLaws
+level-laws = record {
+  most = levels-most;
+  bounded = λ T s root ok is.
+      let (low, high) = and-true (leb 1 root) (leb root (nodeCount T)) is in
+      let d = sound-table T s ok .shallow root (record { low = leb-true _ _ low; high = leb-true _ _ high }) in
+      let l = levels-most (expr T root) in
+      omega arith;
 }

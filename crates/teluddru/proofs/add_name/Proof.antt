@@ -1,4 +1,4 @@
--- `add_name` meets its contract: a walk of its MIR, by hand, over the locals of `proofs.Locals`.
+-- `add_name` meets its contract: a walk of its MIR, by hand, over the locals of `proofs.laws.Locals`.
 -- The records are shared out for the call of `copy_names`, for a lifetime of its own, and come back; after the calls over words they are handed on to `put_name`.
 use mathlib.Core.Path.{_≡_, refl, sym, _∙_, ap, subst}
 use mathlib.Core.List.{List, [], _∷_}
@@ -59,30 +59,30 @@ use Rattle.teluddru.proofs.Name as T
 use Rattle.teluddru.proofs.Name.Laws as T′
 use Rattle.teluddru.proofs.records.NameWords as N
 use Rattle.teluddru.proofs.records.NameWords.Laws as N′
-use Rattle.teluddru.proofs.AddedNames.{name-added}
-use Rattle.teluddru.proofs.Locals.{Cell, filled, resultOf, othersOf, begun, loads, loads-one, sets, lands-in, lend, lentAgain, relends-one, enters, leaves}
-use Rattle.teluddru.proofs.Params.{Param, word, shared, lent, typesOf, spellsOf, tellsOf, lawsOf}
-use Rattle.teluddru.proofs.Passing.{CopyNames, came}
+use Rattle.teluddru.proofs.laws.AddedNames.{name-added}
+use Rattle.teluddru.proofs.laws.Locals.{Cell, filled, resultOf, othersOf, begun, loads, loads-one, sets, lands-in, lend, lentAgain, relends-one, enters, leaves}
+use Rattle.teluddru.proofs.laws.Params.{Param, word, shared, lent, typesOf, spellsOf, tellsOf, lawsOf}
+use Rattle.teluddru.proofs.laws.Passing.{CopyNames, came}
 use Rattle.teluddru.proofs.records.copy_names as copy-names
 use Rattle.teluddru.proofs.records.copy_names.Symbol as copy-names-def
 use Rattle.teluddru.proofs.records.copy_names.Symbol.{name as #copy-names}
 use Rattle.teluddru.proofs.records.copy_names.Met as copy-names-thm
-use Rattle.teluddru.proofs.adding.add_words as add-words
-use Rattle.teluddru.proofs.adding.add_words.Symbol as add-words-def
-use Rattle.teluddru.proofs.adding.add_words.Symbol.{name as #add-words}
-use Rattle.teluddru.proofs.adding.add_words.Met as add-words-thm
-use Rattle.teluddru.proofs.adding.place_of as place-of
-use Rattle.teluddru.proofs.adding.place_of.Symbol as place-of-def
-use Rattle.teluddru.proofs.adding.place_of.Symbol.{name as #place-of}
-use Rattle.teluddru.proofs.adding.place_of.Met as place-of-thm
-use Rattle.teluddru.proofs.adding.name_of as name-of
-use Rattle.teluddru.proofs.adding.name_of.Symbol as name-of-def
-use Rattle.teluddru.proofs.adding.name_of.Symbol.{name as #name-of}
-use Rattle.teluddru.proofs.adding.name_of.Met as name-of-thm
-use Rattle.teluddru.proofs.adding.put_name as put-name
-use Rattle.teluddru.proofs.adding.put_name.Symbol as put-name-def
-use Rattle.teluddru.proofs.adding.put_name.Symbol.{name as #put-name}
-use Rattle.teluddru.proofs.adding.put_name.Met as put-name-thm
+use Rattle.teluddru.proofs.words.adding.add_words as add-words
+use Rattle.teluddru.proofs.words.adding.add_words.Symbol as add-words-def
+use Rattle.teluddru.proofs.words.adding.add_words.Symbol.{name as #add-words}
+use Rattle.teluddru.proofs.words.adding.add_words.Met as add-words-thm
+use Rattle.teluddru.proofs.records.place_of as place-of
+use Rattle.teluddru.proofs.records.place_of.Symbol as place-of-def
+use Rattle.teluddru.proofs.records.place_of.Symbol.{name as #place-of}
+use Rattle.teluddru.proofs.records.place_of.Met as place-of-thm
+use Rattle.teluddru.proofs.records.name_of as name-of
+use Rattle.teluddru.proofs.records.name_of.Symbol as name-of-def
+use Rattle.teluddru.proofs.records.name_of.Symbol.{name as #name-of}
+use Rattle.teluddru.proofs.records.name_of.Met as name-of-thm
+use Rattle.teluddru.proofs.records.put_name as put-name
+use Rattle.teluddru.proofs.records.put_name.Symbol as put-name-def
+use Rattle.teluddru.proofs.records.put_name.Symbol.{name as #put-name}
+use Rattle.teluddru.proofs.records.put_name.Met as put-name-thm
 use Rattle.teluddru.proofs.add_name.Key.{name as #add-name}
 use Rattle.teluddru.proofs.add_name as self
 use Rattle.teluddru.proofs.add_name.Statement as stated
@@ -364,7 +364,7 @@ add-name-spec 𝓤 H 𝓜 𝓖 𝓡 =
     entered 𝓤 H (AddName 𝓤 H (𝓖 .A) (𝓜 .mem) (𝓡 .run)) (code-tables 𝓤 H 𝓜 𝓡 code.env .C) (code-tables 𝓤 H 𝓜 𝓡 code.env .Λ) #add-name code.function (code.unfolded 𝓤 H 𝓜 𝓡)
     (meets 𝓤 H (𝓖 .A) (givenOf 𝓤 H 𝓜 𝓖) (𝓜 .mem) (𝓡 .run) (tablesOf 𝓤 H 𝓜 (code-tables 𝓤 H 𝓜 𝓡 code.env))
     (cited 𝓤 H (CopyNames 𝓤 H (𝓖 .A) (𝓜 .mem) (𝓡 .run)) 𝓜 𝓡 code.env #copy-names copy-names-def.routine code.calls-teluddru·records·copy-names (copy-names-thm.met 𝓤 H 𝓜 𝓖 𝓡))
-    (cited 𝓤 H (AddWords 𝓤 H (𝓖 .A) (𝓜 .mem) (𝓡 .run)) 𝓜 𝓡 code.env #add-words add-words-def.routine code.calls-teluddru·adding·add-words (add-words-thm.met 𝓤 H 𝓜 𝓖 𝓡))
-    (cited 𝓤 H (PlaceOf 𝓤 H (𝓖 .A) (𝓜 .mem) (𝓡 .run)) 𝓜 𝓡 code.env #place-of place-of-def.routine code.calls-teluddru·adding·place-of (place-of-thm.met 𝓤 H 𝓜 𝓖 𝓡))
-    (cited 𝓤 H (NameOf 𝓤 H (𝓖 .A) (𝓜 .mem) (𝓡 .run)) 𝓜 𝓡 code.env #name-of name-of-def.routine code.calls-teluddru·adding·name-of (name-of-thm.met 𝓤 H 𝓜 𝓖 𝓡))
-    (cited 𝓤 H (PutName 𝓤 H (𝓖 .A) (𝓜 .mem) (𝓡 .run)) 𝓜 𝓡 code.env #put-name put-name-def.routine code.calls-teluddru·adding·put-name (put-name-thm.met 𝓤 H 𝓜 𝓖 𝓡)))
+    (cited 𝓤 H (AddWords 𝓤 H (𝓖 .A) (𝓜 .mem) (𝓡 .run)) 𝓜 𝓡 code.env #add-words add-words-def.routine code.calls-teluddru·words·adding·add-words (add-words-thm.met 𝓤 H 𝓜 𝓖 𝓡))
+    (cited 𝓤 H (PlaceOf 𝓤 H (𝓖 .A) (𝓜 .mem) (𝓡 .run)) 𝓜 𝓡 code.env #place-of place-of-def.routine code.calls-teluddru·records·place-of (place-of-thm.met 𝓤 H 𝓜 𝓖 𝓡))
+    (cited 𝓤 H (NameOf 𝓤 H (𝓖 .A) (𝓜 .mem) (𝓡 .run)) 𝓜 𝓡 code.env #name-of name-of-def.routine code.calls-teluddru·records·name-of (name-of-thm.met 𝓤 H 𝓜 𝓖 𝓡))
+    (cited 𝓤 H (PutName 𝓤 H (𝓖 .A) (𝓜 .mem) (𝓡 .run)) 𝓜 𝓡 code.env #put-name put-name-def.routine code.calls-teluddru·records·put-name (put-name-thm.met 𝓤 H 𝓜 𝓖 𝓡)))

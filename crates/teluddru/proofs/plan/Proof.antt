@@ -1,4 +1,4 @@
--- `plan` meets its contract: it copies the records into words, and hands them on to `plan_words` (`proofs.Passing`).
+-- `plan` meets its contract: it copies the records into words, and hands them on to `plan_words` (`proofs.laws.Passing`).
 use mathlib.Core.Path.{refl}
 use mathlib.Core.List.{List, [], _∷_}
 use denote.Builtin.{u32}
@@ -10,12 +10,12 @@ use Rattle.operation.proofs.Operation as O
 use Rattle.operation.proofs.Operation.Laws as O′
 use Rattle.planner.proofs.PlanAnswer as P
 use Rattle.planner.proofs.PlanAnswer.Laws as P′
-use Rattle.teluddru.proofs.AllNames.{plan-all}
-use Rattle.teluddru.proofs.Params.{Param, struct, enum, word, lent}
-use Rattle.teluddru.proofs.Passing.{said-of-all, afterText, recordsOf, tablesOver, lftsTo, argsTo, boundTo, passed}
-use Rattle.teluddru.proofs.plans.plan_words as words
-use Rattle.teluddru.proofs.plans.plan_words.Symbol as words-def
-use Rattle.teluddru.proofs.plans.plan_words.Met as words-thm
+use Rattle.teluddru.proofs.laws.AllNames.{plan-all}
+use Rattle.teluddru.proofs.laws.Params.{Param, struct, enum, word, lent}
+use Rattle.teluddru.proofs.laws.Passing.{said-of-all, afterText, recordsOf, tablesOver, lftsTo, argsTo, boundTo, passed}
+use Rattle.teluddru.proofs.words.plans.plan_words as words
+use Rattle.teluddru.proofs.words.plans.plan_words.Symbol as words-def
+use Rattle.teluddru.proofs.words.plans.plan_words.Met as words-thm
 use Rattle.teluddru.proofs.plan as self
 use Rattle.teluddru.proofs.plan.Key as key
 use Rattle.teluddru.proofs.plan.Statement as stated
@@ -34,7 +34,7 @@ plan-spec 𝓤 H 𝓜 𝓖 𝓡 =
           let rest = afterText 1 ps κs a in
           said-of-all 𝓤 H (𝓖 .A) self.ended κs a _ _ (λ ws. plan-all (tablesOver 1 ps κs a) (λ names. refl) (rest .0) (rest .1 .1 .0) (rest .1 .0) (recordsOf 1 ps κs a) r c);
       known-words = λ κs qs a vs g r c v.
-          cited 𝓤 H (tripleOf 𝓤 H (𝓖 .A) words.signature (words.spec 𝓤 H (𝓖 .A) (𝓜 .mem) (𝓡 .run))) 𝓜 𝓡 code.env words-def.name words-def.routine code.calls-teluddru·plans·plan-words (words-thm.met 𝓤 H 𝓜 𝓖 𝓡)
+          cited 𝓤 H (tripleOf 𝓤 H (𝓖 .A) words.signature (words.spec 𝓤 H (𝓖 .A) (𝓜 .mem) (𝓡 .run))) 𝓜 𝓡 code.env words-def.name words-def.routine code.calls-teluddru·words·plans·plan-words (words-thm.met 𝓤 H 𝓜 𝓖 𝓡)
           (boundTo 1 ps κs qs a vs r v, tt);
       has = refl;
       goes = refl;

@@ -1,4 +1,4 @@
--- `plan_body` meets its contract: it copies the records into words, and hands them on to `body_words` (`proofs.Passing`).
+-- `plan_body` meets its contract: it copies the records into words, and hands them on to `body_words` (`proofs.laws.Passing`).
 use mathlib.Core.Path.{refl}
 use mathlib.Core.List.{List, [], _∷_}
 use denote.Builtin.{u32}
@@ -8,12 +8,12 @@ use Rattle.scope.proofs.Scope as S
 use Rattle.scope.proofs.Scope.Laws as S′
 use Rattle.body.proofs.BodyPlanned as P
 use Rattle.body.proofs.BodyPlanned.Laws as P′
-use Rattle.teluddru.proofs.AllNames.{body-all}
-use Rattle.teluddru.proofs.Params.{Param, struct, shared, lent}
-use Rattle.teluddru.proofs.Passing.{said-of-all, afterText, recordsOf, tablesOver, lftsTo, argsTo, boundTo, passed}
-use Rattle.teluddru.proofs.bodies.body_words as words
-use Rattle.teluddru.proofs.bodies.body_words.Symbol as words-def
-use Rattle.teluddru.proofs.bodies.body_words.Met as words-thm
+use Rattle.teluddru.proofs.laws.AllNames.{body-all}
+use Rattle.teluddru.proofs.laws.Params.{Param, struct, shared, lent}
+use Rattle.teluddru.proofs.laws.Passing.{said-of-all, afterText, recordsOf, tablesOver, lftsTo, argsTo, boundTo, passed}
+use Rattle.teluddru.proofs.words.bodies.body_words as words
+use Rattle.teluddru.proofs.words.bodies.body_words.Symbol as words-def
+use Rattle.teluddru.proofs.words.bodies.body_words.Met as words-thm
 use Rattle.teluddru.proofs.plan_body as self
 use Rattle.teluddru.proofs.plan_body.Key as key
 use Rattle.teluddru.proofs.plan_body.Statement as stated
@@ -32,7 +32,7 @@ plan-body-spec 𝓤 H 𝓜 𝓖 𝓡 =
           let rest = afterText 2 ps κs a in
           said-of-all 𝓤 H (𝓖 .A) self.ended κs a _ _ (λ ws. body-all (tablesOver 2 ps κs a) (λ names. refl) (rest .0) (rest .1 .0 .now) (recordsOf 2 ps κs a) r c);
       known-words = λ κs qs a vs g r c v.
-          cited 𝓤 H (tripleOf 𝓤 H (𝓖 .A) words.signature (words.spec 𝓤 H (𝓖 .A) (𝓜 .mem) (𝓡 .run))) 𝓜 𝓡 code.env words-def.name words-def.routine code.calls-teluddru·bodies·body-words (words-thm.met 𝓤 H 𝓜 𝓖 𝓡)
+          cited 𝓤 H (tripleOf 𝓤 H (𝓖 .A) words.signature (words.spec 𝓤 H (𝓖 .A) (𝓜 .mem) (𝓡 .run))) 𝓜 𝓡 code.env words-def.name words-def.routine code.calls-teluddru·words·bodies·body-words (words-thm.met 𝓤 H 𝓜 𝓖 𝓡)
           (boundTo 2 ps κs qs a vs r v, tt);
       has = refl;
       goes = refl;

@@ -1,4 +1,4 @@
--- `run_with_tolerance` meets its contract: it copies the records into words, and hands them on to `tolerance_words` (`proofs.Passing`).
+-- `run_with_tolerance` meets its contract: it copies the records into words, and hands them on to `tolerance_words` (`proofs.laws.Passing`).
 use mathlib.Core.Path.{refl}
 use mathlib.Core.List.{List, [], _∷_}
 use denote.Builtin.{u32, u64}
@@ -10,12 +10,12 @@ use Rattle.scope.proofs.ScopingMode as Mode
 use Rattle.scope.proofs.ScopingMode.Laws as Mode′
 use Rattle.tolerance.proofs.ToleranceAnswer as P
 use Rattle.tolerance.proofs.ToleranceAnswer.Laws as P′
-use Rattle.teluddru.proofs.AllNames.{tolerance-all}
-use Rattle.teluddru.proofs.Params.{Param, struct, enum, word, shared, lent}
-use Rattle.teluddru.proofs.Passing.{said-of-all, afterText, recordsOf, tablesOver, lftsTo, argsTo, boundTo, passed}
-use Rattle.teluddru.proofs.tolerances.tolerance_words as words
-use Rattle.teluddru.proofs.tolerances.tolerance_words.Symbol as words-def
-use Rattle.teluddru.proofs.tolerances.tolerance_words.Met as words-thm
+use Rattle.teluddru.proofs.laws.AllNames.{tolerance-all}
+use Rattle.teluddru.proofs.laws.Params.{Param, struct, enum, word, shared, lent}
+use Rattle.teluddru.proofs.laws.Passing.{said-of-all, afterText, recordsOf, tablesOver, lftsTo, argsTo, boundTo, passed}
+use Rattle.teluddru.proofs.words.tolerances.tolerance_words as words
+use Rattle.teluddru.proofs.words.tolerances.tolerance_words.Symbol as words-def
+use Rattle.teluddru.proofs.words.tolerances.tolerance_words.Met as words-thm
 use Rattle.teluddru.proofs.run_with_tolerance as self
 use Rattle.teluddru.proofs.run_with_tolerance.Key as key
 use Rattle.teluddru.proofs.run_with_tolerance.Statement as stated
@@ -34,7 +34,7 @@ run-with-tolerance-spec 𝓤 H 𝓜 𝓖 𝓡 =
           let rest = afterText 4 ps κs a in
           said-of-all 𝓤 H (𝓖 .A) self.ended κs a _ _ (λ ws. tolerance-all (tablesOver 4 ps κs a) (λ names. refl) (rest .0) (rest .1 .0) (rest .1 .1 .0) (rest .1 .1 .1 .0) (rest .1 .1 .1 .1 .1 .0 .now) (rest .1 .1 .1 .1 .1 .1 .0 .now) (recordsOf 4 ps κs a) r c);
       known-words = λ κs qs a vs g r c v.
-          cited 𝓤 H (tripleOf 𝓤 H (𝓖 .A) words.signature (words.spec 𝓤 H (𝓖 .A) (𝓜 .mem) (𝓡 .run))) 𝓜 𝓡 code.env words-def.name words-def.routine code.calls-teluddru·tolerances·tolerance-words (words-thm.met 𝓤 H 𝓜 𝓖 𝓡)
+          cited 𝓤 H (tripleOf 𝓤 H (𝓖 .A) words.signature (words.spec 𝓤 H (𝓖 .A) (𝓜 .mem) (𝓡 .run))) 𝓜 𝓡 code.env words-def.name words-def.routine code.calls-teluddru·words·tolerances·tolerance-words (words-thm.met 𝓤 H 𝓜 𝓖 𝓡)
           (boundTo 4 ps κs qs a vs r v, tt);
       has = refl;
       goes = refl;

@@ -55,8 +55,8 @@ use Rattle.teluddru.proofs.Name as T
 use Rattle.teluddru.proofs.Name.Laws as T′
 use Rattle.teluddru.proofs.records.NameWords as N
 use Rattle.teluddru.proofs.records.NameWords.Laws as N′
-use Rattle.teluddru.proofs.Copying.{count-fits, after, after-none, one-more, all-copied}
-use Rattle.teluddru.proofs.LocalArray.{lies-in, lies-out, zeros, zeroVal, is-zeros, zeros-length}
+use Rattle.teluddru.proofs.laws.Copying.{count-fits, after, after-none, one-more, all-copied}
+use Rattle.teluddru.proofs.laws.LocalArray.{lies-in, lies-out, zeros, zeroVal, is-zeros, zeros-length}
 use Rattle.teluddru.proofs.records.copied_count as copied-count
 use Rattle.teluddru.proofs.records.copied_count.Symbol as copied-count-def
 use Rattle.teluddru.proofs.records.copied_count.Symbol.{name as #copied-count}

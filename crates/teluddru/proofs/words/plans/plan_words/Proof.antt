@@ -1,8 +1,8 @@
 use native.Mathlib.Omega.{arith}
-use Rattle.teluddru.proofs.Copying.{part-count}
+use Rattle.teluddru.proofs.laws.Copying.{part-count}
 use borrow.Author.Needs.{needs}
-use Rattle.teluddru.proofs.plans.plan_words.Statement.{statement}
-use Rattle.teluddru.proofs.plans.plan_words.Tie as tie
+use Rattle.teluddru.proofs.words.plans.plan_words.Statement.{statement}
+use Rattle.teluddru.proofs.words.plans.plan_words.Tie as tie
 
 slice-aggregate-plan : tie.Need-slice-aggregate-plan
 slice-aggregate-plan c =

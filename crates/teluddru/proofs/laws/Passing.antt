@@ -41,9 +41,9 @@ use Rattle.table.specs.Tables.{Tables, tables}
 use Rattle.teluddru.specs.declared.Name.{Name}
 use Rattle.teluddru.specs.declared.records.NameWords.{NameWords}
 use Rattle.teluddru.specs.code.Copying.{Copied}
-use Rattle.teluddru.proofs.Locals as Locals
-use Rattle.teluddru.proofs.Locals.{Cell, both, valsAt, typeAt, freeAt, fullAt, allHere, Fits, filled, filled-at, here-filled, homes, homes-filled, sound-filled, resultOf, othersOf, Blocks, fresh, Fitting, begun, homes-begun, sound-begun, _▹_, loads, lands-in, Lend, lendsOn, lentAll, LendsAll, homes-lent, relends, enters, leaves}
-use Rattle.teluddru.proofs.Params.{Param, shared, slotsOf, typesOf, spellsOf, tellsOf, lawsOf, lendsFrom, handsFrom}
+use Rattle.teluddru.proofs.laws.Locals as Locals
+use Rattle.teluddru.proofs.laws.Locals.{Cell, both, valsAt, typeAt, freeAt, fullAt, allHere, Fits, filled, filled-at, here-filled, homes, homes-filled, sound-filled, resultOf, othersOf, Blocks, fresh, Fitting, begun, homes-begun, sound-begun, _▹_, loads, lands-in, Lend, lendsOn, lentAll, LendsAll, homes-lent, relends, enters, leaves}
+use Rattle.teluddru.proofs.laws.Params.{Param, shared, slotsOf, typesOf, spellsOf, tellsOf, lawsOf, lendsFrom, handsFrom}
 use Rattle.teluddru.proofs.Name as T
 use Rattle.teluddru.proofs.records.NameWords as N
 use Rattle.teluddru.proofs.records.NameWords.Laws as N′

@@ -21,7 +21,7 @@ use denote.Struct.Laws as LL
 use denote.Enum.Enum.{Few}
 use denote.Enum.Declared as Enum
 use denote.Enum.Laws as EL
-use Rattle.teluddru.proofs.Locals.{Lend, lend}
+use Rattle.teluddru.proofs.laws.Locals.{Lend, lend}
 
 pub record Known {M : Type 1} (𝓤 : URA M) (H : Heap 𝓤) (A : Atoms 𝓤) (X : RattleType) : Type 1 where
   pub vals : X .Denot → List Val

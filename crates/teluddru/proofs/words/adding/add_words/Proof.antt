@@ -1,7 +1,7 @@
-use Rattle.teluddru.proofs.Copying.{part-count}
+use Rattle.teluddru.proofs.laws.Copying.{part-count}
 use borrow.Author.Needs.{needs}
-use Rattle.teluddru.proofs.adding.add_words.Statement.{statement}
-use Rattle.teluddru.proofs.adding.add_words.Tie as tie
+use Rattle.teluddru.proofs.words.adding.add_words.Statement.{statement}
+use Rattle.teluddru.proofs.words.adding.add_words.Tie as tie
 
 slice-aggregate-all : tie.Need-slice-aggregate-all
 slice-aggregate-all c = search needs

@@ -1,8 +1,8 @@
 use native.Mathlib.Omega.{arith}
-use Rattle.teluddru.proofs.Copying.{part-count}
+use Rattle.teluddru.proofs.laws.Copying.{part-count}
 use borrow.Author.Needs.{needs}
-use Rattle.teluddru.proofs.examples.example_words.Statement.{statement}
-use Rattle.teluddru.proofs.examples.example_words.Tie as tie
+use Rattle.teluddru.proofs.words.examples.example_words.Statement.{statement}
+use Rattle.teluddru.proofs.words.examples.example_words.Tie as tie
 
 slice-aggregate-common-example : tie.Need-slice-aggregate-common-example
 slice-aggregate-common-example c =

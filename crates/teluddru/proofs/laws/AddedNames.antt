@@ -29,7 +29,7 @@ use Rattle.teluddru.specs.Records.{nameWords}
 use Rattle.teluddru.specs.Adding.{RecordLaws}
 use Rattle.teluddru.specs.code.Copying.{held, Copied}
 use Rattle.teluddru.specs.code.Placing.{aName, placeOf}
-use Rattle.teluddru.proofs.Copying.{words-length}
+use Rattle.teluddru.proofs.laws.Copying.{words-length}
 
 -- ---- the words of records
 words-append : (ns ms : List Name) → nameWords (ns ++ ms) ≡ nameWords ns ++ nameWords ms

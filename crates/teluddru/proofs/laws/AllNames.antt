@@ -40,7 +40,7 @@ use Rattle.teluddru.specs.Records.{nameWords}
 use Rattle.teluddru.specs.code.Copying.{held, Copied}
 use Rattle.operation.specs.Version.{versionOutcome}
 use Rattle.operation.proofs.Versions.{table-refused}
-use Rattle.teluddru.proofs.Limits.{over-limit, as-all}
+use Rattle.teluddru.proofs.laws.Limits.{over-limit, as-all}
 
 -- ---- over the limit of names each call is refused
 plan-refused : (T : Tables) (s : Scope) (version : ℕ) (operation : Operation) → checked T s ≡ Refusal.refused overLimit → versionOutcome T s version operation ≡ Plan.refused overLimit

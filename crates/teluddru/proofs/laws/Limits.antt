@@ -17,7 +17,7 @@ use Rattle.teluddru.specs.declared.Name.{Name}
 use Rattle.teluddru.specs.declared.records.NameWords.{NameWords}
 use Rattle.teluddru.specs.Records.{nameWords}
 use Rattle.teluddru.specs.code.Copying.{held, Copied}
-use Rattle.teluddru.proofs.Copying.{words-length}
+use Rattle.teluddru.proofs.laws.Copying.{words-length}
 
 fails-fourth : (a b c d e : Bool) → d ≡ false → (a && (b && (c && (d && e)))) ≡ false
 fails-fourth false b c d e h = refl

@@ -1,8 +1,8 @@
 use native.Mathlib.Omega.{arith}
-use Rattle.teluddru.proofs.Copying.{part-count}
+use Rattle.teluddru.proofs.laws.Copying.{part-count}
 use borrow.Author.Needs.{needs}
-use Rattle.teluddru.proofs.runs.run_words.Statement.{statement}
-use Rattle.teluddru.proofs.runs.run_words.Tie as tie
+use Rattle.teluddru.proofs.words.runs.run_words.Statement.{statement}
+use Rattle.teluddru.proofs.words.runs.run_words.Tie as tie
 
 mul-end : tie.Need-mul-end
 mul-end c = search needs

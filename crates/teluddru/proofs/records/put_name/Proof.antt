@@ -44,10 +44,10 @@ use Rattle.teluddru.specs.declared.Name.{Name}
 use Rattle.teluddru.specs.code.Copying.{none}
 use Rattle.teluddru.proofs.Name as T
 use Rattle.teluddru.proofs.Name.Laws as T′
-use Rattle.teluddru.proofs.adding.put_name.Key.{name as #put-name}
-use Rattle.teluddru.proofs.adding.put_name as self
-use Rattle.teluddru.proofs.adding.put_name.Statement as stated
-use Rattle.teluddru.proofs.adding.put_name.Code as code
+use Rattle.teluddru.proofs.records.put_name.Key.{name as #put-name}
+use Rattle.teluddru.proofs.records.put_name as self
+use Rattle.teluddru.proofs.records.put_name.Statement as stated
+use Rattle.teluddru.proofs.records.put_name.Code as code
 
 abbrev stayed : Stays (self.ended .signature .params) (self.ended .kept)
 stayed = (stay-slice (0 ∷ []) tt (plain (λ _. T.the-row)), (stay-none (λ _. usize) yes, (stay-none (λ _. T.the-row) yes, tt)))
