@@ -9,13 +9,11 @@
 #define LENGTH(array) (sizeof(array) / sizeof((array)[0]))
 /* A lent range: its pointer and its length. */
 #define LENT(array) (array), LENGTH(array)
-#define TABLES LENT(nodes), LENT(children), LENT(numbers), LENT(names), strings, (size_t)0, text, LENGTH(text) - 1, LENT(marks)
+#define TABLES LENT(nodes), LENT(children), LENT(numbers), LENT(names), NULL, 0, text, LENGTH(text) - 1, LENT(marks)
 
 enum { W = 1, EIGHTEEN = 1, FLUSH = 4, LEFT = 5, RIGHT = 6, SIDES = 7 };
 
 static const uint8_t text[] = "18 [w, w] [18, 18]";
-/* There are no strings; a pointer has to point somewhere all the same. */
-static const uint8_t strings[1] = {0};
 
 /* Kind, start, end, first, count. */
 static const uint32_t nodes[] = {

@@ -9,13 +9,11 @@
 #define LENGTH(array) (sizeof(array) / sizeof((array)[0]))
 /* A lent range: its pointer and its length. */
 #define LENT(array) (array), LENGTH(array)
-#define TABLES LENT(nodes), LENT(children), LENT(numbers), LENT(names), strings, (size_t)0, text, LENGTH(text) - 1, LENT(marks)
+#define TABLES LENT(nodes), LENT(children), LENT(numbers), LENT(names), NULL, 0, text, LENGTH(text) - 1, LENT(marks)
 
 enum { W = 1, RULE = 3, DIFFERENT = 6, EQUAL = 9 };
 
 static const uint8_t text[] = "[w, w] [18, 16] [18, 18]";
-/* There are no strings; a pointer has to point somewhere all the same. */
-static const uint8_t strings[1] = {0};
 
 /* Kind, start, end, first, count. */
 static const uint32_t nodes[] = {

@@ -8,6 +8,6 @@ static uint8_t listing[TELUDDRU_LISTING_BYTES];
 
 int main(void) {
     size_t length = fread(sheet, 1, sizeof sheet, stdin);
-    size_t written = plan_sheet(sheet, length, listing, sizeof listing);
+    size_t written = teluddru_plan_sheet(sheet, length, listing, sizeof listing);
     return fwrite(listing, 1, written, stdout) == written ? 0 : 1;
 }

@@ -14,9 +14,6 @@
 enum { FLUSH_SIDES = 1, SIZES = 2, FLUSH_SIDES_RULE = 3, SIZES_RULE = 8 };
 
 static const uint8_t text[] = "[w, w] [d, [h, _]]";
-/* There are no numbers and no strings; a pointer has to point somewhere all the same. */
-static const uint64_t numbers[1] = {0};
-static const uint8_t strings[1] = {0};
 
 /* Kind, start, end, first, count. */
 static const uint32_t nodes[] = {
@@ -68,7 +65,7 @@ static uint32_t keep(uint32_t pack, uint32_t entries) {
 
 /* Plans a rule, keeps its plan and reads it back. */
 static int plan_and_keep(uint32_t pack, uint32_t rule) {
-    uint32_t told = teluddru_plan(LENT(nodes), LENT(children), numbers, 0, LENT(names), strings, 0, text, LENGTH(text) - 1, LENT(marks),
+    uint32_t told = teluddru_plan(LENT(nodes), LENT(children), NULL, 0, LENT(names), NULL, 0, text, LENGTH(text) - 1, LENT(marks),
                                   TELUDDRU_PATTERN, TELUDDRU_NO_SCHEDULER, TELUDDRU_RESPECT_PARENT, rule, 0, 0, TELUDDRU_REGO_V0,
                                   LENT(plan), LENT(answer));
     uint32_t entries = answer[3];

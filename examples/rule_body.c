@@ -14,8 +14,6 @@
 enum { W = 1, X, Y, Z };
 
 static const char text[] = "w := 18\n[x, [x]] = [w, y]\nz := [y, w]";
-/* There are no strings; a pointer has to point somewhere all the same. */
-static const uint8_t strings[1] = {0};
 static const uint64_t numbers[] = {0, 18};
 
 /* Kind, start, end, first, count. */
@@ -57,7 +55,7 @@ static void print_node(uint32_t node) {
 static void plan(const char *title, const uint32_t *lines, size_t words, uint8_t marks_of_y) {
     uint8_t marks[] = {0, 0, marks_of_y, 0};
     uint32_t entries[8 * TELUDDRU_ENTRY_WORDS], answer[TELUDDRU_BODY_ANSWER_WORDS];
-    uint32_t told = teluddru_plan_body(LENT(nodes), LENT(children), LENT(numbers), LENT(names), strings, 0, (const uint8_t *)text,
+    uint32_t told = teluddru_plan_body(LENT(nodes), LENT(children), LENT(numbers), LENT(names), NULL, 0, (const uint8_t *)text,
                                        sizeof text - 1, LENT(marks), TELUDDRU_NO_SCHEDULER, lines, words, LENT(entries), LENT(answer));
     printf("%s: ", title);
     if (told == TELUDDRU_NAME_NOT_READY) {

@@ -25,14 +25,10 @@ static const uint32_t children[] = {1, 2};
 /* Start and length in the text: w, then a place that is free. */
 static uint32_t names[PLACES * TELUDDRU_NAME_WORDS] = {1, 1};
 static uint32_t used = 1;
-/* There are no numbers and no strings; a pointer has to point somewhere all the same. */
-static const uint64_t numbers[1] = {0};
-static const uint8_t strings[1] = {0};
 
 /* The tables, with so many places of the name table. */
-#define TABLES(places)                                                                            \
-    LENT(nodes), LENT(children), numbers, 0, names, (places) * TELUDDRU_NAME_WORDS, strings, 0,    \
-        text, LENGTH(text) - 1
+#define TABLES(places) \
+    LENT(nodes), LENT(children), NULL, 0, names, (places) * TELUDDRU_NAME_WORDS, NULL, 0, text, LENGTH(text) - 1
 
 struct party {
     const char *name;
@@ -59,7 +55,7 @@ static void add_name(const struct party *party, uint32_t start, uint32_t length)
 static void plan_rule(const struct party *party) {
     teluddru_plan(TABLES(used), party->marks, used, TELUDDRU_PATTERN, TELUDDRU_NO_SCHEDULER, TELUDDRU_RESPECT_PARENT,
                   RULE, 0, 0, TELUDDRU_REGO_V0, LENT(plan), LENT(answer));
-    printf("%s: the first w is %s\n", party->name, plan[TELUDDRU_ENTRY_WORDS] == TELUDDRU_BIND ? "bound" : "compared");
+    printf("%s: the first w is %s\n", party->name, plan[TELUDDRU_ENTRY_WORDS] == TELUDDRU_ENTRY_BIND ? "bound" : "compared");
 }
 
 int main(void) {

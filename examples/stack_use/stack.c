@@ -140,6 +140,13 @@ static void *call_run(void *unused) {
     return unused;
 }
 
+static void *call_first_miss(void *unused) {
+    volatile uint8_t local = 0;
+    call_place = (uintptr_t)&local;
+    teluddru_first_miss(TABLES, operation[1], operation[2], operation[3], operation[4], list, LENGTH(list), answer, LENGTH(answer));
+    return unused;
+}
+
 static void *call_body(void *unused) {
     volatile uint8_t local = 0;
     call_place = (uintptr_t)&local;
@@ -176,6 +183,13 @@ static void *call_add_name(void *unused) {
     return unused;
 }
 
+static void *call_table_fault(void *unused) {
+    volatile uint8_t local = 0;
+    call_place = (uintptr_t)&local;
+    teluddru_table_fault(TABLES, answer, LENGTH(answer));
+    return unused;
+}
+
 /* An example that left and right both match. */
 static void *call_example(void *unused) {
     volatile uint8_t local = 0;
@@ -190,7 +204,7 @@ static const struct {
     const char *name;
     void *(*call)(void *);
 } calls[] = {{"plan_sheet", call_sheet}, {"pages", call_pages}, {"plan", call_plan}, {"plan_body", call_body}, {"run", call_run}, {"names_report", call_report},
-           {"add_name", call_add_name}};
+           {"add_name", call_add_name}, {"table_fault", call_table_fault}};
 
 /* Eight packs, of which the last keeps a plan before the first does. */
 static void *call_set_up(void *unused) {
@@ -233,7 +247,7 @@ static void *call_empty(void *unused) {
 static const struct {
     const char *name;
     void *(*call)(void *);
-} store_calls[] = {{"store_set_up", call_set_up}, {"store_keep", call_keep_last}, {"store_keep", call_keep_first}, {"store_read", call_read}, {"store_empty", call_empty}, {"tolerance", call_run_with_tolerance}, {"example", call_example}};
+} store_calls[] = {{"store_set_up", call_set_up}, {"store_keep", call_keep_last}, {"store_keep", call_keep_first}, {"store_read", call_read}, {"store_empty", call_empty}, {"tolerance", call_run_with_tolerance}, {"example", call_example}, {"first_miss", call_first_miss}};
 
 /* The bytes of a painted stack that a call changed, counted from the call down. */
 static size_t stack_taken(uint8_t *stack, void *(*call)(void *)) {

@@ -13,7 +13,7 @@ GREEN = "echo proving; echo '3 passed, 0 failed'"
 RED = "echo '2 passed, 1 failed'; exit 1"
 # The comparisons by running, with how many cases each, and the libraries that they are given.
 COMPARISONS = {"compare": 20000, "bodies": 5000, "store": 5000, "parties": 5000}
-COMPARISONS |= {"tolerance": 20000, "common_example": 20000}
+COMPARISONS |= {"tolerance": 20000, "common_example": 20000, "misses": 20000, "faults": 20000}
 LIBRARIES = ("PLAN_SHEET_LIBRARY", "RUN_LIBRARY", "STORE_LIBRARY")
 GIVEN = " ".join(f"$(basename ${name})" for name in LIBRARIES)
 COMPARED = [f"{name} {count} with libsheet.a libc_calls.a libstore_calls.a" for name, count in COMPARISONS.items()]

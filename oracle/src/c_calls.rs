@@ -50,6 +50,7 @@ over_tables!(
     (plan, answer)
 );
 over_tables!(teluddru_run, (scheduler, scoping, pattern, value), (values, plan, answer));
+over_tables!(teluddru_first_miss, (scheduler, scoping, pattern, value), (values, answer));
 over_tables!(teluddru_names_report, (scheduler, scoping, pattern), (list, answer));
 
 /// A body's lines, planned from the marks, which are written too.

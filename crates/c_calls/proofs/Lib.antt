@@ -6,3 +6,5 @@ pub mod BodyCalls
 pub mod NamesTold
 pub mod Tolerated
 pub mod Exampled
+pub mod FaultsTold
+pub mod MissCalls

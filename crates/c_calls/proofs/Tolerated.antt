@@ -32,8 +32,7 @@ use Rattle.tolerance.specs.Tolerance.{Answer, always, sometimes, never}
 use Rattle.tolerance.specs.Answer.{turnedBack, answers, refusedBy, toleranceResultOf}
 use Rattle.tolerance.specs.Operations as Tolerance
 use Rattle.tolerance.specs.Operations.{ToleranceOutcome, judged, afterChecks, withLowest, rangesOk, toleranceOutcome, toleranceResult, planLeft, valuesLeft, isJudged, Judged}
-use Rattle.tolerance.proofs.tables.Judged.{run-passed}
-use Rattle.tolerance.proofs.tables.Probed.{Verdict, verdict}
+use Rattle.run.proofs.Refusing.{run-passed, Verdict, verdict}
 use Rattle.c_calls.specs.Given.{byteScopeOf, scopeOf, patternNumbers, givenFirst, GivenTold}
 use Rattle.c_calls.specs.Calls.{ranLine, namesSet}
 use Rattle.c_calls.specs.Tolerating.{toleranceLine, toleranceCall, Tolerated}

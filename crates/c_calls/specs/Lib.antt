@@ -4,3 +4,5 @@ pub mod Bodies
 pub mod NameCall
 pub mod Tolerating
 pub mod Examples
+pub mod Faults
+pub mod Misses

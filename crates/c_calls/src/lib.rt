@@ -2,9 +2,12 @@
 mod answer;
 pub mod bodies;
 pub mod examples;
+pub mod faults;
 mod given;
+pub mod misses;
 pub mod naming;
 pub mod planning;
 pub mod reporting;
 pub mod running;
 pub mod tolerating;
+pub mod version;

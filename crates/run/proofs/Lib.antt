@@ -3,5 +3,6 @@ pub mod Answers
 pub mod Valued
 pub mod Checking
 pub mod Running
+pub mod Refusing
 pub mod Tabled
 pub mod Demand

@@ -12,28 +12,24 @@ use lib.Seq.{ext-getD}
 use Rattle.scope.specs.declared.Scope.{Scope}
 use Rattle.scope.specs.declared.ScopingMode.{ScopingMode}
 use Rattle.scope.specs.Scope.{isUnbound, known}
-use Rattle.table.specs.declared.TableAnswer.{TableAnswer}
-use Rattle.table.specs.declared.TableAnswer.the-variants.{Sound, Refused}
-use Rattle.table.specs.declared.TableRefusal.{TableRefusal}
 use Rattle.table.specs.Tables.{Tables, nameCount, isNode}
 use Rattle.table.specs.Decode.{expr}
 use Rattle.base.specs.Lists.{elem, tabulate}
-use Rattle.table.specs.Check.{checked, tableRefused, TableAnswered, testedOf}
 use Rattle.table.specs.code.Sound.{Named, WellFormed, SoundTable}
-use Rattle.table.proofs.tests.Bools.{and-true, told-no, told-yes}
+use Rattle.table.proofs.tests.Bools.{and-true}
 use Rattle.table.proofs.trees.Facts.{sound-table}
 use Rattle.table.proofs.tests.Scan.{all-at}
-use Rattle.base.specs.Refusal.{Refusal, rootOutside, planTooLarge, listTooShort, patternNotSimple, notAValue, nameWithoutValue, Tested, passed}
+use Rattle.base.specs.Refusal.{planTooLarge}
 use Rattle.planner.specs.Plan.{plan, after}
 use Rattle.planner.specs.Layout.{top, entryWords, entries}
 use Rattle.planner.specs.Entries.{readEntries, Wrote, Closed, wordAt}
 use Rattle.planner.specs.Operations.{planned, fits, written, planOf}
-use Rattle.planner.specs.code.Post.{patternWords, GoodRoot, Laid, PatternAsks, PatternPlanned}
+use Rattle.planner.specs.code.Post.{patternWords, Laid, PatternAsks, PatternPlanned}
 use Rattle.planner.specs.declared.PlanAnswer.{PlanAnswer}
-use Rattle.planner.specs.Simple.{simple, mentions}
+use Rattle.planner.specs.Simple.{mentions}
 use Rattle.planner.proofs.buffer.Filling.{length-tabulate, getD-tabulate}
 use Rattle.planner.proofs.buffer.Copies.{wrote-long, wrote-read, wrote-closed}
-use Rattle.planner.proofs.laws.Operations.{ask-pattern, check-passes, root-node, pattern-tracked}
+use Rattle.planner.proofs.laws.Operations.{ask-pattern, pattern-tracked}
 use Rattle.value.specs.Value.{Value, isValue, valueOf, valueAt, Proper, nodeIn}
 use Rattle.value.specs.code.Post.{ValueNode}
 use Rattle.value.proofs.Keys.{true-is, is-true}
@@ -47,13 +43,12 @@ use Rattle.matching.proofs.EntryLists.{scratch-laid}
 use Rattle.matching.proofs.reading.PlanTold.{run-whole}
 use Rattle.report.proofs.Meeting.{after-met, mentions-met, mentioned-named}
 use Rattle.run.specs.declared.RunAnswer.{RunAnswer}
-use Rattle.run.specs.declared.RunAnswer.the-variants.{Match, NoMatch, TableRefused, RootOutside, ListTooShort, PatternNotSimple, NotAValue, NameWithoutValue, PlanTooLarge}
-use Rattle.run.specs.Answer.{turnedBack, aMatch, noMatch, resultOf}
-use Rattle.run.specs.Operations.{listedNode, inTable, allNames, isValueNode, listed, valuesListed, knownListed, RunOutcome, refused, carriedOut, require, tableFirst, ran, runChecked, runOutcome, carriedResult, runAnswer, planAfter, setNames, plannedName, valuesAfter, Ran}
-use Rattle.run.specs.code.Post.{RunAsks, MatchValuesAsks, toBind, ValuesCame, CheckedAsks}
-use Rattle.run.specs.code.NamesPost.{ListAsks, StartOf, NamesSet, KnownAsks}
-use Rattle.run.specs.code.ChecksPost.{AllAsks}
-use Rattle.run.proofs.Checking.{node-of-test, test-of-node}
+use Rattle.run.specs.declared.RunAnswer.the-variants.{Match, NoMatch, PlanTooLarge}
+use Rattle.run.specs.Answer.{turnedBack, aMatch, noMatch}
+use Rattle.run.specs.Operations.{listedNode, inTable, allNames, isValueNode, listed, valuesListed, knownListed, carriedOut, ran, carriedResult, runAnswer, planAfter, setNames, plannedName, valuesAfter, Ran}
+use Rattle.run.specs.code.Post.{RunAsks, MatchValuesAsks, toBind, ValuesCame}
+use Rattle.run.specs.code.NamesPost.{ListAsks, StartOf, NamesSet}
+use Rattle.run.proofs.Checking.{node-of-test}
 use Rattle.run.proofs.Known.{known-is, planned-is}
 
 name-test : (T : Tables) (x : ℕ) → Named T x → inTable T x ≡ true
@@ -350,118 +345,3 @@ module _ (T : Tables) (s : Scope) (mode : ScopingMode) (pattern value : ℕ) {va
           let c = came .each pattern a p in
           let names = planned-is T s mode (a .sound) pattern (a .pattern-node) in
           record { answer = rw f (c .0); plan = in-buffer; list = rw f (c .1 ∙ sym (ap (λ (toSet : ℕ → Bool). setNames toSet (ran T s mode pattern value values) values) names)) }
-
--- the checks of a run, one after the other
-module _ (T : Tables) (s : Scope) (mode : ScopingMode) (pattern value : ℕ) (values : List ℕ) (a : CheckedAsks T s pattern value values) where
-  good : WellFormed T
-  good = sound-table T s (a .sound) .wellFormed
-
-  pub ask-simple : GoodRoot T pattern
-  ask-simple = record { table = good; node = a .pattern-node }
-
-  pub ask-all : AllAsks T value values
-  ask-all = record { good = record { table = good; node = a .value-node }; long = a .long }
-
-  -- roots and length passed
-  inside : runChecked T s mode pattern value values ≡
-      require (simple (expr T pattern)) patternNotSimple
-      (require (isValue (expr T value) && valuesListed T values) notAValue
-      (require (knownListed T (known s mode) (expr T pattern) values) nameWithoutValue
-      (carriedOut (entries (planOf T s mode pattern) top) (ran T s mode pattern value values))))
-  inside =
-      let p = test-of-node T pattern (a .pattern-node) in
-      let v = test-of-node T value (a .value-node) in
-      let l = le-leb (nameCount T) (length values) (a .long) in
-      rw (p, v, l)
-
-  abbrev Runs : RunOutcome → List ℕ → List ℕ → List ℕ → RunAnswer → Type 0
-  Runs o buffer valuesExit bufferExit r = Ran (plannedName (known s mode) (expr T pattern)) o values buffer valuesExit bufferExit r
-
-  refuses : (a : Refusal) {answer : RunAnswer} {buffer cleared : List ℕ} → runChecked T s mode pattern value values ≡ refused a → resultOf answer ≡ turnedBack a → cleared ≡ replicate (length buffer) 0 → Runs (runChecked T s mode pattern value values) buffer values cleared answer
-  unfolding runAnswer planAfter valuesAfter
-  refuses a e l z = rw e (record { answer = l; plan = z; list = refl })
-
-  module _ {ok : Bool} (is : ok ≡ simple (expr T pattern)) where
-    pub not-simple : {buffer cleared : List ℕ} → not ok ≡ true → cleared ≡ replicate (length buffer) 0 → Runs (runChecked T s mode pattern value values) buffer values cleared PatternNotSimple
-    not-simple t z = let e = told-no is t in refuses patternNotSimple (inside ∙ rw e) refl z
-
-    module _ (passed : not ok ≡ false) where
-      pub ask-known : KnownAsks T s pattern values
-      ask-known = record { sound = a .sound; good = ask-simple; isSimple = told-yes is passed; list-ok = record { few = good .limits .names; long = a .long } }
-
-      module _ {all : Bool} (of : all ≡ (isValue (expr T value) && valuesListed T values)) where
-        pub no-value : {buffer cleared : List ℕ} → not all ≡ true → cleared ≡ replicate (length buffer) 0 → Runs (runChecked T s mode pattern value values) buffer values cleared NotAValue
-        no-value t z = let e = told-yes is passed in let f = told-no of t in refuses notAValue (inside ∙ rw (e, f)) refl z
-
-        module _ (good-values : not all ≡ false) {valued : Bool} (by : valued ≡ knownListed T (known s mode) (expr T pattern) values) where
-          pub unlisted : {buffer cleared : List ℕ} → not valued ≡ true → cleared ≡ replicate (length buffer) 0 → Runs (runChecked T s mode pattern value values) buffer values cleared NameWithoutValue
-          unlisted t z = let e = told-yes is passed in let f = told-yes of good-values in let g = told-no by t in refuses nameWithoutValue (inside ∙ rw (e, f, g)) refl z
-
-          module _ (all-known : not valued ≡ false) where
-            pub ask-carry : RunAsks T s mode pattern value values
-            ask-carry =
-                let f = and-true (isValue (expr T value)) (valuesListed T values) (told-yes of good-values) in
-                record {
-                  sound = a .sound;
-                  pattern-node = a .pattern-node;
-                  value-node = a .value-node;
-                  long = a .long;
-                  isSimple = told-yes is passed;
-                  aValue = f .0;
-                  listedValues = f .1;
-                  knownValues = told-yes by all-known;
-                }
-
-            pub goes-on : {buffer after filled : List ℕ} {answer : RunAnswer} → Runs (carriedOut (entries (planOf T s mode pattern) top) (ran T s mode pattern value values)) buffer after filled answer
-                → Runs (runChecked T s mode pattern value values) buffer after filled answer
-            goes-on r =
-                let e = told-yes is passed in
-                let f = told-yes of good-values in
-                let g = told-yes by all-known in
-                let q : runChecked T s mode pattern value values ≡ carriedOut (entries (planOf T s mode pattern) top) (ran T s mode pattern value values) = inside ∙ rw (e, f, g) in
-                rw q r
-
--- the table check, the roots, the length of the list
-module _ (T : Tables) (s : Scope) (mode : ScopingMode) (pattern value : ℕ) (values : List ℕ) {c : TableAnswer} (is : TableAnswered T s c) where
-  abbrev Ends : List ℕ → List ℕ → List ℕ → RunAnswer → Type 0
-  Ends buffer valuesExit bufferExit r = Ran (plannedName (known s mode) (expr T pattern)) (runOutcome T s mode pattern value values) values buffer valuesExit bufferExit r
-
-  ends : {d : TableAnswer} → c ≡ d → runOutcome T s mode pattern value values ≡ tableFirst (testedOf d) (runChecked T s mode pattern value values)
-  ends p = ap (λ (t : Tested). tableFirst t (runChecked T s mode pattern value values)) (sym (is .answer) ∙ ap testedOf p)
-
-  ends-refused : (a : Refusal) {answer : RunAnswer} {buffer cleared : List ℕ} → runOutcome T s mode pattern value values ≡ refused a → resultOf answer ≡ turnedBack a → cleared ≡ replicate (length buffer) 0 → Ends buffer values cleared answer
-  unfolding runAnswer planAfter valuesAfter
-  ends-refused a q l z = rw q (record { answer = l; plan = z; list = refl })
-
-  pub table-refused : {d : TableRefusal} {buffer cleared : List ℕ} → c ≡ Refused d → cleared ≡ replicate (length buffer) 0 → Ends buffer values cleared (TableRefused d)
-  table-refused {d} p z = ends-refused (tableRefused d) (ends p) refl z
-
-  module _ (sound : c ≡ Sound) where
-    is-sound : checked T s ≡ passed
-    is-sound = check-passes T s is sound
-
-    outcome-is : runOutcome T s mode pattern value values ≡ runChecked T s mode pattern value values
-    outcome-is = ends sound
-
-    module _ {one : Bool} (told : one ≡ isNode T pattern) where
-      pub pattern-outside : {buffer cleared : List ℕ} → not one ≡ true → cleared ≡ replicate (length buffer) 0 → Ends buffer values cleared RootOutside
-      pattern-outside t z = let e = told-no told t in ends-refused rootOutside (outcome-is ∙ rw e) refl z
-
-      module _ (one-inside : not one ≡ false) {two : Bool} (told′ : two ≡ isNode T value) where
-        pub value-outside : {buffer cleared : List ℕ} → not two ≡ true → cleared ≡ replicate (length buffer) 0 → Ends buffer values cleared RootOutside
-        value-outside t z = let e = told-yes told one-inside in let f = told-no told′ t in ends-refused rootOutside (outcome-is ∙ rw (e, f)) refl z
-
-        module _ (two-inside : not two ≡ false) where
-          pub list-short : {buffer cleared : List ℕ} → length values < length (T .names) / 2 → cleared ≡ replicate (length buffer) 0 → Ends buffer values cleared ListTooShort
-          list-short lt z =
-              let e = told-yes told one-inside in
-              let f = told-yes told′ two-inside in
-              let g = lt-leb (nameCount T) (length values) lt in
-              ends-refused listTooShort (outcome-is ∙ rw (e, f, g)) refl z
-
-          module _ (long : length (T .names) / 2 ≤ length values) where
-            pub ask-checked : CheckedAsks T s pattern value values
-            ask-checked = record { sound = is-sound; pattern-node = root-node T pattern told one-inside; value-node = root-node T value told′ two-inside; long = long }
-
-            pub run-ends : {buffer after filled : List ℕ} {answer : RunAnswer} → Ran (plannedName (known s mode) (expr T pattern)) (runChecked T s mode pattern value values) values buffer after filled answer → Ends buffer after filled answer
-            run-ends r = rw outcome-is r

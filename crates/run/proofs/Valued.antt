@@ -1,7 +1,7 @@
 -- The values of names: at the start, after a match, and whether each that is needed is there.
 use Prim.Native.Nat.{ℕ, zero, suc, _+_, _-_, _/_, _≤_, _<_}
 use mathlib.Core.Path.{_≡_, refl, sym, ap, ap₂, _∙_}
-use mathlib.Core.List.{List}
+use mathlib.Core.List.{List, []}
 use mathlib.Core.Bool.{Bool, true, false, cond, _&&_, _||_, not}
 use native.Mathlib.Omega.{arith}
 use borrow.Author.Tests.{eq-eqb, ne-eqb, not-true, not-false}
@@ -13,13 +13,18 @@ use Rattle.scope.specs.declared.Binding.{Binding}
 use Rattle.scope.specs.declared.Binding.the-variants as Binding
 use Rattle.scope.specs.Scope.{isUnbound, asked, questionOf, known}
 use Rattle.scope.proofs.Laws.{says-yes, says-no}
-use Rattle.table.specs.Tables.{Tables, nameCount}
-use Rattle.table.specs.Decode.{expr}
+use Rattle.table.specs.declared.NameClass.{NameClass}
+use Rattle.table.specs.declared.NameClass.the-variants.{Underscore, InputOrData, Ordinary}
+use Rattle.table.specs.Tables.{Tables, tables, nameCount, nameBytes}
+use Rattle.table.specs.Names.{classOf}
+use Rattle.table.specs.Decode.{expr, isWildcard}
 use Rattle.base.specs.Lists.{allFrom}
 use Rattle.table.proofs.tests.Scan.{Scan, scan-start, scan-on, scan-fails, scan-ends}
+use Rattle.planner.specs.Names.{stateBy}
 use Rattle.planner.specs.code.Post.{NameNumber}
 use Rattle.planner.specs.Simple.{mentions}
 use Rattle.planner.proofs.laws.States.{name-never}
+use Rattle.planner.proofs.laws.SamePlan.{class-wild}
 use Rattle.report.proofs.Meeting.{mentions-met, met-at}
 use Rattle.value.proofs.Changing.{Changing, changing-zeros, changing-on}
 use Rattle.value.proofs.Keys.{true-is}
@@ -27,6 +32,20 @@ use Rattle.report.specs.code.Post.{metWords}
 use Rattle.run.specs.Operations.{listedNode, knownListed}
 use Rattle.run.proofs.Known.{known-is}
 use Rattle.run.specs.code.NamesPost.{ListAsks, StartOf, NamesSet, hasValue, allHaveValues, KnownAsks}
+
+-- `_` by its bytes
+module _ (names text : List ℕ) (x : ℕ) {class : NameClass} (of : class ≡ classOf (nameBytes names text x)) where
+  told-wild : {w : Bool} → eqb (stateBy class false) 2 ≡ w → w ≡ isWildcard (tables [] [] [] names [] text) x
+  told-wild e = sym e ∙ (ap (λ (d : NameClass). eqb (stateBy d false) 2) of ∙ class-wild (nameBytes names text x) false)
+
+  pub told-underscore : class ≡ Underscore → true ≡ isWildcard (tables [] [] [] names [] text) x
+  told-underscore e = told-wild (simp e)
+
+  pub told-reserved : class ≡ InputOrData → false ≡ isWildcard (tables [] [] [] names [] text) x
+  told-reserved e = told-wild (simp e)
+
+  pub told-ordinary : class ≡ Ordinary → false ≡ isWildcard (tables [] [] [] names [] text) x
+  told-ordinary e = told-wild (simp e)
 
 -- what a scope says of a name
 module _ (x : ℕ) (u : Bool) {b : Binding} (is : questionOf b ≡ asked x u) where

@@ -2,12 +2,11 @@
 ghost use Rattle.base.specs.Lent.{old};
 ghost use Rattle.table.specs.Lent.{given, lent};
 ghost use Rattle.run.specs.Operations.{RanIn};
-ghost use Rattle.run.specs.code.Post.{RunAsks, MatchValuesAsks, ValuesCameIn, CarriedIn, CheckedAsks, CheckedIn};
-use inner::checks::all_values;
-use inner::checks::is_simple;
-use inner::names::known_listed;
+ghost use Rattle.run.specs.code.Post.{RunAsks, MatchValuesAsks, ValuesCameIn, CarriedIn};
 use inner::names::set_names;
 use inner::names::start_list;
+use inner::refusals::RunCheck;
+use inner::refusals::check_run;
 use matching::inner::match_pattern;
 use planner::buffer::ENTRY_WORDS;
 use planner::buffer::PATTERN_WORDS;
@@ -17,10 +16,7 @@ use planner::buffer::copy_entries;
 use planner::inner::destructuring::plan_pattern;
 use scope::Scope;
 use scope::ScopingMode;
-use table::TableAnswer;
 use table::TableRefusal;
-use table::check;
-use table::reading::is_node;
 
 pub mod inner;
 
@@ -133,72 +129,6 @@ fn carry_out<'a>(
     )
 }
 
-// A run of a good table, with roots in it and a list that is long enough.
-fn run_checked<'a>(
-    nodes: &[u32],
-    children: &[u32],
-    numbers: &[u64],
-    names: &[u32],
-    strings: &'a [u8],
-    text: &'a [u8],
-    scope: Scope,
-    scoping: ScopingMode,
-    pattern: u32,
-    value: u32,
-    values: &mut [u32],
-    plan: &mut [u32],
-) -> RunAnswer
-    requires { ⌜ CheckedAsks (given nodes children numbers names strings text) scope pattern value (now values) ⌝ }
-    ensures { λ r. ⌜ CheckedIn values plan (lent nodes children numbers names strings text) scope scoping pattern value r ⌝ }
-{
-    if !is_simple(nodes, children, numbers, names, strings, text, pattern) {
-        clear(plan);
-        return RunAnswer::PatternNotSimple;
-    }
-    if !all_values(
-        nodes,
-        children,
-        numbers,
-        names,
-        strings,
-        text,
-        value,
-        values,
-    ) {
-        clear(plan);
-        return RunAnswer::NotAValue;
-    }
-    if !known_listed(
-        nodes,
-        children,
-        numbers,
-        names,
-        strings,
-        text,
-        scope,
-        scoping,
-        pattern,
-        values,
-    ) {
-        clear(plan);
-        return RunAnswer::NameWithoutValue;
-    }
-    carry_out(
-        nodes,
-        children,
-        numbers,
-        names,
-        strings,
-        text,
-        scope,
-        scoping,
-        pattern,
-        value,
-        values,
-        plan,
-    )
-}
-
 // Plans the pattern into the buffer and carries the plan out on the value. `values` has for each name number the node of its value, or 0.
 pub fn run<'a>(
     nodes: &[u32],
@@ -216,24 +146,24 @@ pub fn run<'a>(
 ) -> RunAnswer
     ensures { λ r. ⌜ RanIn values plan (lent nodes children numbers names strings text) scope scoping pattern value r ⌝ }
 {
-    let checked = check(nodes, children, numbers, names, strings, text, scope);
-    if let TableAnswer::Refused(refused) = checked {
+    let checked = check_run(
+        nodes,
+        children,
+        numbers,
+        names,
+        strings,
+        text,
+        scope,
+        scoping,
+        pattern,
+        value,
+        values,
+    );
+    if let RunCheck::Refused(answer) = checked {
         clear(plan);
-        return RunAnswer::TableRefused(refused);
+        return answer;
     }
-    if !is_node(nodes, pattern) {
-        clear(plan);
-        return RunAnswer::RootOutside;
-    }
-    if !is_node(nodes, value) {
-        clear(plan);
-        return RunAnswer::RootOutside;
-    }
-    if values.len() < names.len() / 2 {
-        clear(plan);
-        return RunAnswer::ListTooShort;
-    }
-    run_checked(
+    carry_out(
         nodes,
         children,
         numbers,

@@ -38,3 +38,11 @@ pub extern "C" fn plan_sheet(sheet: &[u8], out: &mut [u8]) -> usize
         Heading::Refused(number) => refuse(number, out),
     }
 }
+
+// The same by the prefix of all other calls; the name without it ends with the next version.
+#[no_mangle]
+pub extern "C" fn teluddru_plan_sheet(sheet: &[u8], out: &mut [u8]) -> usize
+    ensures { λ r. ⌜ Printed (listingOf (old sheet)) (old out) (new out) r ⌝ }
+{
+    plan_sheet(sheet, out)
+}

@@ -1,5 +1,5 @@
 // The node table of a rule: its check and its reading.
-use depth::depths_ok;
+use inner::depth::depths_ok;
 use limits::within_limits;
 use literal::LiteralRef;
 use names::names_differ;
@@ -9,14 +9,14 @@ ghost use Rattle.table.specs.Lent.{lent};
 ghost use mathlib.Core.Path.{_≡_};
 ghost use Rattle.table.specs.Check.{TableAnswered, tableRefused};
 
-mod depth;
 mod distinct;
+pub mod inner;
 pub mod limits;
 mod names;
 pub mod node_kind;
 mod nodes;
 pub mod reading;
-mod rules;
+pub mod rules;
 
 pub enum TableRefusal {
     OverLimit,
@@ -73,7 +73,7 @@ pub fn check<'a>(
     if !follows_rules(nodes, children, numbers, names, strings, text, scope) {
         return TableAnswer::Refused(TableRefusal::BreaksRules);
     }
-    if !depths_ok(nodes, children) {
+    if !depths_ok(nodes, children, nodes.len() / 5) {
         return TableAnswer::Refused(TableRefusal::TooDeep);
     }
     if !names_differ(names, text) {

@@ -94,6 +94,12 @@ pub(crate) fn width_at(nodes: &[u32], i: usize) -> usize
     width_by(node_word(nodes, i, 0), node_word(nodes, i, 4))
 }
 
+pub fn width_of(nodes: &[u32], node: u32) -> usize
+    ensures { λ r. ⌜ (r ≡ width (old nodes) node) × (r < 2 ^ 33) ⌝ }
+{
+    width_by(kind_of(nodes, node), count_of(nodes, node))
+}
+
 pub(crate) fn name_start(names: &[u32], name: u32) -> u32
     ensures { λ r. ⌜ r ≡ nameStart (old names) name ⌝ }
 {

@@ -1,5 +1,5 @@
 // The table rules that speak of the lists and the scope.
-use crate::nodes::in_range;
+use crate::inner::node::in_range;
 use crate::nodes::nodes_ok;
 use crate::reading::is_node;
 use crate::reading::name_bytes;
@@ -32,7 +32,8 @@ fn whole_records(nodes: &[u32], numbers: &[u64], names: &[u32]) -> bool
     names.len() % 2 == 0
 }
 
-fn name_ok(names: &[u32], text: &[u8], name: u32) -> bool
+// Has a name 1 to 255 bytes of the text?
+pub fn name_ok(names: &[u32], text: &[u8], name: u32) -> bool
     ensures { λ r. ⌜ r ≡ nameOk (tables [] [] [] (old names) [] (old text)) name ⌝ }
 {
     let start = name_start(names, name) as usize;

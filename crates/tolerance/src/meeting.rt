@@ -2,21 +2,17 @@
 ghost use Rattle.base.specs.Lent.{old};
 ghost use Rattle.table.specs.Lent.{given, lent};
 ghost use mathlib.Core.Path.{_≡_};
-ghost use mathlib.Core.List.{[]};
 ghost use mathlib.Core.Bool.{true};
 ghost use lib.ListN.{getD};
-ghost use Rattle.table.specs.Tables.{tables};
-ghost use Rattle.table.specs.Decode.{isWildcard};
 ghost use Rattle.tolerance.specs.code.Post.{EquatedIn, LiteralAsks, MeetAsks, NameAsks, MeetItemsAsks, MeetFieldsAsks, MetIn, conditionsAt, meetsNodes, meetsListed, meetsUnder};
 use crate::classes::fix_node;
 use crate::classes::join_nodes;
-use table::NameClass;
+use run::inner::names::is_wildcard;
 use table::node_kind;
 use table::reading::child_at;
 use table::reading::count_of;
 use table::reading::first_of;
 use table::reading::kind_of;
-use table::reading::name_class;
 use value::inner::fields::same_literals;
 use value::inner::fields::value_under;
 
@@ -301,15 +297,4 @@ fn meet_fields<'a>(
         i += 1;
     }
     true
-}
-
-fn is_wildcard(names: &[u32], text: &[u8], name: u32) -> bool
-    ensures { λ r. ⌜ r ≡ isWildcard (tables [] [] [] (old names) [] (old text)) name ⌝ }
-{
-    let class = name_class(names, text, name);
-    match class {
-        NameClass::Underscore => true,
-        NameClass::InputOrData => false,
-        NameClass::Ordinary => false,
-    }
 }

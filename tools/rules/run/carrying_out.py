@@ -86,8 +86,8 @@ class CarryingOut:
         return None
 
     def missing_key(self, place: int, node: int, fields: dict[Literal, int]) -> Miss | None:
-        """The first key of the pattern, as written, that the value's object hasn't."""
-        for child in self.below[place]:
+        """The least key of the pattern, in key order, that the value's object hasn't."""
+        for child in sorted(self.below[place]):
             if self.key_of(child) not in fields:
                 key = self.entries[child].key
                 asked = f"key {self.text(key)} is asked for {self.at(key)}"

@@ -4,7 +4,7 @@ use mathlib.Core.Path.{_≡_}
 use mathlib.Core.Bool.{Bool, true, _&&_}
 use mathlib.Core.List.{List, []}
 use lib.ListN.{length, replicate}
-use Rattle.base.specs.Refusal.{passed}
+use Rattle.base.specs.Refusal.{Refusal, passed}
 use Rattle.scope.specs.declared.Scope.{Scope}
 use Rattle.scope.specs.declared.ScopingMode.{ScopingMode}
 use Rattle.scope.specs.Scope.{isUnbound, known}
@@ -21,8 +21,10 @@ use Rattle.planner.specs.code.Post.{patternWords, Laid, PatternPlanned}
 use Rattle.planner.specs.Simple.{simple, mentions}
 use Rattle.value.specs.Value.{isValue}
 use Rattle.run.specs.declared.RunAnswer.{RunAnswer}
-use Rattle.run.specs.Answer.{resultOf}
-use Rattle.run.specs.Operations.{valuesListed, knownListed, carriedOut, ran, runChecked, carriedResult, setNames, plannedName, Ran}
+use Rattle.run.specs.declared.inner.refusals.RunCheck.{RunCheck}
+use Rattle.run.specs.declared.inner.refusals.RunCheck.the-variants.{Passed, Refused}
+use Rattle.run.specs.Answer.{turnedBack, resultOf}
+use Rattle.run.specs.Operations.{valuesListed, knownListed, refused, carriedOut, ran, runOutcome, carriedResult, setNames, plannedName, Ran}
 
 -- a run that no check refused
 pub record RunAsks (T : Tables) (s : Scope) (mode : ScopingMode) (pattern value : ℕ) (values : List ℕ) : Type 0 where
@@ -57,7 +59,18 @@ pub record CheckedAsks (T : Tables) (s : Scope) (pattern value : ℕ) (values : 
   pub value-node : Node T value
   pub long : nameCount T ≤ length values
 
--- The same of `&mut` parameters, at entry and at exit: what the values came to, a plan carried out, a run of such a table.
+-- what a run turns back before it plans: nothing, or with an answer
+module _ (T : Tables) (s : Scope) (mode : ScopingMode) (pattern value : ℕ) (values : List ℕ) where
+  pub record TurnedBack (a : RunAnswer) : Type 0 where
+    pub refusal : Refusal
+    pub is : runOutcome T s mode pattern value values ≡ refused refusal
+    pub told : resultOf a ≡ turnedBack refusal
+
+  pub record CheckTold (r : RunCheck) : Type 0 where
+    pub passes : r ≡ Passed → RunAsks T s mode pattern value values
+    pub refuses : (a : RunAnswer) → r ≡ Refused a → TurnedBack a
+
+-- The same of what is lent, at entry and at exit: what the values came to, a plan carried out, what is turned back.
 abbrev pub ValuesCameIn : Slices → Tables → Scope → ScopingMode → List ℕ → ℕ → List ℕ → ℕ → RunAnswer → Type 0
 ValuesCameIn values T s mode scratch count binders value r = ValuesCame T s mode scratch count binders value (old values) (new values) r
 
@@ -65,6 +78,5 @@ abbrev pub CarriedIn : Slices → Slices → Tables → Scope → ScopingMode �
 CarriedIn values plan T s mode pattern value r =
     Ran (plannedName (known s mode) (expr T pattern)) (carriedOut (entries (planOf T s mode pattern) top) (ran T s mode pattern value (old values))) (old values) (old plan) (new values) (new plan) r
 
-abbrev pub CheckedIn : Slices → Slices → Tables → Scope → ScopingMode → ℕ → ℕ → RunAnswer → Type 0
-CheckedIn values plan T s mode pattern value r =
-    Ran (plannedName (known s mode) (expr T pattern)) (runChecked T s mode pattern value (old values)) (old values) (old plan) (new values) (new plan) r
+abbrev pub CheckToldIn : Slices → Tables → Scope → ScopingMode → ℕ → ℕ → RunCheck → Type 0
+CheckToldIn values T s mode pattern value r = CheckTold T s mode pattern value (old values) r

@@ -3,11 +3,13 @@ ghost use Rattle.base.specs.Lent.{old, new};
 ghost use Rattle.table.specs.Lent.{given, lent};
 ghost use Prim.Native.Nat.{_/_};
 ghost use mathlib.Core.Path.{_≡_};
+ghost use mathlib.Core.List.{[]};
 ghost use mathlib.Core.Bool.{cond};
 ghost use lib.Dec.{eqb};
 ghost use lib.ListN.{length};
 ghost use Rattle.scope.specs.Scope.{isUnbound, known};
-ghost use Rattle.table.specs.Decode.{expr};
+ghost use Rattle.table.specs.Tables.{tables};
+ghost use Rattle.table.specs.Decode.{expr, isWildcard};
 ghost use Rattle.planner.specs.code.Post.{NameNumber};
 ghost use Rattle.run.specs.Operations.{knownListed};
 ghost use Rattle.run.specs.code.NamesPost.{ListAsks, StartOf, NamesSet, hasValue, allHaveValues, KnownAsks};
@@ -15,6 +17,19 @@ use report::inner::names_met;
 use scope::Binding;
 use scope::Scope;
 use scope::ScopingMode;
+use table::NameClass;
+use table::reading::name_class;
+
+pub fn is_wildcard(names: &[u32], text: &[u8], name: u32) -> bool
+    ensures { λ r. ⌜ r ≡ isWildcard (tables [] [] [] (old names) [] (old text)) name ⌝ }
+{
+    let class = name_class(names, text, name);
+    match class {
+        NameClass::Underscore => true,
+        NameClass::InputOrData => false,
+        NameClass::Ordinary => false,
+    }
+}
 
 fn is_unbound(scope: Scope, scoping: ScopingMode, name: u32) -> bool
     requires { ⌜ NameNumber name ⌝ }

@@ -15,7 +15,7 @@ check-spec =
     (λ c κs.
     let rules = c .before in
     let limits = rules .before in
-    ask-depths _ _ _ _ _ _ _ (limits .before .within-limits .ensures) (limits .if1 .left) (rules .follows-rules .ensures) (c .if2 .left))
+    (ask-depths _ _ _ _ _ _ _ (limits .before .within-limits .ensures) (limits .if1 .left) (rules .follows-rules .ensures) (c .if2 .left), search needs))
     (λ c. search (answer-deep, needs))
     (λ c κs. search (few-names, needs))
     (λ c. search (answer-names, needs))

@@ -163,7 +163,7 @@ module _ (nodes ch nums names strings text : List ℕ) (s : Scope) {a : Bool} (l
       pub few-names : length names / 2 ≤ 128
       few-names = well .limits .names
 
-      module _ {d : Bool} (deep : DepthsTold nodes ch d) where
+      module _ {d : Bool} (deep : DepthsTold nodes ch (length nodes / 5) d) where
         told-shallow : d ≡ shallow (tables nodes ch nums names strings text)
         unfolding shallow
         told-shallow = deep .told (λ (n : ℕ). depth (expr (tables nodes ch nums names strings text) n)) (depths-of (tables nodes ch nums names strings text) well)

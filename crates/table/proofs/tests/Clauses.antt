@@ -148,12 +148,15 @@ module _ (T : Tables) (n : ℕ) {x : ℕ} (f : x ≡ firstOf (T .nodes) n) where
     unfolding wordsOk
     named-counted h = simp (ne-eqb (countOf (T .nodes) n) 0 (λ e. h (m ∙ e)), and-false)
 
-    pub named-text : {r : Bool} {own bytes : List ℕ} → k ≡ 0 → 1 ≤ x → x ≤ nameCount T
-        → own ≡ part (T .text) (startOf (T .nodes) n) (endOf (T .nodes) n - startOf (T .nodes) n) → bytes ≡ nameBytes (T .names) (T .text) x
-        → r ≡ sameBytes own bytes → r ≡ wordsOk T n 6 (firstOf (T .nodes) n) (countOf (T .nodes) n)
-    unfolding wordsOk nameTextOk
-    named-text z low high o b e =
-        rw (le-leb 1 (firstOf (T .nodes) n) (omega arith), le-leb (firstOf (T .nodes) n) (nameCount T) (omega arith), eq-eqb (countOf (T .nodes) n) 0 (sym m ∙ z), ← o, ← f, ← b) e
+    pub named-text : {r : Bool} → k ≡ 0 → 1 ≤ x → x ≤ nameCount T → r ≡ nameTextOk T n → r ≡ wordsOk T n 6 (firstOf (T .nodes) n) (countOf (T .nodes) n)
+    unfolding wordsOk
+    named-text z low high e =
+        rw (le-leb 1 (firstOf (T .nodes) n) (omega arith), le-leb (firstOf (T .nodes) n) (nameCount T) (omega arith), eq-eqb (countOf (T .nodes) n) 0 (sym m ∙ z)) e
+
+  pub text-same : {r : Bool} {own bytes : List ℕ} → own ≡ part (T .text) (startOf (T .nodes) n) (endOf (T .nodes) n - startOf (T .nodes) n)
+      → bytes ≡ nameBytes (T .names) (T .text) x → r ≡ sameBytes own bytes → r ≡ nameTextOk T n
+  unfolding nameTextOk
+  text-same o b e = rw (← o, ← f, ← b) e
 
 below-two : (x : ℕ) → ltb x 2 ≡ leb x 1
 below-two x = go (leb x 1) refl

@@ -129,30 +129,33 @@ module _ {children depths : List ℕ} {first count i deep : ℕ} (go : Deepening
   deepening-ends le = let a : count - i ≡ 0 = omega arith in let s = rw a at (go .same) in omega arith
 
 -- `depths_ok`: the depths of the nodes that are passed
-pub record Deep (nodes children : List ℕ) (n : ℕ) (depths : List ℕ) : Type 0 where
+pub record Deep (nodes children : List ℕ) (total n : ℕ) (depths : List ℕ) : Type 0 where
   pub ask : DepthsAsks nodes children
   pub few : length nodes / 5 ≤ 512
-  pub inside : n ≤ length nodes / 5
-  pub scan : (d : ℕ → ℕ) → Depths nodes children d → Scan (shallowAt d) 0 (length nodes / 5) n
+  pub all : total ≤ length nodes / 5
+  pub inside : n ≤ total
+  pub scan : (d : ℕ → ℕ) → Depths nodes children d → Scan (shallowAt d) 0 total n
   pub known : (d : ℕ → ℕ) → Depths nodes children d → (c : ℕ) → 1 ≤ c → c ≤ n → getD depths (c - 1) 0 ≡ d c
   pub long : length depths ≡ 512
 
-pub deep-start : (nodes children : List ℕ) → DepthsAsks nodes children → Deep nodes children 0 (replicate 512 0)
-deep-start nodes children ask = record {
+pub deep-start : (nodes children : List ℕ) (total : ℕ) → DepthsAsks nodes children → total ≤ length nodes / 5 → Deep nodes children total 0 (replicate 512 0)
+deep-start nodes children total ask all = record {
   ask = ask;
   few = ask .few;
+  all = all;
   inside = omega arith;
-  scan = λ d is. scan-start (shallowAt d) 0 (length nodes / 5);
+  scan = λ d is. scan-start (shallowAt d) 0 total;
   known = λ d is c low high. absurd (omega arith);
   long = refl;
 }
 
-module _ {nodes children : List ℕ} {n : ℕ} {depths : List ℕ} (go : Deep nodes children n depths) where
-  module _ (lt : n < length nodes / 5) {first count : ℕ} (f : first ≡ firstOf nodes (n + 1)) (w : count ≡ width nodes (n + 1)) where
+module _ {nodes children : List ℕ} {total n : ℕ} {depths : List ℕ} (go : Deep nodes children total n depths) where
+  module _ (lt : n < total) {first count : ℕ} (f : first ≡ firstOf nodes (n + 1)) (w : count ≡ width nodes (n + 1)) where
     pub ask-children : first < 2 ^ 32 → count < 2 ^ 33 → ChildrenAsks children first count
     ask-children small narrow = record {
       room = omega arith;
       nodes = λ i l.
+          let a = go .all in
           let b = go .ask .below (n + 1) (omega arith) (omega arith) i (omega arith) in
           let q = go .few in
           rw f (b .0, omega arith);
@@ -161,6 +164,7 @@ module _ {nodes children : List ℕ} {n : ℕ} {depths : List ℕ} (go : Deep no
     module _ {deep : ℕ} (is : deep ≡ deepest (listedDepth depths) children first count) where
       depth-here : (d : ℕ → ℕ) → Depths nodes children d → d (n + 1) ≡ 1 + deep
       depth-here d by =
+          let a = go .all in
           let e = deepest-same (listedDepth depths) d children first count (λ i l.
           let b = go .ask .below (n + 1) (omega arith) (omega arith) i (omega arith) in
           let q : childAt children (first + i) ≡ childAt children (firstOf nodes (n + 1) + i) = ap (λ (m : ℕ). childAt children (m + i)) f in
@@ -168,16 +172,17 @@ module _ {nodes children : List ℕ} {n : ℕ} {depths : List ℕ} (go : Deep no
           let s : d (n + 1) ≡ 1 + deepest d children first count = rw (f, w) (by .step (n + 1) (omega arith) (omega arith)) in
           omega arith
 
-      pub deep-fails : 31 < deep → DepthsTold nodes children false
+      pub deep-fails : 31 < deep → DepthsTold nodes children total false
       deep-fails far = record {
         told = λ d by. let h = depth-here d by in let j : 0 + n + 1 ≡ n + 1 = omega arith in
             scan-fails (go .scan d by) lt (rw j (lt-leb (d (n + 1)) 32 (omega arith)));
       }
 
-      pub deep-on : deep ≤ 31 → Deep nodes children (n + 1) (set depths n (deep + 1))
+      pub deep-on : deep ≤ 31 → Deep nodes children total (n + 1) (set depths n (deep + 1))
       deep-on near = record {
         ask = go .ask;
         few = go .few;
+        all = go .all;
         inside = omega arith;
         scan = λ d by. let h = depth-here d by in let j : 0 + n + 1 ≡ n + 1 = omega arith in
             scan-on (go .scan d by) lt (rw j (le-leb (d (n + 1)) 32 (omega arith)));
@@ -185,6 +190,7 @@ module _ {nodes children : List ℕ} {n : ℕ} {depths : List ℕ} (go : Deep no
             let h = depth-here d by in
             let l = go .long in
             let q = go .few in
+            let a = go .all in
             ⊎-elim
             (λ e. let z : c - 1 ≡ n = omega arith in let y : c ≡ n + 1 = omega arith in rw (z, y, getD-set-same depths n (deep + 1) 0 (omega arith)) (omega arith))
             (λ less. let ne : c - 1 ≡ n → ⊥ = λ e. omega arith in getD-set-other depths n (c - 1) (deep + 1) 0 ne ∙ go .known d by c low (omega arith))
@@ -192,5 +198,5 @@ module _ {nodes children : List ℕ} {n : ℕ} {depths : List ℕ} (go : Deep no
         long = length-set depths n (deep + 1) ∙ go .long;
       }
 
-  pub deep-ends : length nodes / 5 ≤ n → DepthsTold nodes children true
+  pub deep-ends : total ≤ n → DepthsTold nodes children total true
   deep-ends le = record { told = λ d by. scan-ends (go .scan d by) le }

@@ -35,6 +35,6 @@ pub record Depths (nodes children : List ℕ) (depth : ℕ → ℕ) : Type 0 whe
 abbrev pub shallowAt : (ℕ → ℕ) → ℕ → Bool
 shallowAt depth j = leb (depth (j + 1)) 32
 
--- its answer, whatever gives the depths
-pub record DepthsTold (nodes children : List ℕ) (r : Bool) : Type 0 where
-  pub told : (depth : ℕ → ℕ) → Depths nodes children depth → r ≡ allFrom (shallowAt depth) 0 (length nodes / 5)
+-- its answer for the first `total` nodes, whatever gives the depths
+pub record DepthsTold (nodes children : List ℕ) (total : ℕ) (r : Bool) : Type 0 where
+  pub told : (depth : ℕ → ℕ) → Depths nodes children depth → r ≡ allFrom (shallowAt depth) 0 total

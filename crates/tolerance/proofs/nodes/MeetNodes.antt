@@ -15,12 +15,7 @@ use Rattle.literal.specs.Order.{keyOrder}
 use Rattle.literal.specs.Reading.{literalOf, hasNumber as numberThere}
 use Rattle.literal.specs.declared.LiteralRef.the-variants as Ref
 use Rattle.base.specs.Lists.{part}
-use Rattle.table.specs.Tables.{Tables, tables, kindOf, firstOf, countOf, childAt, nameBytes}
-use Rattle.table.specs.Names.{classOf}
-use Rattle.table.specs.declared.NameClass.{NameClass}
-use Rattle.table.specs.declared.NameClass.the-variants.{Underscore, InputOrData, Ordinary}
-use Rattle.planner.specs.Names.{stateBy}
-use Rattle.planner.proofs.laws.SamePlan.{class-wild}
+use Rattle.table.specs.Tables.{Tables, kindOf, firstOf, countOf, childAt}
 use Rattle.table.specs.Decode.{expr, items, fields, literalAt, literalNode, literalIn, refOf, refBy, fieldsOf, isWildcard, namedBy}
 use Rattle.table.specs.declared.Key.{Key}
 use Rattle.table.specs.declared.Key.the-variants as Key
@@ -582,20 +577,6 @@ module _ {T : Tables} {a b : ℕ} {list labels lows highs : List ℕ} (asks : Na
           value-meets (expr T (getD list (x - 1) 0)) (valueOf (expr T b)) held-here (v .value)
           ∙ sym (named-meets ∙ ap (naming x (valueOf (expr T b)) held-here) there) in
           rw q at m
-
--- `_` by its bytes
-module _ (names text : List ℕ) (x : ℕ) {class : NameClass} (of : class ≡ classOf (nameBytes names text x)) where
-  told-wild : {w : Bool} → eqb (stateBy class false) 2 ≡ w → w ≡ isWildcard (tables [] [] [] names [] text) x
-  told-wild e = sym e ∙ (ap (λ (d : NameClass). eqb (stateBy d false) 2) of ∙ class-wild (nameBytes names text x) false)
-
-  pub told-underscore : class ≡ Underscore → true ≡ isWildcard (tables [] [] [] names [] text) x
-  told-underscore e = told-wild (simp e)
-
-  pub told-reserved : class ≡ InputOrData → false ≡ isWildcard (tables [] [] [] names [] text) x
-  told-reserved e = told-wild (simp e)
-
-  pub told-ordinary : class ≡ Ordinary → false ≡ isWildcard (tables [] [] [] names [] text) x
-  told-ordinary e = told-wild (simp e)
 
 -- the measures: a value's node is twice its number, a pattern's 1,200 more, their children's one less
 pub child-falls : (pattern : Bool) {child parent t : ℕ} → child < parent → cond pattern 1200 0 + 2 * parent - 1 ≡ t → cond pattern 1200 0 + 2 * child < t

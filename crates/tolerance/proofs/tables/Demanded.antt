@@ -32,6 +32,7 @@ use Rattle.run.specs.Operations.{RunOutcome, listed, listedNode, ran, runOutcom
 use Rattle.run.specs.code.Post.{RunAsks, toBind}
 use Rattle.run.proofs.Known.{planned-is}
 use Rattle.run.proofs.Running.{run-table, ran-run}
+use Rattle.run.proofs.Refusing.{run-passed, Refusing, Verdict, verdict}
 use Rattle.tolerance.specs.Tolerance.{chosenValue, Answer, always, sometimes, never, outcomeUnder, Means}
 use Rattle.tolerance.specs.Answer.{turnedBack, answers}
 use Rattle.tolerance.specs.Operations.{endAt, rangesIn, listedKnown, knownValues, rangesOk, ToleranceOutcome, refused, judged, afterChecks, IsAnswer, withLowest, toleranceResult, planLeft, setBy, valuesLeft, isJudged}
@@ -42,8 +43,7 @@ use Rattle.tolerance.proofs.trees.Answers.{exactly}
 use Rattle.tolerance.proofs.trees.Present.{own-chosen, own-env, present-answer}
 use Rattle.tolerance.proofs.tables.Tied.{pattern-allowed, not-wildcard, ranges-good, tolerance-promised}
 use Rattle.tolerance.proofs.trees.Agree.{Alike, both-matched, both-missed, both-fault, run-alike, plan-uses}
-use Rattle.tolerance.proofs.tables.Judged.{run-passed, carries-plan, is-answer, outcome-judged, node-chosen, lowest-at, names-at}
-use Rattle.tolerance.proofs.tables.Probed.{Refusing, Verdict, verdict}
+use Rattle.tolerance.proofs.tables.Judged.{carries-plan, is-answer, outcome-judged, node-chosen, lowest-at, names-at}
 
 module _ (T : Tables) (s : Scope) (mode : ScopingMode) (pattern value : ℕ) (values lows highs : List ℕ) where
   record Passed : Type 0 where

@@ -35,13 +35,12 @@ use Rattle.matching.specs.code.Post.{envOf, ListOk}
 use Rattle.matching.proofs.Lists.{env-at, whole-list}
 use Rattle.matching.proofs.reading.PlanTold.{run-whole}
 use Rattle.report.proofs.Meeting.{mentioned-named}
-use Rattle.run.specs.Operations as Run
-use Rattle.run.specs.Operations.{inTable, ran, runOutcome, setNames, plannedName}
+use Rattle.run.specs.Operations.{inTable, setNames, plannedName}
 use Rattle.run.specs.code.NamesPost.{ListAsks}
 use Rattle.run.specs.code.Post.{RunAsks, toBind}
-use Rattle.run.proofs.Checking.{test-of-node}
 use Rattle.run.proofs.Known.{planned-is}
 use Rattle.run.proofs.Running.{run-table, value-ok, listed-value, ask-plan}
+use Rattle.run.proofs.Refusing.{run-passed}
 use Rattle.tolerance.specs.declared.ToleranceAnswer.{ToleranceAnswer}
 use Rattle.tolerance.specs.declared.ToleranceAnswer.the-variants.{Always}
 use Rattle.tolerance.specs.Tolerance.{Number, isAllowed, chosen, chosenValue, chosenEnv, Choice, Answer, always, sometimes, never, outcomeUnder, Matches, Means}
@@ -60,13 +59,6 @@ module _ {T : Tables} {s : Scope} {mode : ScopingMode} {pattern value : ℕ} {va
   abbrev es : List Entry
   es = entries (planOf T s mode pattern) top
 
-  pub run-passed : runOutcome T s mode pattern value values ≡ Run.carriedOut es (ran T s mode pattern value values)
-  run-passed =
-      let p = test-of-node T pattern (a .pattern-node) in
-      let q = test-of-node T value (a .value-node) in
-      let l = le-leb (nameCount T) (length values) (a .long) in
-      rw (a .sound, p, q, l, a .isSimple, a .aValue, a .listedValues, a .knownValues)
-
   module _ (lows highs : List ℕ) where
     -- carrying the entries out is the run of the plan
     pub carries-plan : carries T s mode pattern value values lows highs ≡ carry (isUnbound s mode) (expr T pattern)
@@ -79,7 +71,7 @@ module _ {T : Tables} {s : Scope} {mode : ScopingMode} {pattern value : ℕ} {va
           (sym carries-plan) (tolerance-promised a lows highs ok .means)
 
       pub outcome-judged : (b : Answer) → toleranceOutcome T s mode pattern value values lows highs b ≡ judged es b (withLowest T s mode pattern value values lows highs)
-      outcome-judged b = rw (run-passed, ok)
+      outcome-judged b = rw (run-passed a, ok)
 
 -- 2. The names' nodes
 value-at : (c : ℕ → Number) (w : Value) → nodeᵛ (chosen c w) ≡ nodeᵛ w

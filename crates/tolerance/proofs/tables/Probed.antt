@@ -2,7 +2,7 @@
 use Prim.Native.Nat.{ℕ, _+_, _-_, _/_, _≤_, _<_}
 use mathlib.Core.Path.{_≡_, refl, sym, ap, ap₂, subst, _∙_, fun-ext}
 use mathlib.Core.List.{List}
-use mathlib.Core.Logic.{_⊎_, inl, inr}
+use mathlib.Core.Logic.{inl, inr}
 use mathlib.Core.Bool.{Bool, true, false, cond, _&&_, not, false≢true}
 use mathlib.Core.Option.{none}
 use native.Mathlib.Omega.{arith}
@@ -10,25 +10,20 @@ use borrow.Author.Tests.{eqb-true, eqb-false, ne-eqb, leb-true, leb-false, le-le
 use lib.Dec.{T as True, eqb, leb}
 use lib.ListN.{length, getD, replicate}
 use Rattle.base.specs.Lists.{allFrom}
-use Rattle.base.specs.Refusal.{Refusal, rootOutside, listTooShort, patternNotSimple, notAValue, nameWithoutValue, planTooLarge, requireOr, Tested, passed, rangeWrong}
-use Rattle.base.specs.Refusal as Tested
+use Rattle.base.specs.Refusal.{Refusal, planTooLarge, requireOr, rangeWrong}
 use Rattle.scope.specs.declared.Scope.{Scope}
 use Rattle.scope.specs.declared.ScopingMode.{ScopingMode}
 use Rattle.scope.specs.Scope.{isUnbound}
 use Rattle.scope.specs.Scope as Scope
-use Rattle.table.specs.Tables.{Tables, nameCount, isNode, nameBytes}
+use Rattle.table.specs.Tables.{Tables, nameCount, nameBytes}
 use Rattle.table.specs.Names.{classOf, sameBytes, underscoreBytes, inputBytes, dataBytes}
 use Rattle.table.specs.Decode.{expr, isWildcard}
-use Rattle.table.specs.Rules.{withinLimits, followsRules, shallow, namesDiffer}
-use Rattle.table.specs.Check.{checked}
-use Rattle.table.proofs.tests.Bools.{and-true}
 use Rattle.table.proofs.tests.Scan.{all-at, all-of}
 use Rattle.planner.specs.Layout.{Place, top, entries, entryWords}
 use Rattle.planner.specs.Operations.{planOf, fits, written}
 use Rattle.planner.specs.Plan.{DestructuringPlan, var, ignore, equalityExpr, equalityValue, arrayPlan, objectPlan}
-use Rattle.planner.specs.Simple.{simple}
 use Rattle.planner.specs.Names.{stateBy}
-use Rattle.value.specs.Value.{isValue, valueAt}
+use Rattle.value.specs.Value.{valueAt}
 use Rattle.value.specs.code.Post.{ValueNode}
 use Rattle.matching.specs.Matching.{Env, pickValue}
 use Rattle.matching.specs.code.Post.{envOf, ListOk}
@@ -36,12 +31,12 @@ use Rattle.run.specs.declared.RunAnswer.{RunAnswer}
 use Rattle.run.specs.declared.RunAnswer.the-variants.{PlanTooLarge}
 use Rattle.run.specs.Answer as Run
 use Rattle.run.specs.Operations as Ran
-use Rattle.run.specs.Operations.{RunOutcome, inTable, valuesListed, knownListed, ran, runOutcome, runAnswer, valuesAfter, plannedName, setNames}
+use Rattle.run.specs.Operations.{RunOutcome, inTable, ran, runOutcome, runAnswer, valuesAfter, plannedName, setNames}
 use Rattle.run.specs.code.NamesPost.{ListAsks}
 use Rattle.run.specs.code.Post.{RunAsks}
 use Rattle.run.proofs.Answers.{settled}
-use Rattle.run.proofs.Checking.{node-of-test}
 use Rattle.run.proofs.Running.{run-table, value-ok, listed-value}
+use Rattle.run.proofs.Refusing.{run-passed, Verdict, verdict}
 use Rattle.tolerance.specs.declared.ToleranceAnswer.{ToleranceAnswer}
 use Rattle.tolerance.specs.declared.ToleranceAnswer.the-variants.{RangeWrong, Refused}
 use Rattle.tolerance.specs.Tolerance.{Answer, never}
@@ -50,7 +45,7 @@ use Rattle.tolerance.specs.Operations.{rangeOk, longEnough, knownValues,
 use Rattle.tolerance.specs.code.Decision.{everyNumberOf, decision}
 use Rattle.tolerance.specs.code.Post.{numbersOk, numbersOkIn, givenOk, GivenAsks, KnownList, ToJudge}
 use Rattle.tolerance.proofs.tables.Good.{ranges-by-values}
-use Rattle.tolerance.proofs.tables.Judged.{run-passed, is-answer, outcome-judged}
+use Rattle.tolerance.proofs.tables.Judged.{is-answer, outcome-judged}
 
 -- 1. Every plan has an entry
 some-entry : (p : DestructuringPlan) (place : Place) → 1 ≤ length (entries p place)
@@ -62,77 +57,17 @@ some-entry (equalityValue n l) place = omega arith
 some-entry (arrayPlan n ps) place = omega arith
 some-entry (objectPlan n fs) place = omega arith
 
--- 2. A run is refused with another number than 6, or nothing up to 23 refuses it
-abbrev tests : Bool → Bool → Bool → Bool → Tested
-tests a b c d = Tested.require a Tested.overLimit (Tested.require b Tested.breaksRules (Tested.require c Tested.tooDeep (Tested.require d Tested.equalNames passed)))
-
-table-number : (T : Tables) (s : Scope) (x : Refusal) → checked T s ≡ Tested.refused x → eqb (x .number) 6 ≡ false
-unfolding checked
-table-number T s x e = go (withinLimits T) (followsRules T s) (shallow T) (namesDiffer T) e
-  where
-    by : (y : Refusal) → eqb (y .number) 6 ≡ false → Tested.refused y ≡ Tested.refused x → eqb (x .number) 6 ≡ false
-    by y n e = let q : y ≡ x = cc in rw (← q) n
-
-    go : (a b c d : Bool) → tests a b c d ≡ Tested.refused x → eqb (x .number) 6 ≡ false
-    go false b c d e = by Tested.overLimit refl e
-    go true false c d e = by Tested.breaksRules refl e
-    go true true false d e = by Tested.tooDeep refl e
-    go true true true false e = by Tested.equalNames refl e
-    go true true true true e = absurd (false≢true (cc))
-
+-- 2. What the run without space answers
 module _ (T : Tables) (s : Scope) (mode : ScopingMode) (pattern value : ℕ) (values : List ℕ) where
-  pub record Refusing (o : RunOutcome) : Type 0 where
-    pub refusal : Refusal
-    pub is : o ≡ Ran.refused refusal
-    pub number : eqb (refusal .number) 6 ≡ false
-
-  abbrev pub Verdict : RunOutcome → Type 0
-  Verdict o = Refusing o ⊎ RunAsks T s mode pattern value values
-
-  test : (b : Bool) (x : Refusal) (rest : RunOutcome) → eqb (x .number) 6 ≡ false → (b ≡ true → Verdict rest) → Verdict (Ran.require b x rest)
-  test true x rest n f = f refl
-  test false x rest n f = inl (record { refusal = x; is = refl; number = n })
-
-  pub verdict : Verdict (runOutcome T s mode pattern value values)
-  verdict = go (checked T s) refl
-    where
-      asks : checked T s ≡ passed → (isNode T pattern && (isNode T value && true)) ≡ true → leb (nameCount T) (length values) ≡ true → simple (expr T pattern) ≡ true
-          → (isValue (expr T value) && valuesListed T values) ≡ true → knownListed T (Scope.known s mode) (expr T pattern) values ≡ true → RunAsks T s mode pattern value values
-      asks c r l p v k =
-          let (one, more) = and-true (isNode T pattern) (isNode T value && true) r in
-          let (two, rest) = and-true (isNode T value) true more in
-          let (is-value, are-values) = and-true (isValue (expr T value)) (valuesListed T values) v in
-          record {
-            sound = c;
-            pattern-node = node-of-test T pattern one;
-            value-node = node-of-test T value two;
-            long = leb-true (nameCount T) (length values) l;
-            isSimple = p;
-            aValue = is-value;
-            listedValues = are-values;
-            knownValues = k;
-          }
-
-      go : (t : Tested) → checked T s ≡ t → Verdict (Ran.tableFirst t (Ran.runChecked T s mode pattern value values))
-      go (Tested.refused x) c = inl (record { refusal = x; is = refl; number = table-number T s x c })
-      go passed c =
-          test (isNode T pattern && (isNode T value && true)) rootOutside _ refl (λ r.
-          test (leb (nameCount T) (length values)) listTooShort _ refl (λ l.
-          test (simple (expr T pattern)) patternNotSimple _ refl (λ p.
-          test (isValue (expr T value) && valuesListed T values) notAValue _ refl (λ v.
-          test (knownListed T (Scope.known s mode) (expr T pattern) values) nameWithoutValue _ refl (λ k.
-          inr (asks c r l p v k))))))
-
-  -- 3. What the run without space answers
   module _ {now left : List ℕ} {r : RunAnswer} (done : Ran.Ran (plannedName (Scope.known s mode) (expr T pattern)) (runOutcome T s mode pattern value values) values (replicate 1 0) now left r) where
     no-space : fits (entries (planOf T s mode pattern) top) (replicate 1 0) ≡ false
     no-space = let n = some-entry (planOf T s mode pattern) top in lt-leb (length (entries (planOf T s mode pattern) top)) 0 (omega arith)
 
-    abbrev Told : Verdict (runOutcome T s mode pattern value values) → Type 0
+    abbrev Told : Verdict T s mode pattern value values (runOutcome T s mode pattern value values) → Type 0
     Told (inl x) = (now ≡ values) × (Run.resultOf r ≡ Run.turnedBack (x .refusal))
     Told (inr a) = (now ≡ values) × (r ≡ PlanTooLarge (length (entries (planOf T s mode pattern) top)))
 
-    told : (v : Verdict (runOutcome T s mode pattern value values)) → Told v
+    told : (v : Verdict T s mode pattern value values (runOutcome T s mode pattern value values)) → Told v
     unfolding runAnswer valuesAfter
     told (inl x) = (
       done .list ∙ ap (λ (o : RunOutcome). valuesAfter (plannedName (Scope.known s mode) (expr T pattern)) o (replicate 1 0) values) (x .is),
@@ -149,9 +84,9 @@ module _ (T : Tables) (s : Scope) (mode : ScopingMode) (pattern value : ℕ) (va
     module _ (lows highs : List ℕ) {buffer cleared : List ℕ} where
       pub probe-refused : ((n : ℕ) → r ≡ PlanTooLarge n → ⊥) → cleared ≡ replicate (length buffer) 0 → Judged T s mode pattern value values lows highs buffer now cleared (Refused r)
       unfolding toleranceResult planLeft valuesLeft
-      probe-refused other z = go verdict (told verdict)
+      probe-refused other z = go (verdict T s mode pattern value values) (told (verdict T s mode pattern value values))
         where
-          go : (v : Verdict (runOutcome T s mode pattern value values)) → Told v → Judged T s mode pattern value values lows highs buffer now cleared (Refused r)
+          go : (v : Verdict T s mode pattern value values (runOutcome T s mode pattern value values)) → Told v → Judged T s mode pattern value values lows highs buffer now cleared (Refused r)
           go (inl x) (kept, said) =
               let q : (a : Answer) → toleranceOutcome T s mode pattern value values lows highs a ≡ refused (x .refusal) = λ a. ap (λ (o : RunOutcome). afterChecks o (requireOr refused (rangesOk T s mode value values lows highs) rangeWrong (judged (entries (planOf T s mode pattern) top) a (withLowest T s mode pattern value values lows highs)))) (x .is) in
               record {
@@ -171,9 +106,9 @@ module _ (T : Tables) (s : Scope) (mode : ScopingMode) (pattern value : ℕ) (va
         pub size : needed ≡ length (entries (planOf T s mode pattern) top)
 
       pub all-passed : Passed
-      all-passed = go verdict (told verdict)
+      all-passed = go (verdict T s mode pattern value values) (told (verdict T s mode pattern value values))
         where
-          go : (v : Verdict (runOutcome T s mode pattern value values)) → Told v → Passed
+          go : (v : Verdict T s mode pattern value values (runOutcome T s mode pattern value values)) → Told v → Passed
           go (inl x) (kept, said) =
               let q : Run.turnedBack (planTooLarge needed) ≡ Run.turnedBack (x .refusal) = sym (ap Run.resultOf six) ∙ said in
               let p : planTooLarge needed ≡ x .refusal = cc in
@@ -183,7 +118,7 @@ module _ (T : Tables) (s : Scope) (mode : ScopingMode) (pattern value : ℕ) (va
       pub probe-names : ListAsks (T .names) now
       probe-names = let a = all-passed .asks in let k = all-passed .kept in record { few = run-table a .limits .names; long = rw k (a .long) }
 
--- 4. The known names' values
+-- 3. The known names' values
 known-state : (bs : List ℕ) (u : Bool) → eqb (stateBy (classOf bs) u) 0 ≡ (not (sameBytes bs underscoreBytes) && not u)
 unfolding classOf
 known-state bs u = go (sameBytes bs underscoreBytes) refl (sameBytes bs inputBytes) refl (sameBytes bs dataBytes) refl u

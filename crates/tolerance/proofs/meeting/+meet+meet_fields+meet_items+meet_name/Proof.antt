@@ -22,7 +22,7 @@ use Rattle.table.proofs.reading.child_at.Reads as child-at-reads
 use Rattle.table.proofs.reading.count_of.Reads as count-of-reads
 use Rattle.table.proofs.reading.first_of.Reads as first-of-reads
 use Rattle.table.proofs.reading.kind_of.Reads as kind-of-reads
-use Rattle.tolerance.proofs.meeting.is_wildcard.Reads as is-wildcard-reads
+use Rattle.run.proofs.inner.names.is_wildcard.Reads as is-wildcard-reads
 use Rattle.tolerance.proofs.meeting.meet_literals.Reads as meet-literals-reads
 use Rattle.value.proofs.inner.fields.value_under.Reads as value-under-reads
 use Rattle.tolerance.proofs.meeting.+meet+meet_fields+meet_items+meet_name.{statement}

@@ -1,0 +1,5 @@
+pub mod Answers
+pub mod trees
+pub mod nodes
+pub mod Answered
+pub mod Promised

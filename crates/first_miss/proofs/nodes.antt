@@ -1,0 +1,4 @@
+pub mod KeyLaws
+pub mod WalkNodes
+pub mod WalkParts
+pub mod PartNodes

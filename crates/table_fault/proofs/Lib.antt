@@ -1,0 +1,11 @@
+pub mod Ranges
+pub mod Distinct
+pub mod Words
+pub mod Promised
+pub mod Numbers
+pub mod Tests
+pub mod Cases
+pub mod Earlier
+pub mod Walking
+pub mod Firsts
+pub mod Trials

@@ -1,0 +1,5 @@
+pub mod Rules
+pub mod Fault
+pub mod Promise
+pub mod Trial
+pub mod code

@@ -1,0 +1,2 @@
+-- What only the code's proofs need.
+pub mod Asking
