@@ -2,17 +2,20 @@
 
 import argparse
 import os
+from dataclasses import replace
 from functools import cache
 from pathlib import Path
-from typing import NoReturn
 
 from rules.answer import Planner
 from rules.no_answer import NoAnswer
+from rules.parts.options import add_parts_options, parts_file
 from rules.question import MOST_ENTRIES, OPERATIONS, SCOPINGS, VERSIONS, Question
 from rules.tables.library import Library
 from rules.tables.plansheet import Plansheet
 from rules.tables.sheet import BOUND, BOUND_HERE, GLOBAL, LOCAL, UNBOUND
+from rules.text.ranges import one_line
 from rules.text.source import shown
+from rules.text.usage import CommandParser, LineParser
 
 MARKS = {
     "bound": BOUND,
@@ -28,6 +31,7 @@ MEANINGS = {
     "local": "are local; unbound under --scheduler",
     "global": "are global: known unless unbound",
 }
+FORMATS = ("text", "json", "junit", "github")
 # More than any plan needs.
 LARGEST_BUFFER = 2**18
 BUILT_LIBRARY = Path(__file__).resolve().parents[2] / "target" / "tools" / "libteluddru.so"
@@ -67,8 +71,13 @@ scope:
 
 files of rules:
   RULE => EXPECTED [OPTIONS], a rule a line. EXPECTED: planned, bind left, pairs,
-  refused 13, match, match w=18, no match, sometimes, .. A line that begins with
-  -- has options for those that follow; tools/README.md has all of it.
+  pattern, binds w, compares w; refused 13, match, match w=18, no match, .. A line
+  that begins with -- has options for those that follow; tools/README.md has all
+  of it.
+
+files of parts:
+  a table with headings, a list or an object of parts in JSON, or JSON lines. A
+  cell or string 17..19 is a range; tools/README.md has all of it.
 
 rule bodies:
   a line of rule text a line; an expression alone is an index. Blank lines and
@@ -81,18 +90,15 @@ two patterns:
   --given 1:w=18 or --bound 2:w. A name that one of them alone has needs no 1: or
   2:. --scheduler and --scoping are for both.
 
+refusals:
+  have a number; --explain NUMBER prints a page on it.
+
 exit status:
   0 planned, matched (always), an example, or nothing differs; 1 refused, no match
-  (sometimes, never), no example, or something differs; 2 no answer (rule text,
-  usage, no library, a line that can't be read, output that can't be written)
+  (sometimes, never), no example, something differs or (--weak) is not tested; 2 no
+  answer (rule text, usage, no library, a line that can't be read, no rule in a
+  file, output that can't be written)
 """
-
-
-class LineParser(argparse.ArgumentParser):
-    """A parser that says what is wrong and doesn't end the program."""
-
-    def error(self, message: str) -> NoReturn:
-        raise NoAnswer(message)
 
 
 def question_from(arguments: list[str], rule: bytes) -> Question:
@@ -123,11 +129,19 @@ def question_of(options: argparse.Namespace, rule: bytes) -> Question:
         options.scoping,
         options.careful,
         options.rego,
-        None if options.on is None else os.fsencode(options.on),
+        one_line(os.fsencode(options.on[-1])) if options.on else None,
         given_values(options.given),
         options.run,
         options.entries,
+        parts=parts_file(options),
     )
+
+
+def questions_of(options: argparse.Namespace, rule: bytes) -> list[Question]:
+    """One for each value that the rule is run on, and one at least."""
+    values = [one_line(os.fsencode(value)) for value in options.on]
+    question = question_of(options, rule)
+    return [replace(question, on=value) for value in values] or [question]
 
 
 def listed_names(options: argparse.Namespace, option: str) -> list[bytes]:
@@ -144,12 +158,12 @@ def given_values(arguments: list[str]) -> dict[bytes, bytes]:
             raise NoAnswer(f"--given: NAME=VALUE is asked for, found `{shown(argument)}`")
         if name in values:
             raise NoAnswer(f"--given: `{shown(text.strip())}` is given twice")
-        values[name] = os.fsencode(value)
+        values[name] = one_line(os.fsencode(value))
     return values
 
 
 def command_parser() -> argparse.ArgumentParser:
-    parser = argparse.ArgumentParser(
+    parser = CommandParser(
         prog="plan_rule",
         description=DESCRIPTION,
         epilog=EPILOG,
@@ -162,12 +176,40 @@ def command_parser() -> argparse.ArgumentParser:
     add_mode_options(parser)
     add_question_options(parser)
     printed = parser.add_mutually_exclusive_group()
-    printed.add_argument("--json", action="store_true", help="print the answer as a JSON object")
+    printed.add_argument(
+        "--json",
+        dest="format",
+        action="store_const",
+        const="json",
+        default="text",
+        help="print the answer as a JSON object; --format json is the same",
+    )
+    printed.add_argument(
+        "--format",
+        choices=FORMATS,
+        default="text",
+        help="how the answer is printed (text); junit and github with --check",
+    )
     printed.add_argument(
         "--sheet", action="store_true", help="print the sheet; no planner is needed"
     )
     add_planner_options(parser)
+    add_other_options(parser)
     return parser
+
+
+def add_other_options(parser: argparse.ArgumentParser) -> None:
+    """What goes without a rule."""
+    parser.add_argument(
+        "--explain",
+        metavar="NUMBER",
+        nargs="?",
+        const="",
+        help="print a page on the number of a refusal; without a number, list them",
+    )
+    parser.add_argument(
+        "--version", action="store_true", help="print the versions, and where the library is"
+    )
 
 
 def add_mode_options(parser: argparse.ArgumentParser) -> None:
@@ -175,10 +217,30 @@ def add_mode_options(parser: argparse.ArgumentParser) -> None:
     parser.add_argument(
         "--check",
         metavar="FILE",
-        help="check a file of rules, which says what is expected of each, and tell what differs;"
-        " - is standard input",
+        nargs="+",
+        help="check files of rules, which say what is expected of each, and tell what differs; a"
+        " folder stands for its *.rules, - is standard input",
     )
-    parser.add_argument("--html", metavar="FILE", help="with --check: write a page for a browser")
+    parser.add_argument(
+        "--watch", action="store_true", help="with --check: again whenever a file changes"
+    )
+    parser.add_argument(
+        "--accept",
+        action="store_true",
+        help="with --check: write what is found in place of what is expected",
+    )
+    parser.add_argument("--html", metavar="FILE", help="with --check or --parts: write a page")
+    parser.add_argument(
+        "--strict", action="store_true", help="with --check: a note that isn't expected differs"
+    )
+    parser.add_argument(
+        "--notes", action="store_true", help="with --check: tell the notes that aren't expected"
+    )
+    parser.add_argument(
+        "--weak",
+        action="store_true",
+        help="with --check: tell the compares that no line of the file would miss",
+    )
     parser.add_argument(
         "--body",
         metavar="FILE",
@@ -210,7 +272,8 @@ def add_question_options(parser: argparse.ArgumentParser) -> None:
         "--rego",
         choices=VERSIONS,
         default="v0",
-        help="the Rego that the rule is written for (v0); v1 reserves input and data",
+        help="the Rego that the rule is written for (v0); v1 reserves input and data, and the words"
+        " if, contains and every",
     )
     parser.add_argument(
         "--entries",
@@ -220,6 +283,7 @@ def add_question_options(parser: argparse.ArgumentParser) -> None:
         help=f"plan into a buffer of so many entries ({MOST_ENTRIES})",
     )
     add_run_options(parser)
+    add_parts_options(parser)
 
 
 def add_scope_options(parser: argparse.ArgumentParser) -> None:
@@ -242,10 +306,18 @@ def add_scope_options(parser: argparse.ArgumentParser) -> None:
 
 def add_run_options(parser: argparse.ArgumentParser) -> None:
     parser.add_argument(
-        "--on", metavar="VALUE", help="run the pattern, parameter or index on this value"
+        "--on",
+        metavar="VALUE",
+        action="append",
+        default=[],
+        help="run the pattern, parameter or index on this value, or some-in on its items; on each,"
+        " if it stands twice",
     )
     parser.add_argument(
-        "--run", action="store_true", help="run one side of = or := on the other, a value"
+        "--run",
+        action="store_true",
+        help="run the rule as it is written: one side of = or := on the other, pair by pair where"
+        " both bind, some-in on each item",
     )
     parser.add_argument(
         "--given",
@@ -282,5 +354,9 @@ def planner_of(options: argparse.Namespace) -> Planner:
     by_variable = os.environ.get("PLANSHEET")
     if options.plansheet or (by_variable and not options.library):
         return Plansheet(Path(options.plansheet or by_variable))
+    return Library(library_path(options))
+
+
+def library_path(options: argparse.Namespace) -> Path:
     shared = options.library or os.environ.get("TELUDDRU_SHARED")
-    return Library(Path(shared or BUILT_LIBRARY))
+    return Path(shared or BUILT_LIBRARY)

@@ -5,6 +5,7 @@ from contextlib import contextmanager
 from dataclasses import dataclass, field, replace
 
 from rules.no_answer import NoAnswer
+from rules.parts.options import PartsFile
 from rules.tables.sheet import (
     ALLOW_SHADOWING,
     BOUND,
@@ -17,6 +18,7 @@ from rules.tables.sheet import (
 from rules.text.ranges import read_value
 from rules.text.rule_text import Operation, Rule, read_rule
 from rules.text.source import decoded, shown
+from rules.text.supplied import supplied_name
 from rules.text.tokens import RuleTextError
 
 OPERATIONS = {
@@ -51,9 +53,10 @@ class Question:
     run: bool = False
     entries: int = MOST_ENTRIES
     perhaps: frozenset[bytes] = frozenset()
+    parts: PartsFile | None = None
 
     def runs(self) -> bool:
-        return self.run or self.on is not None
+        return self.run or self.on is not None or self.parts is not None
 
     def scope(self) -> Scope:
         """That of the options; a name that is given a value is bound unless an option names it."""
@@ -67,6 +70,7 @@ class Question:
         options = {
             "--on": self.on is not None,
             "--run": self.run,
+            "--parts": self.parts is not None,
             "--given": bool(self.given),
             "--rego v1": self.rego != "v0",
             "--entries": self.entries != MOST_ENTRIES,
@@ -76,9 +80,9 @@ class Question:
 
 def sheet_for(question: Question) -> Sheet:
     """The tables of a question: the rule's, then those of its values."""
-    with blamed("rule text", question.rule):
+    with blamed("rule text", question.rule, planned=not question.runs()):
         rule = rule_of(question)
-        writer = Writer(Sheet(question.rule, rule.operation, question.scope()))
+        writer = Writer(Sheet(question.rule, rule.operation, scope_of(question, rule)))
         writer.rule(rule)
     check_names(writer.sheet, question)
     given = [item for item in question.given.items() if item[0] in writer.sheet.names]
@@ -91,18 +95,29 @@ def sheet_for(question: Question) -> Sheet:
     return writer.sheet
 
 
+def scope_of(question: Question, rule: Rule) -> Scope:
+    """That of the options; a name that stands for parts, or for the value of --on, has one."""
+    scope = question.scope()
+    collection = question.on is not None and rule.operation is Operation.SOME_IN
+    name = supplied_name(rule) if question.parts or collection else None
+    if name is None or name in question.named:
+        return scope
+    return replace(scope, marks={**scope.marks, name: BOUND})
+
+
 @contextmanager
-def blamed(what: str, text: bytes) -> Iterator[None]:
-    """An error in a part of the text names the part."""
+def blamed(what: str, text: bytes, planned: bool = False) -> Iterator[None]:
+    """An error in a part of the text names the part; `planned` if it is of a rule, and not run."""
     try:
         yield
     except RuleTextError as error:
         error.what, error.text = what, text
+        error.args = (str(error) + (error.if_planned if planned else ""),)
         raise
 
 
 def rule_of(question: Question) -> Rule:
-    rule = read_rule(question.rule)
+    rule = read_rule(question.rule, v1=question.rego == "v1")
     if question.operation is None:
         return rule
     if rule.operation is not Operation.PATTERN:

@@ -1,5 +1,6 @@
 """Runs the command."""
 
+import json
 import os
 import subprocess
 import sys
@@ -7,8 +8,10 @@ import unittest
 from typing import BinaryIO
 from unittest import mock
 
+from rules.check.checking import ONE_VALUE
 from rules.command import PLANNED_WITHOUT, standard_input
 from rules.no_answer import NoAnswer
+from rules.words.conclusions import NEVER
 from tests.planners import (
     COMMAND,
     LIBRARY,
@@ -85,8 +88,8 @@ class WithoutPlanner(unittest.TestCase):
         refusal = "    13     8     1     2"
         lines = careful_lines(plan, refusal, rule)
         self.assertEqual(lines[2], "                    ^^^^^^ the value's array")
-        self.assertEqual(lines[4:], [PLANNED_WITHOUT])
-        self.assertEqual(len(careful_lines(refusal, refusal, rule)), 4)
+        self.assertEqual(lines[4:], [NEVER, PLANNED_WITHOUT])
+        self.assertEqual(len(careful_lines(refusal, refusal, rule)), 5)
         self.assertEqual(len(careful_lines(plan, "    17     1     0     0", rule)), 3)
         self.assertEqual(careful_lines(refusal, plan, rule)[1][:15], "planned as `:=`")
 
@@ -178,7 +181,7 @@ class Planned:
     def test_flush_sides(self) -> None:
         status, lines = self.plan("[w, w] = [18, 16]")
         self.assertEqual(status, 0)
-        self.assertEqual(lines[4:6], ["     2    bind w", "     5    compare w"])
+        self.assertEqual(lines[4:6], ["     2    bind w", "     5    compare w, bound at column 2"])
 
     def test_scope(self) -> None:
         self.assertEqual(self.plan("x := 1", "--bound", "x")[0], 0)
@@ -188,29 +191,24 @@ class Planned:
 
     def test_pattern_parameter_index(self) -> None:
         bound = ("x", "--bound", "x")
-        self.assertEqual(self.plan(*bound)[1][-1], "     1  compare x")
+        self.assertEqual(self.plan(*bound)[1][-1], "     1  compare x, which has a value")
         self.assertEqual(self.plan(*bound, "--scoping", "shadow")[1][-1], "     1  bind x")
         self.assertEqual(self.plan(*bound, "--as", "parameter")[1][1], "planned as a parameter")
         self.assertEqual(self.plan(*bound, "--as", "index")[1][1], "planned as an index")
 
     def test_refusal_of_tables(self) -> None:
         expected = "refused, 3 too deep: more than 32 levels, the innermost item counted"
-        self.assertEqual(self.plan("[" * 33 + "]" * 33), (1, [expected]))
-        self.assertEqual(self.plan("[" * 32 + "x" + "]" * 32), (1, [expected]))
+        for text, width in (("[" * 33 + "]" * 33, 2), ("[" * 32 + "x" + "]" * 32, 1)):
+            caret = " " * (4 + 32) + "^" * width + " level 33"
+            self.assertEqual(self.plan(text), (1, [expected, f"    {text}", caret]))
         self.assertEqual(self.plan("[" * 31 + "x" + "]" * 31)[0], 0)
 
-    def test_side_of_18(self) -> None:
-        sides = {
-            "[x] := {}": "the left side",
-            "{} = [x]": "the right side",
-            "x = y": "the left side",
-            "[1, x] = [1, y]": "in the left side",
-        }
-        for text, side in sides.items():
-            with self.subTest(text=text):
-                status, lines = self.plan(text)
-                self.assertEqual((status, lines[0][:11]), (1, "refused, 18"))
-                self.assertEqual(lines[2].lstrip(" ^"), side)
+    def test_name_that_is_too_long(self) -> None:
+        status, lines = self.plan(f"[x, {'n' * 256}]")
+        self.assertEqual((status, lines[0][:26]), (1, "refused, 2 tables broken: "))
+        self.assertTrue(lines[2].startswith("        ^"))
+        self.assertTrue(lines[2].endswith("^ this name has 256 bytes, at most 255"))
+        self.assertEqual(self.plan("n" * 255)[0], 0)
 
     def test_careful(self) -> None:
         mismatches = {
@@ -237,7 +235,7 @@ class Planned:
         moved = '{"b": [x], "a": [y]} := {"b": [1, 2], "a": [1, 2, 3]}'
         self.assertEqual(self.plan(moved)[1][3][-1], "2")
         self.assertEqual(self.plan(moved, "--careful")[1][3][-1], "3")
-        self.assertEqual(len(self.plan(moved, "--careful")[1]), 4)
+        self.assertEqual(len(self.plan(moved, "--careful")[1]), 5)
 
     def test_careful_makes_no_difference_else(self) -> None:
         rules = ["[x, [y]] := [1, [2]]", "[w, w] = [18, 16]", "[x, 1] = [1, x]", "x = y"]
@@ -259,6 +257,48 @@ class ByLibrary(Planned, unittest.TestCase):
 @with_plansheet
 class ByPlansheet(Planned, unittest.TestCase):
     planner = ("--plansheet", str(PLANSHEET))
+
+
+@with_library
+class SeveralValues(unittest.TestCase):
+    def test_a_verdict_for_each(self) -> None:
+        status, printed, _ = run("[w, w]", "--on", "[18, 18]", "--on", "[18, 16]")
+        lines = printed.splitlines()
+        self.assertEqual(status, 1)
+        self.assertEqual(lines[:6], run("[w, w]")[1].splitlines())
+        self.assertEqual(lines[6:8], ["run on [18, 18]: match", "    w = 18"])
+        self.assertEqual(lines[8], "run on [18, 16]: no match")
+        self.assertEqual(run("[w, w]", "--on", "[1, 1]", "--on", "[2, 2]")[0], 0)
+
+    def test_a_value_that_is_too_large(self) -> None:
+        large = f"[{', '.join(['7'] * 300)}]"
+        for values in (("--on", large, "--on", "1"), ("--on", "1", "--on", large)):
+            status, printed, _ = run("x", *values)
+            self.assertEqual(status, 1)
+            self.assertIn("planned as a pattern\n", printed)
+            self.assertIn("run on 1: match\n", printed)
+            self.assertIn(": refused, 1 over a limit: ", printed)
+        runs = json.loads(run("x", "--on", "1", "--on", large, "--json")[1])["runs"]
+        self.assertEqual([each["answer"] for each in runs], ["match", "refused"])
+
+    def test_lines_of_files(self) -> None:
+        """A line's own value counts, beside one for all lines; a line has one."""
+        content = b"--on 1\nx => match x=2 --on 2\n"
+        self.assertEqual(run("--check", "-", text=content)[0], 0)
+        status, printed, _ = run("--check", "-", text=b"x => match --on 1 --on 2\n")
+        self.assertEqual((status, printed.splitlines()[0]), (2, f"-:1:1: {ONE_VALUE}"))
+
+
+class Version(unittest.TestCase):
+    def test_version(self) -> None:
+        status, printed, _ = run("--version", TELUDDRU_SHARED="/nowhere/l.so")
+        self.assertEqual(status, 0)
+        lines = printed.splitlines()
+        self.assertRegex(lines[0], r"^plan_rule [0-9]+\.[0-9]+\.[0-9]+$")
+        not_built = "library: /nowhere/l.so (not built: tools/build_library)"
+        self.assertEqual(lines[1:], [not_built, "Rego: v0, v1"])
+        named = run("--version", "--library", "/bin/cat")[1].splitlines()[1]
+        self.assertEqual(named, "library: /bin/cat")
 
 
 @with_library
@@ -297,7 +337,7 @@ class RegoV1(unittest.TestCase):
 
     def test_planned_as_by_v0(self) -> None:
         lines = self.plan("[w, w] = [18, 16]")[1]
-        self.assertEqual(lines[4:6], ["     2    bind w", "     5    compare w"])
+        self.assertEqual(lines[4:6], ["     2    bind w", "     5    compare w, bound at column 2"])
         for text in ("{input}", "{input: x}", "f(input)", "x := input", "some x in input"):
             self.assertEqual(self.plan(text)[0], 0)
         self.assertEqual(self.plan("input = 1", "--bound", "input")[0], 0)

@@ -84,11 +84,11 @@ class Names(unittest.TestCase):
         end = "the end of the text"
         messages = {
             ("--on", "[1 2]"): "bad value: expected `,` or `]`, found `2`\n    [1 2]\n       ^\n",
-            ("--on", ""): f"bad value: expected an expression, found {end}\n    \n    ^\n",
+            ("--on", ""): "bad value: the value is empty\n",
+            ("--given", "w="): "bad value of `w`: the value is empty\n",
             ("--on", "1 = 2"): f"bad value: expected {end}, found `=`\n    1 = 2\n      ^\n",
             ("--on", "1.5"): "bad value: this number is not written as a whole one: write 15 and"
-            " count in a unit 10 times smaller, or write (1.5), which is compared whole\n"
-            "    1.5\n    ^^^\n",
+            " count in a unit 10 times smaller\n    1.5\n    ^^^\n",
             ("--given", "w=[x"): f"bad value of `w`: expected `,` or `]`, found {end}\n"
             "    [x\n      ^\n",
             ("--given", "w= 007"): "bad value of `w`: a number has no leading zeros\n"

@@ -1,4 +1,4 @@
-"""Every command of tools/README.md, and of README.md's section for people who test rules, is run.
+"""Every command of plan_rule that tools/README.md and README.md show is run.
 
 What stands below a line `$ COMMAND` is its output, up to the next command or the end of the block.
 A command that is listed without `$` is run for its exit status: 1 where its comment says that the
@@ -16,10 +16,9 @@ from typing import NamedTuple
 
 from tests.planners import LIBRARY, ROOT, with_library
 
-SECTION = "## For people who test rules\n"
 INDENT = "    "
 COMMAND = "$ "
-LISTED = re.compile(r"(?:.*\| )?tools/")
+LISTED = re.compile(r"(?:.*\| )?tools/\w")
 STATUS_1 = re.compile(r"#.*\b(refused|no match|differs)\b")
 
 
@@ -50,8 +49,7 @@ def tools_page() -> str:
 
 
 def first_page() -> str:
-    """The section of README.md."""
-    return (ROOT / "README.md").read_text().split(SECTION)[1].split("\n## ")[0]
+    return (ROOT / "README.md").read_text()
 
 
 def run_command(command: str, folder: str) -> subprocess.CompletedProcess[str]:
@@ -91,7 +89,14 @@ class Pages(unittest.TestCase):
         self.check(tools_page(), 20)
 
     def test_first_page(self) -> None:
-        self.check(first_page(), 2)
+        self.check(first_page(), 4)
+
+
+class Listing(unittest.TestCase):
+    def test_first_page(self) -> None:
+        """The listing that it shows is what plansheet has to print."""
+        expected = (ROOT / "crates" / "plansheet" / "stdout").read_text().splitlines()
+        self.assertIn(expected, list(blocks(first_page())))
 
 
 class Reading(unittest.TestCase):

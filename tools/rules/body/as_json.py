@@ -3,6 +3,7 @@
 from rules.body.planning import BodyOutcome, BodyRefusal, PlannedLine
 from rules.text.source import decoded
 from rules.words.as_json import OPERATIONS, Object, plan_object, refusal_object
+from rules.words.conclusions import is_never
 
 
 def body_object(name: str, outcome: BodyOutcome, binder: int) -> Object:
@@ -34,6 +35,7 @@ def refused_object(outcome: BodyOutcome, refused: BodyRefusal, binder: int) -> O
         "line": line.number if line else None,
         "text": decoded(sheet.parts[0].text) if line else None,
         **refusal_object(sheet, refused.refusal),
+        "never": is_never(sheet, refused.refusal),
         "bound_by_line": binder or None,
     }
 

@@ -13,6 +13,7 @@ from rules.no_answer import NoAnswer
 from rules.options import question_of
 from rules.question import Question
 from rules.tables.library import Library
+from rules.words.colours import say
 
 
 def body_said(content: bytes, options: argparse.Namespace, planner: Planner) -> bool:
@@ -25,7 +26,7 @@ def body_said(content: bytes, options: argparse.Namespace, planner: Planner) -> 
     if options.json:
         print(json.dumps(body_object(options.body, outcome, binder)))
     else:
-        print(body_in_words(outcome, binder), end="")
+        say(body_in_words(outcome, binder))
     return outcome.refused is None
 
 

@@ -10,6 +10,7 @@ from rules.both.sides import read_sides
 from rules.both.words import outcome_in_words
 from rules.no_answer import NoAnswer
 from rules.tables.library import Library
+from rules.words.colours import say
 
 
 def both_said(options: argparse.Namespace, planner: Planner) -> bool:
@@ -21,5 +22,5 @@ def both_said(options: argparse.Namespace, planner: Planner) -> bool:
     if options.json:
         print(json.dumps(outcome_object(sides, outcome)))
     else:
-        print(outcome_in_words(sides, outcome), end="")
+        say(outcome_in_words(sides, outcome))
     return isinstance(outcome, Example)

@@ -8,7 +8,7 @@ from typing import NamedTuple
 
 from rules.no_answer import NoAnswer
 from rules.options import question_from
-from rules.text.source import shown
+from rules.text.source import column, shown
 from rules.text.tokens import COMMENT, RuleTextError
 
 ARROW = b"=>"
@@ -36,15 +36,24 @@ class Line(NamedTuple):
     shared: tuple[str, ...]
     own: tuple[str, ...]
 
+    def comment(self) -> bytes:
+        """What the line's comment says, if it has one."""
+        start = place_of(COMMENT, self.text, 0)
+        return self.text[start:].removeprefix(COMMENT).strip()
+
 
 class Unreadable(NamedTuple):
-    """A line that is none of a file of rules, and the bytes of the text that are to blame."""
+    """A line that is none of a file of rules, and the bytes of the text that are to blame.
+
+    The text is the line, or a part of it; the column is the line's.
+    """
 
     number: int
     text: bytes
     message: str
     start: int
     end: int
+    column: int = 1
 
 
 def read_lines(content: bytes) -> Iterator[Line | Unreadable]:
@@ -62,7 +71,8 @@ def read_lines(content: bytes) -> Iterator[Line | Unreadable]:
             elif said and not said.startswith(COMMENT) and shared is not None:
                 yield read_line(number, text, shared)
         except RuleTextError as error:
-            yield Unreadable(number, text, str(error), error.start, error.end)
+            place = column(text, error.start)
+            yield Unreadable(number, text, str(error), error.start, error.end, place)
 
 
 def shared_options(text: bytes) -> tuple[str, ...]:

@@ -4,7 +4,7 @@ from dataclasses import dataclass
 
 from rules.run.values import Literal, are_equal, fields_of, literal_of
 from rules.tables.listing import Entry, EntryKind
-from rules.tables.places import column_of, node_text
+from rules.tables.places import node_text, place_in_words
 from rules.tables.sheet import Sheet
 from rules.text.rule_text import Kind
 
@@ -56,8 +56,8 @@ class CarryingOut:
         value = self.values.get(name) or self.sheet.given[name]
         if self.are_equal(value, node):
             return None
-        at = "(given)" if value in self.sheet.given.values() else self.at(value)
-        return self.found(node, asked, f"`{self.text(asked)}` is {self.text(value)} {at}")
+        is_value = f"`{self.text(asked)}` is {self.text(value)} {self.at(value, asked, node)}"
+        return self.found(node, asked, is_value)
 
     def array_miss(self, place: int, node: int) -> Miss | None:
         entry, found = self.entries[place], self.sheet.node(node)
@@ -102,7 +102,8 @@ class CarryingOut:
             if literal_of(self.sheet, key) not in asked:
                 too_many = f"key {self.text(key)} is too many"
                 words = f"{too_many}: the object asked for {self.at(pattern)} has none"
-                return Miss(key, pattern, words)
+                passes = f"write {self.text(key)}: _ to let it pass"
+                return Miss(key, pattern, f"{words}; {passes}")
         return None
 
     def are_equal(self, left: int, right: int) -> bool:
@@ -111,14 +112,19 @@ class CarryingOut:
     def key_of(self, place: int) -> Literal:
         return literal_of(self.sheet, self.entries[place].key)
 
-    def found(self, node: int, asked: int, words: str, stands: str = "") -> Miss:
-        return Miss(node, asked, f"{words}, and {stands or self.text(node)} stands here")
+    def found(self, node: int, asked: int, words: str, what: str = "") -> Miss:
+        """A miss at a node, or at the name in whose place its value stands."""
+        stands = f"{what or self.text(node)} stands here"
+        name = self.sheet.names_of.get(node, 0)
+        if name:
+            stands = f"`{self.text(name)}` is {what or self.text(node)} {self.at(node, name)}"
+        return Miss(name or node, asked, f"{words}, and {stands}")
 
     def text(self, node: int) -> str:
         return node_text(self.sheet, node)
 
-    def at(self, node: int) -> str:
-        return f"(column {column_of(self.sheet, node)})"
+    def at(self, node: int, asked: int = 0, here: int = 0) -> str:
+        return f"({place_in_words(self.sheet, node, asked, here)})"
 
 
 def entries_below(entries: list[Entry]) -> list[list[int]]:

@@ -54,6 +54,8 @@ def chosen_text(sheet: Sheet, part: Part, choice: Choice) -> bytes:
 
 def wrong_range(sheet: Sheet, roots: Iterable[int]) -> int:
     """The first node below the roots whose lowest number is above its highest, or 0."""
+    if not sheet.ranges:
+        return 0
     below = (node for root in roots for node in nodes_below(sheet, root))
     wrong = (node for node in below if range_of(sheet, node).lowest > range_of(sheet, node).highest)
     return next(wrong, 0)

@@ -8,7 +8,7 @@ from rules.run.carrying_out import CarryingOut, Miss
 from rules.run.choices import Choice, Pair, is_certain
 from rules.run.values import fields_of, literal_of
 from rules.tables.listing import Entry
-from rules.tables.sheet import GIVEN, Range, Sheet, range_of
+from rules.tables.sheet import Range, Sheet, range_of
 from rules.text.rule_text import LITERALS, Kind
 
 
@@ -105,8 +105,7 @@ class Measuring(CarryingOut):
         for pair in pairs:
             ends = self.classes.of(pair.left).left, self.classes.of(pair.right).left
             self.classes.join(pair)
-            miss = Miss(pair.right, self.compared, self.words(left, pair))
-            self.met.append(Undecided(pair, miss))
+            self.met.append(Undecided(pair, self.pair_miss(left, pair)))
             if is_empty(common(*ends)):
                 self.why = self.left_by_then(pair, ends[0])
                 return False
@@ -116,13 +115,14 @@ class Measuring(CarryingOut):
         """The first two numbers met that need not be equal."""
         return next((met for met in self.met if not is_certain(self.sheet, met.pair)), None)
 
-    def words(self, left: int, pair: Pair) -> str:
+    def pair_miss(self, left: int, pair: Pair) -> Miss:
         """What is asked for at the second node of a pair in a value that is compared."""
-        stands = f"and {self.text(pair.right)} stands here"
-        if self.sheet.node(self.compared).kind is not Kind.NAME:
-            return f"{self.text(pair.left)} is asked for {self.at(pair.left)}, {stands}"
-        name = f"`{self.text(self.compared)}` {'is' if pair.left == left else 'has'}"
-        return f"{name} {self.text(pair.left)} {self.at(pair.left)}, {stands}"
+        text, asked = self.text(pair.left), self.compared
+        if self.sheet.node(asked).kind is not Kind.NAME:
+            return self.found(pair.right, asked, f"{text} is asked for {self.at(pair.left)}")
+        name = f"`{self.text(asked)}` {'is' if pair.left == left else 'has'}"
+        at = self.at(pair.left, asked, pair.right)
+        return self.found(pair.right, asked, f"{name} {text} {at}")
 
     def left_by_then(self, pair: Pair, left: Range) -> str:
         """Said where earlier comparisons have narrowed what a number may be."""
@@ -130,7 +130,3 @@ class Measuring(CarryingOut):
             return ""
         ends = f"{left.lowest}..{left.highest}" if left.lowest < left.highest else left.lowest
         return f"; of {self.text(pair.left)} only {ends} is left by then"
-
-    def at(self, node: int) -> str:
-        given = self.sheet.part_of(self.sheet.node(node).start).what == GIVEN
-        return "(given)" if given else super().at(node)

@@ -1,14 +1,13 @@
-"""Why an accepted rule can never match: a run of its pattern on its own literal side misses."""
+"""Why an accepted rule can never match: a run of it on its own values misses."""
 
 from typing import NamedTuple
 
 from rules.answer import Answer
-from rules.run.carrying_out import Miss
-from rules.run.task import ASSIGNMENTS, PAIRS, assignment_task
-from rules.run.verdict import NoMatch, Task, verdict_of
+from rules.run.runs import as_it_stands
+from rules.run.task import ASSIGNMENTS
+from rules.run.verdict import NoMatch
 from rules.tables.library import Library
-from rules.tables.sheet import RESPECT_PARENT
-from rules.text.rule_text import Kind, Operation
+from rules.text.rule_text import Operation
 
 
 class Never(NamedTuple):
@@ -19,33 +18,15 @@ class Never(NamedTuple):
 
 
 def never_of(answer: Answer, library: Library) -> Never | None:
+    """None also where the run is refused, or an item of a collection is."""
     sheet, plan = answer.sheet, answer.outcome
-    if sheet.operation is Operation.SOME_IN:
-        return never_in(answer, library)
-    if sheet.operation not in ASSIGNMENTS or plan.form == PAIRS:
+    if sheet.operation not in (*ASSIGNMENTS, Operation.SOME_IN) or answer.question.parts:
         return None
-    miss = miss_of(answer, assignment_task(sheet, plan), library)
-    return Never(miss.node, miss.words) if miss else None
-
-
-def never_in(answer: Answer, library: Library) -> Never | None:
-    """Some-in over an array of values, of which every item misses."""
-    sheet = answer.sheet
-    pattern, collection, _ = sheet.roots
-    items = sheet.items_of(collection)
-    if sheet.node(collection).kind is not Kind.ARRAY:
+    ran = as_it_stands(sheet, plan, library, answer.question.entries)
+    if not isinstance(ran.verdict, NoMatch):
         return None
-    if not items:
-        return Never(collection, "the collection is empty")
-    tasks = (Task(pattern, item, RESPECT_PARENT) for item in items)
-    first, *others = (miss_of(answer, task, library) for task in tasks)
-    if first is None or None in others:
-        return None
-    words = f"no item does; in the first {first.words}" if others else first.words
-    return Never(first.node, words)
-
-
-def miss_of(answer: Answer, task: Task, library: Library) -> Miss | None:
-    """None also where the run is refused."""
-    verdict = verdict_of(answer.sheet, task, library, answer.question.entries)
-    return verdict.miss if isinstance(verdict, NoMatch) else None
+    miss = ran.verdict.miss
+    several = sheet.operation is Operation.SOME_IN and len(ran.steps) > 1
+    words = f"no item does; in the first {miss.words}" if several else miss.words
+    # A key's own node is none of the rule's.
+    return Never(miss.node if miss.node <= len(sheet.nodes) else sheet.roots[1], words)

@@ -1,31 +1,40 @@
 """Which pattern of a question is run on which value."""
 
 from rules.no_answer import NoAnswer
-from rules.question import Question
+from rules.question import Question, rule_of
 from rules.run.values import no_value
 from rules.run.verdict import Task
 from rules.tables.listing import Plan
 from rules.tables.sheet import ALLOW_SHADOWING, RESPECT_PARENT, Sheet
 from rules.text.rule_text import Operation
+from rules.text.supplied import supplied_side
 
 ASSIGNMENTS = (Operation.COLON_EQUALS, Operation.EQUALS)
 # Forms of a plan, and the side of a wildcard.
 BIND_RIGHT = 3
 PAIRS = 4
 RIGHT = 2
+ONE_EXPRESSION = "--run is for =, := and some .. in; one expression is run on a value: --on VALUE"
 
 
-def check_asked(question: Question, sheet: Sheet) -> None:
-    """--on is for one expression, --run for an assignment."""
-    assignment = sheet.operation in ASSIGNMENTS
+def check_asked(question: Question) -> None:
+    if question.parts is not None and (question.on is not None or question.run):
+        raise NoAnswer("--parts FILE has the values: --on and --run go without it")
+
+
+def why_not(question: Question, sheet: Sheet) -> str:
+    """Why no run goes with the options: --on is a value for an expression or a collection."""
+    if question.parts is not None:
+        rule = rule_of(question)
+        named = rule.second is None or supplied_side(rule) is not None
+        return "" if named else "one side has to name the parts, as in `[w, w] = sides`"
     if question.on is not None and question.run:
-        raise NoAnswer("--on gives a value, --run takes the rule's own: one of them is for a rule")
-    if question.on is not None and assignment:
-        raise NoAnswer("--on is for one expression; an assignment is run as it stands: --run")
-    if question.runs() and sheet.operation is Operation.SOME_IN:
-        raise NoAnswer("some .. in takes item by item; a run takes one pattern and one value")
-    if question.run and not assignment:
-        raise NoAnswer("--run is for = and :=; one expression is run on a value: --on VALUE")
+        return "--on gives a value, --run takes the rule's own: one of them is for a rule"
+    if question.on is not None and sheet.operation in ASSIGNMENTS:
+        return "--on is for one expression or some .. in; an assignment is run as it stands: --run"
+    if question.run and sheet.operation not in (*ASSIGNMENTS, Operation.SOME_IN):
+        return ONE_EXPRESSION
+    return ""
 
 
 def task_of(sheet: Sheet, plan: Plan) -> Task:
@@ -40,8 +49,6 @@ def assignment_task(sheet: Sheet, plan: Plan) -> Task:
     left, right, _ = sheet.roots
     if sheet.operation is Operation.COLON_EQUALS:
         return Task(left, right, ALLOW_SHADOWING)
-    if plan.form == PAIRS:
-        raise NoAnswer("both sides bind; a run takes one pattern and one value")
     if right_is_the_pattern(sheet, plan):
         return Task(right, left, RESPECT_PARENT)
     return Task(left, right, RESPECT_PARENT)

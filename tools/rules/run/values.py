@@ -25,18 +25,14 @@ class Fault(NamedTuple):
 
 
 def literal_of(sheet: Sheet, number: int) -> Literal:
-    node = sheet.node(number)
-    match node.kind:
-        case Kind.STRING:
-            return Literal(Kind.STRING, bytes(sheet.strings[node.first : node.first + node.count]))
-        case Kind.RAW_STRING:
-            return Literal(Kind.STRING, sheet.text[node.first : node.first + node.count])
-        case Kind.NUMBER:
-            return Literal(Kind.NUMBER, sheet.numbers[node.first])
-        case Kind.BOOL:
-            return Literal(Kind.BOOL, node.first)
-        case _:
-            return Literal(Kind.NULL, None)
+    kind, _, _, first, count = sheet.node(number)
+    if kind is Kind.STRING:
+        return Literal(Kind.STRING, bytes(sheet.strings[first : first + count]))
+    if kind is Kind.NUMBER:
+        return Literal(Kind.NUMBER, sheet.numbers[first])
+    if kind is Kind.RAW_STRING:
+        return Literal(Kind.STRING, sheet.text[first : first + count])
+    return Literal(kind, first) if kind is Kind.BOOL else Literal(Kind.NULL, None)
 
 
 def fields_of(sheet: Sheet, number: int) -> dict[Literal, int]:

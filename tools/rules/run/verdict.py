@@ -10,9 +10,12 @@ from rules.run.measuring import Measuring
 from rules.run.values import Fault, names_below, no_value, not_simple
 from rules.tables.library import NO_MATCH, SOMETIMES, Library, Ran
 from rules.tables.listing import Entry, RunRefusal
-from rules.tables.sheet import Sheet
-from rules.text.source import decoded
+from rules.tables.sheet import RULE, WILDCARD, Sheet
+from rules.text.rule_text import Kind
+from rules.text.source import decoded, shown
 
+# Of the table check, which looks at all values; the tables of the rule alone have passed it.
+TABLE_CHECK = (1, 3)
 PLAN_TOO_LARGE = 6
 NOT_SIMPLE = 21
 NOT_A_VALUE = 22
@@ -68,7 +71,15 @@ class Sometimes:
     said = "sometimes"
 
 
-Verdict = Match | NoMatch | Sometimes | RunRefusal
+@dataclass(frozen=True)
+class NotRun:
+    """Why there is no run."""
+
+    words: str
+    said = "not run"
+
+
+Verdict = Match | NoMatch | Sometimes | RunRefusal | NotRun
 
 
 def verdict_of(sheet: Sheet, task: Task, library: Library, entries: int) -> Verdict:
@@ -95,10 +106,12 @@ def check_choices(
 
 def read_verdict(sheet: Sheet, task: Task, ran: Ran) -> Verdict:
     """The tool's own: what stands in the way of a run, or its plan carried out."""
+    number, _, needed, _ = ran.answer
+    if number in TABLE_CHECK:
+        return RunRefusal(number, 0, (0, 0))
     in_the_way = run_refusal(sheet, task)
     if in_the_way:
         return in_the_way
-    number, _, needed, _ = ran.answer
     if number == PLAN_TOO_LARGE:
         return RunRefusal(number, 0, (needed, 0))
     if not ran.entries:
@@ -130,12 +143,12 @@ def run_refusal(sheet: Sheet, task: Task) -> RunRefusal | None:
     fault = not_simple(sheet, task.pattern)
     if fault:
         return refused(NOT_SIMPLE, fault)
-    fault = no_value(sheet, task.value) or given_fault(sheet)
+    fault = side_fault(sheet, task.value) or given_fault(sheet)
     if fault:
         return refused(NOT_A_VALUE, fault)
     name = name_without_value(sheet, task)
     if name:
-        return refused(NO_VALUE_OF_NAME, Fault(name, "the name"))
+        return refused(NO_VALUE_OF_NAME, Fault(name, without_value(sheet, name)))
     wrong = wrong_range(sheet, known_roots(sheet, task))
     return refused(RANGE_WRONG, Fault(wrong, "the range")) if wrong else None
 
@@ -145,6 +158,25 @@ def known_roots(sheet: Sheet, task: Task) -> list[int]:
     given = sheet.given.items()
     known = [node for name, node in given if sheet.scope.is_known(name, task.scoping)]
     return [task.value, *known]
+
+
+def side_fault(sheet: Sheet, side: int) -> Fault | None:
+    """The first place that makes this no value; a name of the rule can be given one."""
+    fault = no_value(sheet, side)
+    node = sheet.node(fault.node) if fault else None
+    if node is None or node.kind is not Kind.NAME or sheet.part_of(node.start).what != RULE:
+        return fault
+    wildcard = sheet.name_of(fault.node) == WILDCARD
+    return fault if wildcard else Fault(fault.node, without_value(sheet, fault.node))
+
+
+def without_value(sheet: Sheet, number: int) -> str:
+    """That a name has no value, and how to give it one."""
+    name = sheet.name_of(number)
+    said = shown(decoded(name))
+    if name in sheet.given:
+        return f"`{said}` is unbound here, and so has no value"
+    return f"`{said}` has no value: --given {said}=.."
 
 
 def given_fault(sheet: Sheet) -> Fault | None:

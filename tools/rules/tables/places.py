@@ -1,15 +1,27 @@
 """A place in the text of a rule or of its values, as it is told: in its own part."""
 
-from rules.tables.sheet import Sheet
-from rules.text.source import column, marked, part
+from rules.tables.paths import path_of
+from rules.tables.sheet import GIVEN, ITEM, Sheet
+from rules.text.rule_text import Kind
+from rules.text.source import column, decoded, marked, part
 
 
 def node_text(sheet: Sheet, number: int) -> str:
     """The source text of a node, cut if it is long; none of node 0."""
-    if number == 0:
-        return ""
+    text = text_of(sheet, number) if number else b""
+    return part(text, 0, len(text))
+
+
+def text_of(sheet: Sheet, number: int) -> bytes:
+    """The source text of a node, with the values of names that were put into it."""
     node = sheet.node(number)
-    return part(sheet.text, node.start, node.end)
+    if number not in sheet.filled:
+        return sheet.text[node.start : node.end]
+    items = [text_of(sheet, item) for item in sheet.items_of(number)]
+    if node.kind is Kind.OBJECT:
+        items = [b"%b: %b" % field for field in zip(items[::2], items[1::2])]
+    opening, closing = (b"[", b"]") if node.kind is Kind.ARRAY else (b"{", b"}")
+    return opening + b", ".join(items) + closing
 
 
 def column_of(sheet: Sheet, number: int) -> int:
@@ -17,6 +29,24 @@ def column_of(sheet: Sheet, number: int) -> int:
     start = sheet.node(number).start
     here = sheet.part_of(start)
     return column(here.text, start - here.start)
+
+
+def place_in_words(sheet: Sheet, number: int, asked: int = 0, here: int = 0) -> str:
+    """Where a node stands: the column in a text that is shown, or the path in an item of a file.
+
+    It is told at the node `here`, at which the name `asked` is asked for.
+    """
+    part = sheet.part_of(sheet.node(number).start)
+    column = f"column {column_of(sheet, number)}"
+    if part.what == ITEM:
+        path = path_of(sheet, number)
+        return f"at {path}" if path else column
+    if part.what != GIVEN or (here and part == sheet.part_of(sheet.node(here).start)):
+        return column
+    if asked and sheet.name_of(asked) == part.name:
+        return "given"
+    given = f"given {decoded(part.name)}"
+    return given if sheet.given[part.name] == number else f"{given}, {column}"
 
 
 def marked_node(sheet: Sheet, number: int, label: str) -> str:

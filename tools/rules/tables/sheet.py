@@ -29,6 +29,9 @@ LARGEST = 10**COLUMN - 1
 RULE = "rule"
 VALUE = "value"
 GIVEN = "given"
+# An item of a file, whose text nobody sees; the key of an item.
+ITEM = "item"
+KEY = "key"
 
 
 class Node(NamedTuple):
@@ -75,7 +78,7 @@ class Scope:
 
 
 class Part(NamedTuple):
-    """The text of the rule, of the value or of the value given to a name; where it starts."""
+    """The text of the rule, of a value or key, or of a value given to a name; where it starts."""
 
     what: str
     start: int
@@ -88,7 +91,9 @@ class Sheet:
     """The tables of a rule; nodes are numbered as they end in the text, names as they appear.
 
     For a run its values stand in the same tables, their texts behind the rule's. A number that is
-    measured has its range in `ranges`, and the lowest as its own number.
+    measured has its range in `ranges`, and the lowest as its own number. An array or object into
+    which values of names were put is in `filled`: its text isn't that of its items. `names_of` has
+    for such a value the node of the name for which it stands.
     """
 
     text: bytes
@@ -103,6 +108,8 @@ class Sheet:
     value: int = 0
     given: dict[bytes, int] = field(default_factory=dict)
     ranges: dict[int, Range] = field(default_factory=dict)
+    filled: frozenset[int] = frozenset()
+    names_of: dict[int, int] = field(default_factory=dict)
     parts: list[Part] = field(default_factory=list)
 
     def __post_init__(self) -> None:

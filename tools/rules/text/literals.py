@@ -15,8 +15,7 @@ def number_value(text: bytes, start: int) -> int:
     end = start + len(text)
     digits = text.removeprefix(b"-")
     if not digits.isdigit():
-        message = f"this number is not written as a whole one: {whole_number_hint(text.decode())}"
-        raise RuleTextError(message, start, end)
+        raise RuleTextError(*not_whole(text.decode(), start, end))
     if digits != b"0" and digits.startswith(b"0"):
         raise RuleTextError("a number has no leading zeros", start, end)
     if text == b"-0":
@@ -29,20 +28,19 @@ def number_value(text: bytes, start: int) -> int:
     return int(text)
 
 
-def whole_number_hint(text: str) -> str:
-    """What to write instead of a number with a point or an exponent."""
+def not_whole(text: str, start: int, end: int) -> tuple[str, int, int, str]:
+    """What to write instead of a number with a point or an exponent, and if it is only planned."""
+    message = "this number is not written as a whole one: write "
     if len(text) > NUMBER_COLUMN or "e" in text.lower():
-        return "write it without point and exponent"
+        return f"{message}it without point and exponent", start, end, ""
     whole, _, fraction = text.partition(".")
     fraction = fraction.rstrip("0")
     counted = int(whole + fraction)
     if not fraction:
-        return f"write {counted}"
-    smaller = 10 ** len(fraction)
-    return (
-        f"write {counted} and count in a unit {smaller} times smaller,"
-        f" or write ({text}), which is compared whole"
-    )
+        return f"{message}{counted}", start, end, ""
+    unit = f"count in a unit {10 ** len(fraction)} times smaller"
+    whole_instead = f", or write ({text}), which is compared whole"
+    return f"{message}{counted} and {unit}", start, end, whole_instead
 
 
 def string_value(text: bytes, start: int) -> bytes:

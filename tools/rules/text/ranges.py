@@ -1,9 +1,18 @@
 """Values whose numbers may be measured: a lowest and a highest number, as 17..19."""
 
+import re
+
 from rules.text.rule_text import Expression, Kind, Reader
 from rules.text.tokens import RuleTextError, TokenKind
 
 DOT = b"."
+# Strings, which stay as they are, and line ends with the blanks around them.
+LINE_ENDS = re.compile(rb'("(?:[^"\\]|\\.)*"|`[^`]*`)|\s*[\r\n]\s*')
+
+
+def one_line(text: bytes) -> bytes:
+    """A value that stands on several lines, as a file of JSON has it, on one."""
+    return LINE_ENDS.sub(lambda found: found.group(1) or b" ", text.strip(b"\r\n"))
 
 
 def read_value(text: bytes) -> Expression:

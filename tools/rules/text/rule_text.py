@@ -9,6 +9,7 @@ from dataclasses import dataclass
 from enum import IntEnum
 from typing import NamedTuple
 
+from rules.text.slips import rule_slip, unit_slip
 from rules.text.tokens import RuleTextError, Token, TokenKind, read_tokens
 
 
@@ -66,6 +67,7 @@ TOKENS = {
     TokenKind.NUMBER: Kind.NUMBER,
 }
 RESERVED = frozenset(b"as default else import in not package some with".split())
+RESERVED_V1 = frozenset(b"contains every if".split())
 OPERATORS = frozenset(b"+ - * / % & | == != < <= > >= in".split())
 CLOSING = {b"(": b")", b"[": b"]", b"{": b"}"}
 IN = frozenset({b"in"})
@@ -76,8 +78,11 @@ NO_STOP: frozenset[bytes] = frozenset()
 DEEPEST = 64
 
 
-def read_rule(text: bytes) -> Rule:
-    return Reader(text).rule()
+def read_rule(text: bytes, v1: bool = False) -> Rule:
+    """A rule of Rego v0, or of v1, which has more reserved words."""
+    reader = Reader(text)
+    reader.reserved_v1 = RESERVED_V1 if v1 else frozenset()
+    return reader.rule()
 
 
 def read_expression(text: bytes) -> Expression:
@@ -91,8 +96,12 @@ class Reader:
         self.tokens = read_tokens(text)
         self.place = 0
         self.depth = 0
+        self.reserved_v1: frozenset[bytes] = frozenset()
+        self.in_rule = False
 
     def rule(self) -> Rule:
+        self.in_rule = True
+        self.expect_text("the rule")
         if self.at(b"some"):
             return self.some_in()
         first = self.expression()
@@ -105,6 +114,7 @@ class Reader:
         return Rule(self.text, operation, first, second)
 
     def whole(self) -> Expression:
+        self.expect_text("the value")
         expression = self.expression()
         self.expect_end()
         return expression
@@ -163,6 +173,9 @@ class Reader:
         token = self.peek()
         if token.text in RESERVED:
             raise self.error(f"`{token.text.decode()}` is a reserved word, not a name")
+        if token.text in self.reserved_v1:
+            message = f"`{token.text.decode()}` is a reserved word of Rego v1, not a name"
+            raise RuleTextError(message, token.start, token.end)
         if token.kind is TokenKind.NAME:
             kind = WORDS.get(token.text, Kind.NAME)
         elif token.kind in TOKENS:
@@ -230,7 +243,9 @@ class Reader:
         self, kind: Kind, opening: int, items: list[Expression], closing: bytes
     ) -> Expression:
         if not self.at(closing):
-            wanted = f"`,` or `{closing.decode()}`"
+            # One expression in braces may be a key.
+            colon = "`:`, " if kind is Kind.SET and len(items) == 1 else ""
+            wanted = f"{colon}`,` or `{closing.decode()}`"
             raise self.error(f"expected {wanted}, found {self.peek().found()}")
         end = self.next().end
         return Expression(kind, self.tokens[opening].start, end, tuple(items))
@@ -286,10 +301,20 @@ class Reader:
         if not self.skip(text):
             raise self.error(f"expected `{text.decode()}`, found {self.peek().found()}")
 
+    def expect_text(self, what: str) -> None:
+        if self.peek().kind is TokenKind.END:
+            raise self.error(f"{what} is empty")
+
     def expect_end(self) -> None:
         if self.peek().kind is not TokenKind.END:
-            raise self.error(f"expected the end of the text, found {self.peek().found()}")
+            found = f"expected the end of the text, found {self.peek().found()}"
+            raise self.error(found, at_end=True)
 
-    def error(self, message: str) -> RuleTextError:
+    def error(self, message: str, at_end: bool = False) -> RuleTextError:
+        """Why the next token can't stand here, or what is meant by it."""
         token = self.peek()
-        return RuleTextError(message, token.start, token.end)
+        before = self.tokens[self.place - 1] if self.place else None
+        meant = unit_slip(before, token)
+        if self.in_rule:
+            meant = meant or rule_slip(before, token, at_end)
+        return RuleTextError(meant or message, token.start, token.end)

@@ -6,12 +6,18 @@ LONGEST_LINE = 100
 LONGEST_PART = 60
 BEFORE_MARK = 30
 CUT = "..."
+JOINERS = "\u200c\u200d"
 
 
 def shown(text: str) -> str:
     """A tab as one blank, other characters that don't print as a question mark."""
     visible = text.replace("\t", " ")
-    return "".join(character if character.isprintable() else "?" for character in visible)
+    return "".join(character if is_shown(character) else "?" for character in visible)
+
+
+def is_shown(character: str) -> bool:
+    """Those that join others, as in an emoji of several, are no characters to be seen."""
+    return character.isprintable() or character in JOINERS
 
 
 def width(text: str) -> int:
@@ -20,7 +26,7 @@ def width(text: str) -> int:
 
 
 def character_width(character: str) -> int:
-    if unicodedata.category(character) in ("Mn", "Me"):
+    if unicodedata.category(character) in ("Mn", "Me") or character in JOINERS:
         return 0
     return 2 if unicodedata.east_asian_width(character) in "WF" else 1
 
@@ -55,3 +61,8 @@ def marked(text: bytes, start: int, end: int, label: str = "") -> str:
     carets = "^" * max(1, width(shown(line[first : min(last, right)])))
     excerpt = head + shown(line[left:right]) + tail
     return f"    {excerpt}\n    {blanks}{carets} {label}".rstrip()
+
+
+def below(text: bytes, start: int, end: int) -> str:
+    """What stands below a message about text: the text with the place, if there is any."""
+    return f"\n{marked(text, start, end)}" if text.strip() else ""

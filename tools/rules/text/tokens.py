@@ -5,13 +5,18 @@ from enum import Enum
 from typing import NamedTuple
 
 from rules.text.source import part
+from rules.text.strange import strange_at
 
 
 class RuleTextError(Exception):
-    """Text that can't be read, and the bytes that are to blame, in the part that `what` names."""
+    """Text that can't be read, and the bytes that are to blame, in the part that `what` names.
 
-    def __init__(self, message: str, start: int, end: int) -> None:
+    `if_planned` is more advice, for a rule that is planned and not run.
+    """
+
+    def __init__(self, message: str, start: int, end: int, if_planned: str = "") -> None:
         super().__init__(message)
+        self.if_planned = if_planned
         self.start = start
         self.end = end
         self.what = "rule text"
@@ -63,7 +68,7 @@ def read_tokens(text: bytes) -> list[Token]:
     while place < len(text) and not text.startswith(COMMENT, place):
         found = TOKEN.match(text, place)
         if found is None:
-            raise no_token(text, place)
+            raise RuleTextError(*strange_at(text, place))
         tokens.append(Token(KINDS[found.lastgroup], *found.span(), found.group()))
         place = after_blanks(text, found.end())
     tokens.append(Token(TokenKind.END, place, place, b""))
@@ -83,10 +88,3 @@ def check_line(text: bytes) -> None:
 def after_blanks(text: bytes, place: int) -> int:
     blanks = BLANKS.match(text, place)
     return blanks.end() if blanks else place
-
-
-def no_token(text: bytes, place: int) -> RuleTextError:
-    character = text[place:].decode()[0]
-    if character in "\"`":
-        return RuleTextError(f"this string has no closing {character}", place, len(text))
-    return RuleTextError("no token starts here", place, place + len(character.encode()))

@@ -1,14 +1,18 @@
 """An answer as an object for JSON; tools/README.md, "Machine-readable", says its fields."""
 
 from rules.answer import Answer
+from rules.body.lines import BodyTextError
+from rules.parts.tally import PartsTally
 from rules.run.carrying_out import Miss
 from rules.run.choices import Choice, chosen_text
 from rules.run.values import fields_of, key_text, literal_of
-from rules.run.verdict import Match, NoMatch, Sometimes
+from rules.run.verdict import Match, NoMatch, NotRun, Sometimes, Task, Verdict
 from rules.tables.listing import Entry, EntryKind, Plan, Refusal
 from rules.tables.sheet import GIVEN, VALUE, Sheet
 from rules.text.rule_text import Kind, Operation
 from rules.text.source import column, decoded
+from rules.text.tokens import RuleTextError
+from rules.words.conclusions import is_never
 from rules.words.notes import Note
 from rules.words.plans import form_of
 from rules.words.refusals import meaning_of
@@ -35,6 +39,10 @@ KINDS = {
 }
 
 
+# The parts of an error's text.
+PARTS = {"rule text": "rule", "value": "value"}
+
+
 class NoJson(Exception):
     """A value that JSON can't say: two keys of one object have equal text, a number has a range."""
 
@@ -47,8 +55,16 @@ def answer_object(answer: Answer, notes: list[Note], careful_alone: bool) -> Obj
         "version": answer.question.rego,
     }
     if isinstance(answer.outcome, Refusal):
-        return {**head, **refusal_object(sheet, answer.outcome), "careful_alone": careful_alone}
-    told = [{"words": note.words, **place_object(sheet, note.start, note.end)} for note in notes]
+        return {
+            **head,
+            **refusal_object(sheet, answer.outcome),
+            "never": is_never(sheet, answer.outcome),
+            "careful_alone": careful_alone,
+        }
+    told = [
+        {"kind": kind.value, "words": words, **place_object(sheet, start, end)}
+        for kind, words, start, end in notes
+    ]
     return {
         **head,
         **plan_object(sheet, answer.outcome),
@@ -91,11 +107,27 @@ def refusal_object(sheet: Sheet, refusal: Refusal) -> Object:
 
 
 def run_object(answer: Answer) -> Object | None:
-    if answer.task is None:
-        return None
     sheet = answer.sheet
-    on = {"on": node_object(sheet, answer.task.value)}
-    match answer.verdict:
+    if isinstance(answer.outcome, Refusal):
+        on = {"on": node_object(sheet, sheet.value)}
+        return {**on, **refusal_object(sheet, answer.outcome)}
+    if answer.verdict is None:
+        return None
+    found = verdict_object(sheet, answer.task, answer.verdict)
+    steps = [
+        {"step": step.title, **verdict_object(step.sheet, step.task, step.verdict)}
+        for step in answer.steps
+    ]
+    return {**found, "steps": steps} if steps else found
+
+
+def verdict_object(sheet: Sheet, task: Task | None, verdict: Verdict | PartsTally) -> Object:
+    on = {"on": node_object(sheet, task.value) if task else None}
+    match verdict:
+        case NotRun(words) as found:
+            return {**on, "answer": found.said, "words": words}
+        case PartsTally() as tally:
+            return {**on, "answer": tally.found(), **tally.counts()}
         case Match(values) as found:
             names = {decoded(name): value_object(sheet, node) for name, node in values.items()}
             return {**on, "answer": found.said, "names": names}
@@ -180,4 +212,21 @@ def place_object(sheet: Sheet, start: int, end: int) -> Object:
         "end": end,
         "column": column(part.text, start),
         "text": decoded(part.text[start:end]),
+    }
+
+
+def bad_text_object(error: RuleTextError, file: str | None) -> Object:
+    """Text that can't be read; of a rule body with its file and line."""
+    head = {"answer": "none", "error": f"bad {error.what}: {error}"}
+    at = column(error.text, error.start)
+    if isinstance(error, BodyTextError):
+        head = {"file": file, "line": error.number, **head}
+        at = error.column
+    return {
+        **head,
+        "part": PARTS.get(error.what, error.what.replace("value of `", "given ").rstrip("`")),
+        "start": error.start,
+        "end": error.end,
+        "column": at,
+        "text": decoded(error.text),
     }

@@ -1,6 +1,6 @@
 """Plans in words: the form, then the entries as a tree."""
 
-from collections.abc import Iterator
+from collections.abc import Iterator, Mapping
 from typing import NamedTuple
 
 from rules.tables.listing import Entry, EntryKind, ListingError, Plan
@@ -8,6 +8,7 @@ from rules.tables.places import column_of, node_text
 from rules.tables.sheet import Sheet
 from rules.text.rule_text import LITERALS, Operation
 from rules.text.source import decoded, shown
+from rules.words.origins import origins_of
 
 ONE_PATTERN = (0, 0)
 WITH_KEY = (1, 0)
@@ -73,19 +74,23 @@ FORMS = {
 }
 
 
-def plan_in_words(sheet: Sheet, plan: Plan) -> str:
+def plan_in_words(sheet: Sheet, plan: Plan, before: Mapping[bytes, str] = {}) -> str:
+    """The form and the entries; `before` says where names of earlier lines have their values."""
     lines = [shown(decoded(sheet.parts[0].text)), f"planned as {form_in_words(sheet, plan)}"]
     if plan.entries:
         lines.append("column  plan")
-    for row in rows_of(sheet, plan):
+    for row in rows_of(sheet, plan, before):
         lines.append(f"{row.column:6}  {'  ' * row.depth}{row.words}")
     return "\n".join(lines) + "\n"
 
 
-def rows_of(sheet: Sheet, plan: Plan) -> Iterator[Row]:
+def rows_of(
+    sheet: Sheet, plan: Plan, before: Mapping[bytes, str] = {}
+) -> Iterator[Row]:
     roots_met = 0
-    for entry in plan.entries:
+    for entry, origin in zip(plan.entries, origins_of(sheet, plan, before)):
         words = role_in_words(sheet, plan, entry, roots_met) + entry_in_words(sheet, entry)
+        words += f", {origin}" if origin else ""
         yield Row(column_of(sheet, entry.node), entry.depth, words)
         roots_met += entry.depth == 0
 

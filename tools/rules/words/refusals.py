@@ -5,6 +5,9 @@ from dataclasses import dataclass
 from rules.tables.listing import Refusal, RunRefusal
 from rules.tables.places import marked_node
 from rules.tables.sheet import Sheet
+from rules.words.conclusions import conclusions_in_words
+from rules.words.meetings import meeting_at, meeting_in_words
+from rules.words.oversize import long_name, too_deep
 
 LIMITS = {
     "nodes": 512,
@@ -20,8 +23,7 @@ LIMITS = {
 class Meaning:
     """The Rust's name of a refusal, its meaning, and what its place and its counts are.
 
-    In `place`, {side} stands for the rule's side that the place is or stands in, {what} for what a
-    run can't have there.
+    In `place`, {meets} stands for what meets there, {what} for what a run can't have there.
     """
 
     title: str
@@ -34,8 +36,12 @@ class Meaning:
 # 1 to 4 are of the tables, which the lines of a body, or two patterns, share.
 LAST_OF_TABLES = 4
 UNREADABLE = 7
+NO_WAY = 18
 # Pattern and value can't fit.
 BY_STRUCTURE = (13, 14)
+
+# Refusals of the tables as a whole, whose places the tool finds.
+OF_TABLES = {2: long_name, 3: too_deep}
 
 UNKNOWN = Meaning("unknown", "this tool has no words for it", "the place", "counts {0} and {1}")
 
@@ -45,7 +51,7 @@ MEANINGS = {
     ),
     2: Meaning(
         "tables broken",
-        "the tables of the sheet break their rules (from rule text: a name longer than 255 bytes)",
+        "the tables break their rules (from rule text: a name longer than 255 bytes)",
     ),
     3: Meaning("too deep", "more than 32 levels, the innermost item counted"),
     4: Meaning("name twice", "the sheet lists a name twice, which no rule text leads to"),
@@ -97,11 +103,10 @@ MEANINGS = {
         "a name that this rule has to define is defined already",
         "the name",
     ),
-    18: Meaning(
+    NO_WAY: Meaning(
         "IncompatibleDestructuringPatterns",
-        "the sides can't be matched: an array meets an object, or both sides bind here and are not"
-        " two arrays, or two objects with literal keys",
-        "{side}",
+        "there is no way to plan this here",
+        "{meets}",
     ),
     20: Meaning(
         "list too short", "fewer values than names are listed, which no rule text leads to"
@@ -147,7 +152,8 @@ def meaning_of(refusal: Refusal) -> Meaning:
 
 def refusal_in_words(sheet: Sheet, refusal: Refusal) -> str:
     places = [marked_node(sheet, node, label) for node, label in places_of(sheet, refusal)]
-    lines = [meaning_in_words(refusal), *places, *counts_in_words(sheet, refusal)]
+    follows = conclusions_in_words(sheet, refusal)
+    lines = [meaning_in_words(refusal), *places, *counts_in_words(sheet, refusal), *follows]
     return "\n".join(lines) + "\n"
 
 
@@ -158,16 +164,25 @@ def meaning_in_words(refusal: Refusal) -> str:
 
 def places_of(sheet: Sheet, refusal: Refusal) -> list[tuple[int, str]]:
     """The nodes that a refusal is about, and what they are to it."""
+    if refusal.number in OF_TABLES:
+        return OF_TABLES[refusal.number](sheet)
     meaning = meaning_of(refusal)
     places = []
     if refusal.place:
         what = refusal.what if isinstance(refusal, RunRefusal) else ""
-        label = meaning.place.format(side=side_in_words(sheet, refusal.place), what=what)
-        places.append((refusal.place, label))
+        meets = meets_in_words(sheet, refusal.place) if refusal.number == NO_WAY else ""
+        places.append((refusal.place, meaning.place.format(meets=meets, what=what)))
     first, _ = refusal.counts
     if meaning.node_in_first_count and 1 <= first <= len(sheet.nodes):
         places.append((first, meaning.node_in_first_count))
     return places
+
+
+def title_in_words(sheet: Sheet, refusal: Refusal) -> str:
+    """The title, of 18 with what meets."""
+    title = meaning_of(refusal).title
+    meets = meets_in_words(sheet, refusal.place) if refusal.number == NO_WAY else ""
+    return f"{title}: {meets}" if meets else title
 
 
 def counts_in_words(sheet: Sheet, refusal: Refusal) -> list[str]:
@@ -176,11 +191,9 @@ def counts_in_words(sheet: Sheet, refusal: Refusal) -> list[str]:
     return counts + over_limits(sheet) if refusal.number == 1 else counts
 
 
-def side_in_words(sheet: Sheet, number: int) -> str:
-    """Which side of `=` or `:=` a node is, or is a part of: the left side's nodes come first."""
-    left, right, _ = sheet.roots
-    side = "the left side" if number <= left else "the right side"
-    return side if number in (left, right) else f"in {side}"
+def meets_in_words(sheet: Sheet, place: int) -> str:
+    meeting = meeting_at(sheet, place)
+    return meeting_in_words(sheet, meeting, place) if meeting else ""
 
 
 def over_limits(sheet: Sheet) -> list[str]:

@@ -159,8 +159,12 @@ class NoAnswer(unittest.TestCase):
     def test_line_that_cannot_be_read(self) -> None:
         status, words, errors = run("--body", "-", text=b"x := 1\n\ny := [1 2]\n")
         self.assertEqual((status, words), (2, ""))
-        self.assertEqual(errors.splitlines()[0][:20], "-:3: bad rule text: ")
+        self.assertEqual(errors.splitlines()[0][:22], "-:3:9: bad rule text: ")
         self.assertEqual(errors.splitlines()[2], "            ^")
+        _, words, errors = run("--body", "-", "--json", text=b"x := 1\n\n  y := [1 2]\n")
+        found = json.loads(words)
+        self.assertEqual((errors, found["answer"], found["file"]), ("", "none", "-"))
+        self.assertEqual((found["line"], found["column"], found["text"]), (3, 11, "y := [1 2]"))
 
     def test_usage(self) -> None:
         options = (["x"], ["--sheet"], ["--careful"], ["--rego", "v1"], ["--on", "1"], ["--run"])

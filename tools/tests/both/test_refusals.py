@@ -55,9 +55,11 @@ class Refused(unittest.TestCase):
 
     def test_tables(self) -> None:
         deep = nested(33, "")
-        self.check("first pattern: refused, 3 too deep", "", deep, "x")
-        self.check("second pattern: refused, 3 too deep", "", "x", deep)
-        self.check("second pattern: refused, 2 tables broken", "", "x", "y" * 256)
+        level = " " * 32 + "^^ level 33"
+        self.check("first pattern: refused, 3 too deep", level, deep, "x")
+        self.check("second pattern: refused, 3 too deep", level, "x", deep)
+        long = "^" * 100 + " this name has 256 bytes, at most 255"
+        self.check("second pattern: refused, 2 tables broken", long, "x", "y" * 256)
         together = "the patterns together: refused, 1 over a limit:"
         status, lines = told(*[f"[{'_, ' * 300}]"] * 2)
         self.assertEqual((status, lines[0][: len(together)]), (1, together))

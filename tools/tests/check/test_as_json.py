@@ -2,6 +2,7 @@ import json
 import unittest
 from typing import Any
 
+from rules.command import NO_RULE
 from tests.planners import run, with_library
 
 
@@ -9,17 +10,20 @@ from tests.planners import run, with_library
 class Json(unittest.TestCase):
     def check(self, content: str) -> tuple[int, dict[str, Any]]:
         status, printed, error = run("--check", "-", "--json", text=content.encode())
-        self.assertEqual((error, printed.count("\n"), printed.isascii()), ("", 1, True))
+        self.assertIn(error, ("", f"{NO_RULE}\n"))
+        self.assertEqual((printed.count("\n"), printed.isascii()), (1, True))
         return status, json.loads(printed)
 
     def test_tally(self) -> None:
         status, found = self.check("x => pattern\nx => index\n[x y] => planned\n")
         lines = found.pop("lines")
         self.assertEqual(status, 2)
-        self.assertEqual(found, {"file": "-", "rules": 2, "differ": 1, "unreadable": 1})
+        counts = {"rules": 2, "differ": 1, "notes": 0, "untested": [], "unreadable": 1}
+        self.assertEqual(found, {"file": "-", **counts})
         self.assertEqual([line["line"] for line in lines], [1, 2, 3])
-        none = {"file": "-", "rules": 0, "differ": 0, "unreadable": 0, "lines": []}
-        self.assertEqual(self.check("# none\n"), (0, none))
+        counts = {"rules": 0, "differ": 0, "notes": 0, "untested": [], "unreadable": 0}
+        none = {"file": "-", **counts, "lines": []}
+        self.assertEqual(self.check("# none\n"), (2, none))
 
     def test_rules(self) -> None:
         status, found = self.check("# \n[w, w] = [18, 18]  => match  w=16 --careful\n")
@@ -41,7 +45,8 @@ class Json(unittest.TestCase):
     def test_line_that_cannot_be_read(self) -> None:
         _, found = self.check('["\u00e4" y] => planned\n')
         message = "bad rule text: expected `,` or `]`, found `y`"
-        line = {"line": 1, "error": message, "text": '["\u00e4" y]', "start": 6, "end": 7}
+        line = {"line": 1, "column": 6, "error": message, "text": '["\u00e4" y]'}
+        line |= {"start": 6, "end": 7}
         self.assertEqual(found["lines"], [line])
 
 

@@ -1,10 +1,12 @@
 """Files of rules, checked by the command."""
 
+import re
 import tempfile
 import unittest
 from pathlib import Path
 
 from rules.check.lines import Line, read_lines
+from rules.command import NO_RULE
 from tests.planners import ROOT, planner_of_answers, run, with_library
 
 TRIALS = ROOT / "tools" / "trials.rules"
@@ -13,15 +15,17 @@ TRIALS = ROOT / "tools" / "trials.rules"
 UNREADABLE = {
     "[x y] => planned": "bad rule text: expected `,` or `]`, found `y`",
     "x = 1": "this line has no `=>` and what is expected behind it",
-    "x => bind": "what may be expected: planned, ",
+    "x => any": "what may be expected: planned, ",
+    "x => Match": "did you mean `match`?",
     "x => match w=y": "here stands a name, which no value has",
     "x => match --on '[1'": "bad value: ",
     "x => planned --bound y": "--bound: the rule has no name `y` ",
     "x => planned --as": "argument --as: expected one argument",
     "x => planned --json": "unrecognized arguments: --json",
-    "x => match": "--run is for = and :=; one expression is run on a value: --on VALUE",
-    "some x in xs => match": "some .. in takes item by item; ",
-    "[x, 1] = [1, y] => match": "both sides bind; a run takes one pattern and one value",
+    "x => match": "`match` is the answer of a run: add --on VALUE",
+    "x => pattern --run": "--run is for =, := and some .. in; one expression is run on a value: ",
+    "x = 1 => match --on 1": "--on is for one expression or some .. in; ",
+    "some x in 3 => match": "a collection is an array, an object or a set, and here stands 3",
 }
 
 
@@ -43,7 +47,8 @@ class Check(unittest.TestCase):
     def test_nothing_differs(self) -> None:
         self.assertEqual(checked("[w, w] = [18, 18] => match w=18\n"), (0, ["1 rule, 0 differ"]))
         self.assertEqual(checked("x => planned\nx = y => refused 18"), (0, ["2 rules, 0 differ"]))
-        self.assertEqual(checked("# no rule\n"), (0, ["0 rules, 0 differ"]))
+        none = (2, "0 rules, 0 differ\n", f"{NO_RULE}\n")
+        self.assertEqual(run("--check", "-", text=b"# no rule\n"), none)
 
     def test_what_differs(self) -> None:
         content = """\
@@ -55,27 +60,52 @@ _ => match w=1 --on 2
 x => match --on y
 """
         lines = """\
--:1: expected match, found no match
+-:1:15: expected match, found no match
     [w, w] = [18, 16]
                   ^^ `w` is 18 (column 11), and 16 stands here
--:2: expected match w=18, found no match
+-:2:33: expected match w=18, found no match
     [w, w]
     [18, 16]
          ^^ `w` is 18 (column 2), and 16 stands here
--:3: expected planned, found refused 13 at [1, 2]
+-:3:8: expected planned, found refused 13 at [1, 2]
     [x] := [1, 2]
            ^^^^^^ ArrayLengthMismatch
--:4: expected pairs, found bind left
+-:4:10: expected pairs, found bind left
     x = 1
--:5: expected match w=1, found match
+-:5:6: expected match w=1, found match
     _
--:6: expected match, found refused 22 at y
+    on 2
+-:6:17: expected match, found refused 22 at y
     x
     y
     ^ not a value
 6 rules, 6 differ
 """
         self.assertEqual(checked(content), (1, lines.splitlines()))
+
+    def test_columns_of_values(self) -> None:
+        """That of the place where the value is written as it is read, else of what is expected."""
+        columns = {
+            "[w, w] => match --on '[1, 2]'": 27,
+            "[w, w] => match --on '[1, \u00e4]'": 27,
+            '[w, w] => match --on "[1, \\"a\\"]"': 11,
+            "x => match --on ''": 6,
+            "x => match --on '[1' --bound x": 20,
+            "  [w, 1] => match --on [1,2] --given w=2": 25,
+            "[w] => match --on [1] --given 'w=[y]'": 35,
+        }
+        for line, place in columns.items():
+            with self.subTest(line=line):
+                self.assertEqual(checked(line)[1][0].split(":")[2], str(place))
+
+    def test_match_of_an_assignment(self) -> None:
+        lines = ["-:1:22: expected no match, found match w=18", "    [w, w] = [18, 18]"]
+        self.assertEqual(checked("[w, w] = [18, 18] => no match\n")[1][:-1], lines)
+
+    def test_what_meets_is_told(self) -> None:
+        _, lines = checked("x = y => planned\n")
+        meets = "    ^ IncompatibleDestructuringPatterns: neither `x` nor `y` has a value yet"
+        self.assertEqual(lines[2], meets)
 
     def test_long_rule(self) -> None:
         status, lines = checked("[" + "x, " * 99 + "x] => index")
@@ -86,15 +116,15 @@ x => match --on y
         status, found = checked("".join(f"{line}\n" for line in UNREADABLE))
         said = [line for line in found if line.startswith("-:")]
         for number, (line, start) in enumerate(zip(said, UNREADABLE.values()), 1):
-            self.assertTrue(line.startswith(f"-:{number}: {start}"), line)
+            self.assertRegex(line, f"^-:{number}:[0-9]+: {re.escape(start)}")
         tally = f"0 rules, 0 differ, {len(UNREADABLE)} lines can't be read"
         self.assertEqual((status, len(said), found[-1]), (2, len(UNREADABLE), tally))
         self.assertEqual(checked("x")[1][-1], "0 rules, 0 differ, 1 line can't be read")
 
     def test_bytes_that_are_no_text(self) -> None:
         _, found = checked(b'"\xff" => planned\nx => \xff\n')
-        self.assertEqual(found[0], "-:1: bad rule text: rule text is UTF-8, this is not")
-        self.assertTrue(found[3].startswith("-:2: what may be expected: planned, "))
+        self.assertEqual(found[0], "-:1:2: bad rule text: rule text is UTF-8, this is not")
+        self.assertTrue(found[3].startswith("-:2:6: what may be expected: planned, "))
 
     def test_places_of_lines_that_cannot_be_read(self) -> None:
         carets = {
@@ -110,7 +140,7 @@ x => match --on y
 
     def test_a_line_that_differs_beside_one_that_cannot_be_read(self) -> None:
         status, found = checked("x => bind left\nx\n")
-        self.assertEqual((status, found[0]), (2, "-:1: expected bind left, found pattern"))
+        self.assertEqual((status, found[0]), (2, "-:1:6: expected bind left, found pattern"))
         self.assertEqual(found[-1], "1 rule, 1 differs, 1 line can't be read")
 
     def test_options_for_the_lines_that_follow(self) -> None:
@@ -133,8 +163,9 @@ w => match w=2 --on 2
 
     def test_options_that_cannot_be_read(self) -> None:
         status, lines = checked("--bonud w\nw => index\n--\nw => pattern\n")
-        message = "unrecognized arguments: --bonud w; the rules below it are not checked"
-        self.assertEqual(lines[:3], [f"-:1: {message}", "    --bonud w", "    ^^^^^^^^^"])
+        unknown = "unrecognized arguments: --bonud w (did you mean --bound?)"
+        message = f"{unknown}; the rules below it are not checked"
+        self.assertEqual(lines[:3], [f"-:1:1: {message}", "    --bonud w", "    ^^^^^^^^^"])
         self.assertEqual((status, lines[3:]), (2, ["1 rule, 0 differ, 1 line can't be read"]))
 
     def test_run_of_an_assignment(self) -> None:
@@ -156,17 +187,20 @@ class Usage(unittest.TestCase):
             file.write_text("x => index\n")
             status, printed, _ = run("--check", str(file))
             self.assertEqual(status, 1)
-            self.assertEqual(printed.splitlines()[0], f"{file}:1: expected index, found pattern")
-            error = self.complaint("--check", folder)
-            self.assertEqual(error, f"{folder} can't be read: Is a directory\n")
+            self.assertEqual(printed.splitlines()[0], f"{file}:1:6: expected index, found pattern")
         missing = "/nowhere/flush.rules can't be read: No such file or directory\n"
         self.assertEqual(self.complaint("--check", "/nowhere/flush.rules"), missing)
 
     def test_options_beside_check(self) -> None:
-        for other in (["x"], ["--bound", "x"], ["--careful"], ["--on", "1"], ["--sheet"]):
-            error = self.complaint("--check", "-", *other)
-            self.assertEqual(error[:52], "--check FILE goes without a rule and its options: th")
-        self.assertEqual(self.complaint("--html", "x", "y"), "--html FILE goes with --check FILE\n")
+        for other in (["--bound", "x"], ["--careful"], ["--on", "1"], ["--sheet"]):
+            for arguments in (["--check", "-", *other], ["x", "--check", "-"]):
+                error = self.complaint(*arguments)
+                self.assertEqual(error[:52], "--check FILE goes without a rule and its options: th")
+        expected = "--html FILE goes with --check FILE or --parts FILE\n"
+        self.assertEqual(self.complaint("--html", "x", "y"), expected)
+        for option in ("--watch", "--accept", "--strict", "--notes", "--weak", "--format=junit"):
+            said = f"{option.replace('=', ' ')} goes with --check FILE\n"
+            self.assertEqual(self.complaint("x", option), said)
         self.assertEqual(self.complaint()[:18], "a rule is asked fo")
 
     def test_planner_of_sheets(self) -> None:
@@ -184,7 +218,7 @@ class Usage(unittest.TestCase):
 @with_library
 class Trials(unittest.TestCase):
     def test_rules_on_trial(self) -> None:
-        status, printed, error = run("--check", str(TRIALS))
+        status, printed, error = run("--check", str(TRIALS), "--strict", "--weak")
         self.assertEqual((status, error), (0, ""))
         self.assertRegex(printed, r"^1[0-9][0-9] rules, 0 differ\n$")
 

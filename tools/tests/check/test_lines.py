@@ -62,8 +62,8 @@ class Lines(unittest.TestCase):
     def test_rules_below_options_that_cannot_be_read(self) -> None:
         content = b"v => planned\n --bonud w\nw => pattern\n--bound 'w\nx\n--bound x\nx => pattern"
         first, bad, worse, last = read_lines(content)
-        message = f"unrecognized arguments: --bonud w; {NOT_CHECKED}"
-        self.assertEqual(bad, Unreadable(2, b" --bonud w", message, 1, 10))
+        message = f"unrecognized arguments: --bonud w (did you mean --bound?); {NOT_CHECKED}"
+        self.assertEqual(bad, Unreadable(2, b" --bonud w", message, 1, 10, 2))
         self.assertEqual((worse.number, last.number), (4, 7))
 
     def test_rule_that_begins_with_a_minus(self) -> None:
@@ -82,7 +82,7 @@ class Lines(unittest.TestCase):
         self.assertEqual(unreadable(text), Unreadable(1, text, message, 0, 7))
         text = b"x => planned --on '[1"
         message = "options are quoted as in a shell: no closing quotation"
-        self.assertEqual(unreadable(text), Unreadable(1, text, message, 13, 21))
+        self.assertEqual(unreadable(text), Unreadable(1, text, message, 13, 21, 14))
         self.assertEqual(unreadable(b"--bound 'w").start, 0)
 
 

@@ -5,7 +5,7 @@ import unittest
 
 from rules.check.expectations import Matched, NotMatched, Undecided, asks_for_run, read_expected
 from rules.text.tokens import RuleTextError
-from tests.check.pages import Page, page_html
+from tests.check.page.pages import Page, page_html
 from tests.planners import run, with_library
 
 RULES = """\
@@ -18,14 +18,16 @@ w => sometimes --on 16 --given w=16
 18 => refused 32 --on 19..17
 """
 REPORT = """\
--:2: expected always, found sometimes
+-:2:33: expected always, found sometimes
     [w, w]
     [17..19, 18]
              ^^ `w` is 17..19 (column 2), and 18 stands here
--:4: expected always w=17, found always w=17..19
+-:4:11: expected always w=17, found always w=17..19
     [w, _]
--:6: expected sometimes, found match
+    on [17..19, 18]
+-:6:6: expected sometimes, found match
     w
+    on 16
 7 rules, 3 differ
 """
 

@@ -1,12 +1,12 @@
 """Runs by the library, and what is said of them."""
 
+import json
 import unittest
 
-from rules.no_answer import NoAnswer
 from rules.run.verdict import Match
 from rules.tables.listing import Refusal
 from rules.words.verdicts import verdict_in_words
-from tests.planners import asked, with_library
+from tests.planners import asked, run, with_library
 
 
 def said(rule: str, *options: str) -> list[str]:
@@ -115,9 +115,10 @@ class Misses(unittest.TestCase):
         words = 'key "b" is asked for (column 10), and this object has none'
         self.miss('{"a": 1}', "^^^^^^^^", words, '{"a": x, "b": y}')
         self.miss('{"a": 1, "c": 2}', "^^^^^^^^^^^^^^^^", words, '{"a": x, "b": y}')
-        words = 'key "c" is too many: the object asked for (column 1) has none'
+        none = "is too many: the object asked for (column 1) has none"
+        words = f'key "c" {none}; write "c": _ to let it pass'
         self.miss('{"a": 1, "c": 2}', "         ^^^", words, '{"a": x}')
-        words = "key 1 is too many: the object asked for (column 1) has none"
+        words = f"key 1 {none}; write 1: _ to let it pass"
         self.miss("{1: 1}", " ^", words, "{}")
 
     def test_assignments(self) -> None:
@@ -157,19 +158,24 @@ class Refused(unittest.TestCase):
         self.check(number, "^^^ an expression that is taken whole", "x", "--on", "(1)")
         self.check(number, " ^ a computed key", "x", "--on", "{y: 1}")
         self.check(number, "       ^ a repeated key", "x", "--on", "{1: 2, 1: 3}")
-        self.check(number, "      ^ a name", "x := [y]", "--run")
-        self.check(number, "    ^ a name", "x = y", "--run", "--bound", "y")
-        self.check(number, "    ^ a name", "x = y", "--run", "--bound", "x,y")
-        self.check(number, "    ^ a name", "_ = y", "--run")
-        self.check(number, "^ a name", "y = _", "--run")
+        words = "`y` has no value: --given y=.."
+        self.check(number, f"      ^ {words}", "x := [y]", "--run")
+        self.check(number, f"    ^ {words}", "x = y", "--run", "--bound", "y")
+        self.check(number, f"    ^ {words}", "x = y", "--run", "--bound", "x,y")
+        self.check(number, f"    ^ {words}", "_ = y", "--run")
+        self.check(number, f"^ {words}", "y = _", "--run")
+        unbound = ("--run", "--given", "y=1", "--unbound", "y")
+        words = "`y` is unbound here, and so has no value"
+        self.check(number, f"     ^ {words}", "x := y", *unbound)
         self.check(number, "    ^ a wildcard", "_ = _", "--run")
         given = "^^^ a set, in the value given to `x`"
         self.check(number, given, "[x, y]", "--on", "[1]", "--given", "y=1", "--given", "x={1}")
 
     def test_name_without_value(self) -> None:
         number = "23 name without value"
-        self.check(number, "    ^ the name", "[x, y, z]", "--on", "[1]", "--bound", "z,y")
-        self.check(number, "^ the name", "y = 1", "--run", "--bound", "y")
+        words = "`y` has no value: --given y=.."
+        self.check(number, f"    ^ {words}", "[x, y, z]", "--on", "[1]", "--bound", "z,y")
+        self.check(number, f"^ {words}", "y = 1", "--run", "--bound", "y")
 
     def test_order(self) -> None:
         on_a_name = ("--on", "z", "--bound", "y")
@@ -189,17 +195,28 @@ class Refused(unittest.TestCase):
 
 @with_library
 class NotForARun(unittest.TestCase):
+    """The plan is said, then why there is no run; there is an answer."""
+
     def check(self, message: str, rule: str, *options: str) -> None:
-        with self.subTest(rule=rule), self.assertRaisesRegex(NoAnswer, message):
-            asked(rule, *options)
+        with self.subTest(rule=rule):
+            status, printed, error = run(rule, *options)
+            self.assertEqual((status, error), (1, ""))
+            self.assertEqual(printed.splitlines()[1][:11], "planned as ")
+            self.assertIn(f"not run: {message}", printed)
+            told = json.loads(run(rule, *options, "--json")[1])["run"]
+            self.assertEqual((told["on"], told["answer"]), (None, "not run"))
+            self.assertIn(message, told["words"])
 
     def test_usage(self) -> None:
-        self.check("both sides bind; a run takes one pattern", "[x, 1] = [1, x]", "--run")
-        self.check("an assignment is run as it stands: --run", "x = 1", "--on", "1")
-        self.check("one expression is run on a value: --on", "x", "--run")
-        self.check("some .. in takes item by item", "some x in [1]", "--run")
-        self.check("some .. in takes item by item", "some x in [1]", "--on", "1")
-        self.check("one of them is for a rule", "x", "--on", "1", "--run")
+        words = "--on is for one expression or some .. in; an assignment is run as it stands: --run"
+        self.check(words, "x = 1", "--on", "1")
+        words = "--run is for =, := and some .. in; one expression is run on a value: --on VALUE"
+        self.check(words, "x", "--run")
+        words = "--on gives a value, --run takes the rule's own: one of them is for a rule"
+        self.check(words, "x", "--on", "1", "--run")
+        words = "a collection is an array, an object or a set, and here stands"
+        self.check(f"{words} 1", "some x in xs", "--on", "1")
+        self.check(f'{words} "a"', 'some x in "a"', "--run")
 
 
 if __name__ == "__main__":

@@ -154,16 +154,19 @@ class Numbers(unittest.TestCase):
 
     def test_hint_at_a_number_that_is_not_whole(self) -> None:
         hints = {
-            "18.5": "write 185 and count in a unit 10 times smaller, or write (18.5), which is",
-            "-0.50": "write -5 and count in a unit 10 times smaller, or write (-0.50), which is",
-            "18.00": "write 18",
-            "1e3": "write it without point and exponent",
-            "1." + "5" * 5000: "write it without point and exponent",
+            "18.5": ("write 185 and count in a unit 10 times smaller", "(18.5)"),
+            "-0.50": ("write -5 and count in a unit 10 times smaller", "(-0.50)"),
+            "18.00": ("write 18", ""),
+            "1e3": ("write it without point and exponent", ""),
+            "1." + "5" * 5000: ("write it without point and exponent", ""),
         }
-        for text, hint in hints.items():
+        for text, (hint, whole) in hints.items():
             with self.subTest(text=text), self.assertRaises(RuleTextError) as caught:
                 sheet(f"[{text}]")
-            self.assertIn(f"not written as a whole one: {hint}", str(caught.exception))
+            found = f"this number is not written as a whole one: {hint}"
+            planned = f", or write {whole}, which is compared whole" if whole else ""
+            self.assertEqual(str(caught.exception), found)
+            self.assertEqual(caught.exception.if_planned, planned)
         self.assertEqual(sheet("(18.5)").nodes[0].kind, Kind.OTHER)
 
 

@@ -131,7 +131,8 @@ class BadRuleText(unittest.TestCase):
 
     def test_places(self) -> None:
         end = "the end of the text"
-        self.check("", "^", f"expected an expression, found {end}")
+        self.check("", "^", "the rule is empty")
+        self.check(" # x", " ^", "the rule is empty")
         self.check("x = ", "    ^", f"expected an expression, found {end}")
         self.check("[x y]", "   ^", "expected `,` or `]`, found `y`")
         self.check("[x, y", "     ^", f"expected `,` or `]`, found {end}")
@@ -153,7 +154,7 @@ class BadRuleText(unittest.TestCase):
     def test_characters(self) -> None:
         self.check('x = "abc', "    ^^^^", 'this string has no closing "')
         self.check("x = `abc", "    ^^^^", "this string has no closing `")
-        self.check("x = 'a'", "    ^", "no token starts here")
+        self.check("x = \\a", "    ^", "no token starts here")
         self.check("x\ny", " ^", "rule text is one line, and it ends here")
 
     def test_text_that_is_no_utf_8(self) -> None:
@@ -170,7 +171,7 @@ class BadRuleText(unittest.TestCase):
         self.check('["é" y]', "     ^", "expected `,` or `]`, found `y`")
         self.check('["e\u0301" y]', "     ^", "expected `,` or `]`, found `y`")
         self.check('["板" y]', "      ^", "expected `,` or `]`, found `y`")
-        self.check("[x 板]", "   ^^", "no token starts here")
+        self.check("[x \u3001]", "   ^^", "no token starts here")
 
 
 class LongLines(unittest.TestCase):

@@ -42,8 +42,11 @@ class Documented(unittest.TestCase):
             found("[w, x]", "--on", "[18, 16]", "--given", "w=18"),
             found("[w, w] = [18, 16]", "--run"),
             found("x", "--on", "y"),
+            found("[x, 1] = [1, x]", "--run"),
             found("_ = y"),
             found("18", "--on", "17..19"),
+            found("x", "--on", "1", "--on", "2"),
+            found("[x y]"),
             found('{"a": x} := {"b": 1}'),
             found("--check", "-", text=b"x => pattern\nx y => planned\n"),
         ]
@@ -104,7 +107,10 @@ class Plans(unittest.TestCase):
 
     def test_notes(self) -> None:
         words = "`y` is read here, and nothing gives it a value"
-        self.assertEqual(found("_ = y")["notes"], [{"words": words, **place("rule", 4, 5, "y")}])
+        note = {"kind": "reads", "words": words, **place("rule", 4, 5, "y")}
+        self.assertEqual(found("_ = y")["notes"], [note])
+        for rule, kind in {"[w, w] := [1, 2]": "never", "f(x)": "whole"}.items():
+            self.assertEqual([note["kind"] for note in found(rule)["notes"]], [kind])
 
     def test_characters(self) -> None:
         """A place in bytes and a column in characters."""
@@ -128,6 +134,7 @@ class Refusals(unittest.TestCase):
                 "place": place("rule", 7, 13, "[1, 2]"),
                 "pattern_place": None,
                 "counts": [1, 2],
+                "never": True,
                 "careful_alone": False,
             },
         )
@@ -136,6 +143,11 @@ class Refusals(unittest.TestCase):
         answer = found('{"a": x} := {"b": 1}')
         self.assertEqual(answer["pattern_place"], place("rule", 0, 8, '{"a": x}'))
         self.assertEqual(answer["counts"], [0, 0])
+
+    def test_never(self) -> None:
+        self.assertFalse(found('{"a": x} := {"a": 1, "a": 1}')["never"])
+        self.assertFalse(found("x = y")["never"])
+        self.assertTrue(found("some [x] in [[1, 2]]")["never"])
 
     def test_careful_alone(self) -> None:
         self.assertTrue(found("--careful", "[x, [y]] := [1, [1, 2]]")["careful_alone"])
@@ -195,6 +207,25 @@ class Runs(unittest.TestCase):
             },
         )
 
+    def test_several_values(self) -> None:
+        arguments = ("[w, w]", "--on", "[18, 18]", "--on", "[18, 16]", "--on", "[y, 1]")
+        answer = found(*arguments)
+        alone = [found("[w, w]", "--on", value)["run"] for value in arguments[2::2]]
+        self.assertEqual(answer["runs"], alone)
+        self.assertEqual(answer["run"], alone[0])
+        self.assertNotIn("runs", found("[w, w]", "--on", "[18, 18]"))
+
+    def test_text_that_cannot_be_read(self) -> None:
+        status, printed, error = run("--json", '["\u00e4" y]')
+        self.assertEqual((status, error), (2, ""))
+        told = {"answer": "none", "error": "bad rule text: expected `,` or `]`, found `y`"}
+        place = {"part": "rule", "start": 6, "end": 7, "column": 6, "text": '["\u00e4" y]'}
+        self.assertEqual(json.loads(printed), told | place)
+        for arguments, part in ((("--on", "["), "value"), (("--given", "w=["), "given w")):
+            _, printed, _ = run("w", "--json", *arguments)
+            told = json.loads(printed)
+            self.assertEqual((told["part"], told["text"]), (part, "["))
+
     def test_exit_status(self) -> None:
         statuses = {
             ("x",): 0,
@@ -206,7 +237,6 @@ class Runs(unittest.TestCase):
         for arguments, status in statuses.items():
             self.assertEqual(run("--json", *arguments)[0], status)
             self.assertEqual(run(*arguments)[0], status)
-        self.assertEqual(run("--json", "[x")[:2], (2, ""))
         self.assertEqual(run("--json", "--sheet", "x")[:2], (2, ""))
 
 

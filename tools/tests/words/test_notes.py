@@ -2,7 +2,16 @@ import unittest
 
 from rules.run.verdict import NoMatch
 from rules.tables.plansheet import Plansheet
-from rules.words.notes import AS_KEY, AS_VALUE, Note, notes_in_words, notes_of
+from rules.text.rule_text import Kind
+from rules.words.notes import (
+    AS_KEY,
+    AS_VALUE,
+    WHOLE,
+    Note,
+    NoteKind,
+    notes_in_words,
+    notes_of,
+)
 from tests.planners import PLANSHEET, asked, library, run, with_library, with_plansheet
 
 NEVER = "this rule never matches: "
@@ -15,7 +24,8 @@ def notes(rule: str, *options: str) -> list[Note]:
 def read(rule: str, *options: str) -> dict[str, int]:
     """The names that are noted as read without a value, with the byte of the place."""
     found = notes(rule, *options)
-    return {note.words.split("`")[1]: note.start for note in found if NEVER not in note.words}
+    reads = [note for note in found if note.kind is NoteKind.READS]
+    return {note.words.split("`")[1]: note.start for note in reads}
 
 
 def never(rule: str, *options: str) -> tuple[str, str] | None:
@@ -79,9 +89,27 @@ class Reads(unittest.TestCase):
         self.assertEqual(read("{k: v}", "--bound", "k"), {})
 
     def test_words(self) -> None:
-        self.assertEqual(notes("_ = y"), [Note(f"`y` {AS_VALUE}", 4, 5)])
-        self.assertEqual(notes("{k: v}"), [Note(f"`k` {AS_KEY}", 1, 2)])
+        self.assertEqual(notes("_ = y"), [Note(NoteKind.READS, f"`y` {AS_VALUE}", 4, 5)])
+        self.assertEqual(notes("{k: v}"), [Note(NoteKind.READS, f"`k` {AS_KEY}", 1, 2)])
         self.assertEqual(notes("x = y"), [])
+
+
+@with_library
+class Whole(unittest.TestCase):
+    def whole(self, rule: str, *options: str) -> list[Note]:
+        return [note for note in notes(rule, *options) if note.kind is NoteKind.WHOLE]
+
+    def test_no_pattern(self) -> None:
+        for rule in ("part.thickness >= 16", "count(parts) > 2", "walk(x, [p, v])", "(x)", "-x"):
+            for operation in ("pattern", "index", "parameter"):
+                note = Note(NoteKind.WHOLE, WHOLE[Kind.OTHER], 0, len(rule))
+                self.assertEqual(self.whole(rule, "--as", operation), [note])
+        note = Note(NoteKind.WHOLE, WHOLE[Kind.SET], 0, 3)
+        self.assertEqual(self.whole("{x}", "--bound", "x"), [note])
+
+    def test_patterns_and_assignments(self) -> None:
+        for rule in ("[f(x)]", "x", "18", "f(x) = y", "{1} = {2}", "some x in f(y)", "x := f(y)"):
+            self.assertEqual(self.whole(rule), [])
 
 
 @with_library
@@ -117,7 +145,7 @@ class Never(unittest.TestCase):
         self.assertEqual(never("some w in []"), (f"{NEVER}the collection is empty", "[]"))
         self.assertIsNone(never("some [w, w] in [[1, 2], [4, 4]]"))
         self.assertIsNone(never("some [w, w] in [[1, 2], y]"))
-        self.assertIsNone(never("some [w, w] in {[1, 2]}"))
+        self.assertEqual(never("some [w, w] in {[1, 2]}"), (one, "2"))
 
     def test_where_it_is_said_already(self) -> None:
         answer = asked("[w, w] = [18, 16]", "--run")
@@ -145,7 +173,7 @@ class Said(unittest.TestCase):
         self.assertEqual(
             printed.splitlines()[5:],
             [
-                "     5    compare w",
+                "     5    compare w, bound at column 2",
                 "note: `y` is read here, and nothing gives it a value",
                 "    [w, w] := [y, 16]",
                 "               ^",

@@ -15,7 +15,7 @@ class Plans(unittest.TestCase):
                 "column  plan",
                 "     1  array of 2 [w, w]",
                 "     2    bind w",
-                "     5    compare w",
+                "     5    compare w, bound at column 2",
             ],
         )
 
@@ -41,7 +41,7 @@ class Plans(unittest.TestCase):
                 "column  plan",
                 f"     1  object of 3, 4 written (a repeated key keeps its last field) {text}",
                 '    24    field 3, "a": bind x',
-                '    32    field 4, "b": compare f(y)',
+                '    32    field 4, "b": compare f(y), taken whole',
                 "     5    field 1, computed key k: array of 1 [_]",
                 "     6      ignore _",
             ],

@@ -18,6 +18,7 @@ class Refusals(unittest.TestCase):
                 "    [x] := [1, 2]",
                 "           ^^^^^^ the value's array",
                 "items expected by the pattern: 1, items of the value: 2",
+                "so the sides never match, whatever values the names have",
             ],
         )
 
@@ -29,9 +30,9 @@ class Refusals(unittest.TestCase):
             ("x", "6 0 1537 0"): "entries needed: 1537",
             ("x", "99 1 2 3"): "counts 2 and 3",
         }
-        for (text, lines), last in rules.items():
+        for (text, lines), counts in rules.items():
             with self.subTest(text=text):
-                self.assertEqual(words(text, lines)[-1], last)
+                self.assertIn(counts, words(text, lines)[-2:])
 
     def test_pattern_object_of_14(self) -> None:
         self.assertEqual(
@@ -41,6 +42,7 @@ class Refusals(unittest.TestCase):
                 "                ^^^^^^^^ the value's object",
                 '    {"a": x} := {"b": 1}',
                 "    ^^^^^^^^ the pattern's object",
+                "so the sides never match, whatever values the names have",
             ],
         )
 

@@ -1,16 +1,15 @@
 """A file of rules and its answers as a page for a browser: one file, no script, no network."""
 
-from collections.abc import Mapping, Sequence
+from collections.abc import Sequence
 from html import escape
 from pathlib import Path
 
-from rules.check.cards import rule_card, unreadable_card
 from rules.check.checking import Checked, Result
 from rules.check.lines import Unreadable
-from rules.check.marks import LEGEND, OF_RANGES
+from rules.check.page.cards import rule_card, unreadable_card
+from rules.check.page.marks import LEGEND, OF_RANGES
 from rules.check.report import tally_of
 from rules.text.source import shown
-from rules.words.notes import Note
 
 STYLE = Path(__file__).with_name("page.css")
 PAGE = """\
@@ -39,12 +38,11 @@ LEGEND_ITEM = '<li><span class="{kind}">{kind}</span> {says}</li>\n'
 SECTION = "<section>\n<h2>{heading}</h2>\n{cards}</section>\n"
 
 
-def page_of(name: str, results: Sequence[Result], notes: Mapping[int, Sequence[Note]]) -> str:
-    """The page; `notes` has those of the rules by their lines."""
+def page_of(name: str, results: Sequence[Result]) -> str:
     checked = [result for result in results if isinstance(result, Checked)]
     cards: dict[bool, list[str]] = {False: [], True: []}
     for result in checked:
-        cards[result.agrees].append(rule_card(result, notes[result.line.number]))
+        cards[result.agrees].append(rule_card(result))
     unreadable = [unreadable_card(line) for line in results if isinstance(line, Unreadable)]
     sections = [
         section("What differs", cards[False]),

@@ -8,7 +8,7 @@ import tempfile
 import unittest
 from pathlib import Path
 
-from tests.check.pages import HOSTILE, RULES, page_html
+from tests.check.page.pages import HOSTILE, RULES, page_html
 from tests.planners import with_library
 
 BROWSERS = (
@@ -60,7 +60,7 @@ class Browser(unittest.TestCase):
         self.page.write_text(page_html(RULES), encoding="utf-8")
         document = self.browse("--dump-dom")
         self.assertEqual(document.count("<article "), 10)
-        self.assertIn("9 rules, 2 differ, 1 line can't be read", document)
+        self.assertIn("9 rules, 2 differ, 1 note, 1 line can't be read", document)
         self.assertIn("no match: `w` is 18 (column 11), and 16 stands here", document)
 
     def test_hostile_text_stays_text(self) -> None:

@@ -6,16 +6,13 @@ from html import escape
 from typing import NamedTuple
 
 from rules.answer import Answer
+from rules.run.roles import BOUND, COMPARED, IGNORED, roles_of
 from rules.run.verdict import NoMatch, Sometimes
-from rules.tables.listing import Entry, EntryKind, Plan, Refusal
+from rules.tables.listing import Plan, Refusal
 from rules.tables.sheet import Sheet
-from rules.text.rule_text import Kind
 from rules.text.source import decoded, shown
 from rules.words.refusals import places_of
 
-BOUND = "bound"
-COMPARED = "compared"
-IGNORED = "ignored"
 PLACE = "place"
 MISS = "miss"
 RANGE = "range"
@@ -31,13 +28,6 @@ LEGEND = {
 # Said on pages that have it.
 OF_RANGES = {RANGE: "a number that is measured: a lowest and a highest"}
 TITLES = LEGEND | OF_RANGES
-OF_ENTRIES = {
-    EntryKind.BIND: BOUND,
-    EntryKind.IGNORE: IGNORED,
-    EntryKind.COMPARE_EXPRESSION: COMPARED,
-}
-EQUALITY_CHECK = 5
-WILDCARD = 6
 # Text that may run from right to left, up to the end of its string.
 FOREIGN = re.compile(r'[^\x00-\x7f](?:[^"`]*[^\x00-\x7f])?')
 
@@ -90,41 +80,11 @@ def marks_of(answer: Answer) -> Iterator[Mark]:
                 places = places_of(answer.sheet, last)
                 yield from (mark_of(answer.sheet, node, PLACE) for node, _ in places)
             case Plan():
-                yield from marks_of_plan(answer.sheet, last)
+                roles = roles_of(answer.sheet, last)
+                yield from (mark_of(answer.sheet, node, kind) for node, kind in roles)
     yield from (mark_of(answer.sheet, node, RANGE) for node in answer.sheet.ranges)
 
 
 def mark_of(sheet: Sheet, number: int, kind: str) -> Mark:
     node = sheet.node(number)
     return Mark(node.start, node.end, kind)
-
-
-def marks_of_plan(sheet: Sheet, plan: Plan) -> Iterator[Mark]:
-    for entry in plan.entries:
-        if entry.kind in OF_ENTRIES:
-            yield mark_of(sheet, entry.node, OF_ENTRIES[entry.kind])
-    for entry, below in zip(plan.entries, plan.entries[1:]):
-        if is_comparison(entry, below):
-            yield from names_in(sheet, entry.node)
-    first, second, _ = sheet.roots
-    if plan.form == EQUALITY_CHECK:
-        yield from names_in(sheet, first)
-        yield from names_in(sheet, second)
-    if plan.form == WILDCARD:
-        sides = ((first, 1), (second, 2))
-        yield from (mark_of(sheet, root, IGNORED) for root, side in sides if plan.side & side)
-
-
-def is_comparison(entry: Entry, below: Entry) -> bool:
-    """A pair in which neither side binds: its value side is compared too."""
-    return entry.kind is EntryKind.PAIR and below.kind is EntryKind.COMPARE_EXPRESSION
-
-
-def names_in(sheet: Sheet, number: int) -> Iterator[Mark]:
-    """The names at and below a node, and the other expressions there, as compared."""
-    kind = sheet.node(number).kind
-    if kind in (Kind.NAME, Kind.OTHER):
-        yield mark_of(sheet, number, COMPARED)
-    if kind in (Kind.ARRAY, Kind.SET, Kind.OBJECT):
-        for item in sheet.items_of(number):
-            yield from names_in(sheet, item)

@@ -6,16 +6,18 @@ from collections.abc import Iterable, Iterator, Sequence
 from rules.answer import Answer
 from rules.check.checking import Checked
 from rules.check.lines import Line, Unreadable
-from rules.check.marks import PLACE, Mark, html_of, marked_html, marks_of
+from rules.check.page.marks import PLACE, Mark, html_of, marked_html, marks_of
+from rules.parts.tally import PartsTally
 from rules.run.verdict import NoMatch, Sometimes
 from rules.tables.listing import Refusal
 from rules.tables.places import node_text
-from rules.tables.sheet import GIVEN, RULE, VALUE, Sheet
+from rules.tables.sheet import GIVEN, KEY, RULE, VALUE, Sheet
 from rules.text.source import decoded
+from rules.words.conclusions import conclusions_of
 from rules.words.notes import Note
 from rules.words.plans import Row, form_in_words, rows_of
 from rules.words.refusals import counts_in_words, meaning_in_words, places_of
-from rules.words.verdicts import choices_in_words
+from rules.words.verdicts import choices_in_words, step_line
 
 CARD = """\
 <article class="rule {status}" id="line-{number}">
@@ -40,9 +42,9 @@ def unreadable_card(line: Unreadable) -> str:
     return card("unreadable", line.number, content)
 
 
-def rule_card(result: Checked, notes: Sequence[Note]) -> str:
-    answer = [options(result.line), answer_list(result), *map(note, notes)]
-    said = "".join([*texts(result.answer, notes), *answer])
+def rule_card(result: Checked) -> str:
+    answer = [options(result.line), answer_list(result), *map(note, result.notes)]
+    said = "".join([*texts(result.answer, result.notes), *answer])
     content = f'<div>\n{said}</div>\n<div class="plan">\n{plan(result.answer)}</div>\n'
     return card("agrees" if result.agrees else "differs", result.line.number, content)
 
@@ -59,7 +61,8 @@ def texts(answer: Answer, notes: Sequence[Note]) -> Iterator[str]:
     """The parts of the text: the rule, then the value and what is given to names."""
     marks = [*marks_of(answer), *(Mark(note.start, note.end, PLACE) for note in notes)]
     for part in answer.sheet.parts:
-        label = {RULE: "", VALUE: "on ", GIVEN: f"given {decoded(part.name)} = "}[part.what]
+        given = f"given {decoded(part.name)} = "
+        label = {RULE: "", VALUE: "on ", GIVEN: given, KEY: "key "}[part.what]
         yield text_in_html(marked_html(part.text, marks, part.start), in_html(label))
 
 
@@ -89,7 +92,8 @@ def plan(answer: Answer) -> str:
     if isinstance(outcome, Refusal):
         return refusal(sheet, outcome)
     form = f"<p>planned as {in_html(form_in_words(sheet, outcome))}</p>\n"
-    return form + plan_list(rows_of(sheet, outcome)) + verdict(answer)
+    steps = "".join(f"<p>{in_html(step_line(step))}</p>\n" for step in answer.steps)
+    return form + plan_list(rows_of(sheet, outcome)) + (steps or verdict(answer))
 
 
 def verdict(answer: Answer) -> str:
@@ -101,13 +105,19 @@ def verdict(answer: Answer) -> str:
             return "".join(f"<p>{in_html(line.strip())}</p>\n" for line in lines)
         case Refusal() as refused:
             return refusal(answer.sheet, refused)
+        case PartsTally() as tally:
+            return "".join(f"<p>{in_html(line)}</p>\n" for line in [tally.in_words(), *tally.told])
         case _:
             return ""
 
 
 def refusal(sheet: Sheet, refused: Refusal) -> str:
     places = [f"{label}: {node_text(sheet, node)}" for node, label in places_of(sheet, refused)]
-    lines = [meaning_in_words(refused), *places, *counts_in_words(sheet, refused)]
+    follows = [
+        f"{words}: {node_text(sheet, node)}" if node else words
+        for words, node in conclusions_of(sheet, refused)
+    ]
+    lines = [meaning_in_words(refused), *places, *counts_in_words(sheet, refused), *follows]
     return "".join(f"<p>{in_html(line)}</p>\n" for line in lines)
 
 

@@ -3,7 +3,8 @@ import tempfile
 import unittest
 from pathlib import Path
 
-from tests.check.pages import HOSTILE, RULES, Page, page_html
+from rules.words.conclusions import NEVER
+from tests.check.page.pages import HOSTILE, RULES, Page, page_html
 from tests.planners import run, with_library
 
 
@@ -14,7 +15,7 @@ class Frame(unittest.TestCase):
         page = Page(html)
         self.assertEqual(page.faults, [])
         self.assertTrue(html.startswith('<!DOCTYPE html>\n<html lang="en">\n'))
-        self.assertEqual(page.title, "-: 9 rules, 2 differ, 1 line can't be read")
+        self.assertEqual(page.title, "-: 9 rules, 2 differ, 1 note, 1 line can't be read")
 
     def test_legend(self) -> None:
         html = page_html(RULES)
@@ -47,7 +48,7 @@ class Frame(unittest.TestCase):
             self.assertIn(f'<article class="rule {card}">\n', html)
         page = Page(page_html("x => pattern"))
         self.assertEqual((page.headings, page.title), (["As expected"], "-: 1 rule, 0 differ"))
-        self.assertEqual(Page(page_html("")).headings, [])
+        self.assertEqual(Page(page_html("x")).headings, ["What can\u2019t be read"])
 
     def test_page_that_cannot_be_written(self) -> None:
         with tempfile.TemporaryDirectory() as folder:
@@ -82,7 +83,7 @@ class Cards(unittest.TestCase):
             "foundbind left",
             "planned as bind left: the left side is matched with the value of parts",
             'object of 2 {"b": [w], "a": {w}} column 1',
-            'field 2, "a": compare {w} column 17',
+            'field 2, "a": compare {w}, taken whole column 17',
             'field 1, "b": array of 1 [w] column 7',
             "bind w column 8",
         ]
@@ -117,18 +118,22 @@ class Cards(unittest.TestCase):
         self.assertEqual(lines[-1], "no match: `w` is 18 (column 2), and 16 stands here")
         self.assertIn("foundmatch w=18", self.card("[w, w] = [18, 18] => match"))
         refused = self.card("x => refused 22 --on '[y]'")
-        self.assertEqual(refused[-2][:24], "refused, 22 not a value:")
-        self.assertEqual(refused[-1], "a name: y")
+        self.assertEqual(refused[-3][:24], "refused, 22 not a value:")
+        string = 'a string stands in double quotes: "y"'
+        self.assertEqual(refused[-2:], ["a name: y", string])
 
     def test_refusals(self) -> None:
         lines = self.card('{"a": x} := {"b": 1} => refused 14')
         self.assertEqual(lines[4][:39], "refused, 14 ObjectLiteralKeysMismatch: ")
         objects = ['the value\'s object: {"b": 1}', 'the pattern\'s object: {"a": x}']
-        self.assertEqual(lines[5:], objects)
+        self.assertEqual(lines[5:], [*objects, NEVER])
+        lines = self.card('{"a": x} := {"a": 1, "a": 1} => refused 14')
+        unproved = "whether the sides can match is not proved, as here stands a repeated key"
+        self.assertEqual(lines[-1], f'{unproved}: "a"')
         lines = self.card("[" + "1, " * 512 + "1] => refused 1")
         self.assertEqual(lines[-1], "numbers: 513, at most 256")
         lines = self.card("[x] := [] => refused 13")
-        self.assertEqual(lines[-1], "items expected by the pattern: 1, items of the value: 0")
+        self.assertEqual(lines[-2], "items expected by the pattern: 1, items of the value: 0")
 
     def test_notes(self) -> None:
         lines = self.card("_ = thickness => wildcard left")
