@@ -1,4 +1,5 @@
 -- The laws, and what the walks by hand share.
+pub mod Cells
 pub mod Locals
 pub mod Params
 pub mod Copying
