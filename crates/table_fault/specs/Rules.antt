@@ -1,4 +1,4 @@
--- The table check taken apart: its rules one by one, in a fixed order, each with what the check answers where it is broken, its places, and whether it is kept at a place.
+-- The table check taken apart: its rules one by one, in a fixed order. Each has the check's refusal, its places, and whether it is kept at one.
 use Prim.Native.Nat.{ℕ, _+_, _-_, _*_, _%_}
 use mathlib.Core.Bool.{Bool, true, cond, not, _&&_, _||_}
 use mathlib.Core.List.{List, [], _∷_}
@@ -54,6 +54,9 @@ rangeOk T kind first count =
     (cond (eqb kind 9) (inside first (count * 2) (T .children))
     true)))))))
 
+abbrev pub nodeRangeOk : Tables → ℕ → Bool
+nodeRangeOk T n = rangeOk T (kindOf (T .nodes) n) (firstOf (T .nodes) n) (countOf (T .nodes) n)
+
 -- of node j + 1
 abbrev pub kindOkAt : Tables → ℕ → Bool
 kindOkAt T j = kindListed (kindOf (T .nodes) (j + 1))
@@ -65,7 +68,7 @@ abbrev pub unusedOkAt : Tables → ℕ → Bool
 unusedOkAt T j = unusedZero (kindOf (T .nodes) (j + 1)) (firstOf (T .nodes) (j + 1)) (countOf (T .nodes) (j + 1))
 
 abbrev pub rangeOkAt : Tables → ℕ → Bool
-rangeOkAt T j = rangeOk T (kindOf (T .nodes) (j + 1)) (firstOf (T .nodes) (j + 1)) (countOf (T .nodes) (j + 1))
+rangeOkAt T j = nodeRangeOk T (j + 1)
 
 abbrev pub textOkAt : Tables → ℕ → Bool
 textOkAt T j = cond (eqb (kindOf (T .nodes) (j + 1)) 6) (nameTextOk T (j + 1)) true

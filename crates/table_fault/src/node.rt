@@ -7,9 +7,9 @@ ghost use mathlib.Core.List.{[]};
 ghost use Prim.Native.Nat.{_/_, _≤_};
 ghost use lib.Dec.{eqb, leb};
 ghost use lib.ListN.{length};
-ghost use Rattle.table.specs.Tables.{tables, kindOf, firstOf, countOf};
+ghost use Rattle.table.specs.Tables.{tables, kindOf};
 ghost use Rattle.table.specs.Rules.{nameTextOk};
-ghost use Rattle.table_fault.specs.Rules.{kindListed, unusedZero, rangeOk};
+ghost use Rattle.table_fault.specs.Rules.{kindListed, unusedZero, nodeRangeOk};
 use table::inner::node::in_range;
 use table::inner::node::name_text_ok;
 use table::node_kind;
@@ -68,7 +68,7 @@ pub(crate) fn range_ok<'a>(
     text: &'a [u8],
     node: u32,
 ) -> bool
-    ensures { λ r. let T = lent nodes children numbers names strings text in ⌜ r ≡ rangeOk T (kindOf (T .nodes) node) (firstOf (T .nodes) node) (countOf (T .nodes) node) ⌝ }
+    ensures { λ r. ⌜ r ≡ nodeRangeOk (lent nodes children numbers names strings text) node ⌝ }
 {
     let first = first_of(nodes, node) as usize;
     let count = count_of(nodes, node) as usize;
