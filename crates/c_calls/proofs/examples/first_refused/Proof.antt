@@ -3,19 +3,15 @@ use borrow.Author.Needs.{needs}
 use Rattle.c_calls.proofs.examples.first_refused.Statement.{statement}
 use Rattle.c_calls.proofs.examples.first_refused.Tie as tie
 
--- src/examples.rt:89:9
 are-listed-requires : tie.Need-are-listed-requires
 are-listed-requires c κs = search needs
 
--- src/examples.rt:90:9
 returns : tie.Need-returns
 returns c = search (first-unlisted, needs)
 
--- src/examples.rt:94:5
 refused-first-requires : tie.Need-refused-first-requires
 refused-first-requires c κs = search needs
 
--- src/examples.rt:76:1
 returns-2 : tie.Need-returns-2
 returns-2 c = search (first-listed, needs)
 

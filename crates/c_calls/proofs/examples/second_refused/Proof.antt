@@ -3,23 +3,18 @@ use borrow.Author.Needs.{needs}
 use Rattle.c_calls.proofs.examples.second_refused.Statement.{statement}
 use Rattle.c_calls.proofs.examples.second_refused.Tie as tie
 
--- src/examples.rt:110:9
 refused-side-requires : tie.Need-refused-side-requires
 refused-side-requires c κs = search needs
 
--- src/examples.rt:121:26
 enum-known-checked : tie.Need-enum-known-checked
 enum-known-checked c = search needs
 
--- src/examples.rt:122:56
 enum-told : tie.Need-enum-told
 enum-told c = search needs
 
--- src/examples.rt:98:1
 returns : tie.Need-returns
 returns c = search (second-first, needs)
 
--- src/examples.rt:98:1
 returns-2 : tie.Need-returns-2
 returns-2 c = search (second-marks, needs)
 
