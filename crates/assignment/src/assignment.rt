@@ -1,5 +1,4 @@
 // `:=` and `=` (assignment.rs).
-ghost use Rattle.base.specs.Lent.{old};
 ghost use Rattle.table.specs.Lent.{given, lent};
 ghost use Rattle.std.specs.Prelude.{◌≡◌, []};
 ghost use Rattle.table.specs.Tables.{kind_of};
@@ -31,7 +30,7 @@ const SMALL_NODE_WORDS: usize = 64 * 5;
 
 // An array against an object (ensure_structural_compatibility).
 fn structurally_incompatible(nodes: &[u32], a: u32, b: u32) -> bool
-    ensures { result ≡ opposed_kinds (kind_of (old nodes) a) (kind_of (old nodes) b) }
+    ensures { result ≡ opposed_kinds (kind_of nodes.now a) (kind_of nodes.now b) }
 {
     let left = kind_of(nodes, a);
     let right = kind_of(nodes, b);
@@ -179,7 +178,7 @@ fn colon_equals_in<'a>(
 }
 
 fn is_underscore(nodes: &[u32], names: &[u32], text: &[u8], node: u32) -> bool
-    ensures { result ≡ underscore_at (old nodes) (old names) (old text) node }
+    ensures { result ≡ underscore_at nodes.now names.now text.now node }
 {
     let kind = kind_of(nodes, node);
     if kind == node_kind::NAME {
@@ -195,7 +194,7 @@ fn is_underscore(nodes: &[u32], names: &[u32], text: &[u8], node: u32) -> bool
 
 // 1 where the left is `_`, 2 the right, 3 both, 0 neither.
 fn wildcard_side(nodes: &[u32], names: &[u32], text: &[u8], left: u32, right: u32) -> u32
-    ensures { result ≡ underscore_side (old nodes) (old names) (old text) left right }
+    ensures { result ≡ underscore_side nodes.now names.now text.now left right }
 {
     let at_left = is_underscore(nodes, names, text, left);
     let at_right = is_underscore(nodes, names, text, right);
@@ -228,7 +227,7 @@ fn bind_right<'a>(
     plan: &mut [u32],
 ) -> PlanAnswer
     requires { SidesAsksIn scratch (given nodes children numbers names strings text) states.now left right }
-    ensures { RightBoundIn plan scratch binders (lent nodes children numbers names strings text) (old states) left right reading result }
+    ensures { RightBoundIn plan scratch binders (lent nodes children numbers names strings text) states.now left right reading result }
 {
     let planned = preview_binding_plan(
         nodes, children, numbers, names, strings, text, states, right, 0, binders, scratch,

@@ -1,5 +1,4 @@
 // The entries of a scratch: delivered, and searched for names that this very scope has bound.
-ghost use Rattle.base.specs.Lent.{old};
 ghost use Rattle.std.specs.Prelude.{◌≡◌};
 ghost use Rattle.planner.specs.Entries.{read_entries};
 ghost use Rattle.planner.specs.Operations.{planned, AnsweredIn};
@@ -13,7 +12,7 @@ use table::reading::first_of;
 
 // Does an entry bind a name that this very scope has bound?
 fn bound_here(nodes: &[u32], scope: Scope, kind: u32, node: u32) -> bool
-    ensures { result ≡ binds_again (old nodes) scope kind node }
+    ensures { result ≡ binds_again nodes.now scope kind node }
 {
     if kind == entry_kind::BIND {
         let binding = scope.has_same_scope_binding(first_of(nodes, node));
@@ -29,7 +28,7 @@ fn bound_here(nodes: &[u32], scope: Scope, kind: u32, node: u32) -> bool
 // The node of the first such entry, or 0.
 pub(crate) fn first_same_scope(nodes: &[u32], scope: Scope, scratch: &[u32], count: usize) -> u32
     requires { ReadAsks scratch.now count }
-    ensures { result ≡ first_same_scope (old nodes) scope (read_entries (old scratch) 0 count) }
+    ensures { result ≡ first_same_scope nodes.now scope (read_entries scratch.now 0 count) }
 {
     let mut i: usize = 0;
     while i < count {
@@ -45,7 +44,7 @@ pub(crate) fn first_same_scope(nodes: &[u32], scope: Scope, scratch: &[u32], cou
 // The first entries of the scratch in the lent buffer.
 pub(crate) fn deliver(plan: &mut [u32], scratch: &[u32], form: u32, count: usize) -> PlanAnswer
     requires { ReadAsks scratch.now count }
-    ensures { AnsweredIn plan (planned form 0 (read_entries (old scratch) 0 count)) result }
+    ensures { AnsweredIn plan (planned form 0 (read_entries scratch.now 0 count)) result }
 {
     copy_entries(plan, 0, scratch, count);
     close(plan, form, count)

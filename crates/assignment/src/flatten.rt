@@ -1,5 +1,4 @@
 // The pairs of an `=` both of whose sides bind (assignment.rs, flatten_assignment_pairs).
-ghost use Rattle.base.specs.Lent.{old, new};
 ghost use Rattle.table.specs.Lent.{given, lent};
 ghost use Rattle.std.specs.Prelude.{◌≤◌, ◌^◌};
 ghost use Rattle.planner.specs.Entries.{read_entries};
@@ -28,7 +27,7 @@ pub(crate) enum Flattened {
 // The two sides compared, as a pair.
 fn compare_sides(plan: &mut [u32], at: usize, left: u32, right: u32) -> Flattened
     requires { at ≤ 2 ^ 32 }
-    ensures { Compared left right (old plan) at (new plan) result }
+    ensures { Compared left right plan.old at plan.new result }
 {
     put_entry(plan, at, entry_kind::PAIR, right, 1, 0, 0);
     put_entry(plan, at + 1, entry_kind::COMPARE_EXPRESSION, left, 0, 0, 1);
@@ -46,7 +45,7 @@ fn bind_planned(
     at: usize,
 ) -> Flattened
     requires { ReadAsks scratch.now count × (at ≤ 2 ^ 32) }
-    ensures { Bound value (read_entries (old scratch) 0 count) (old states) (old binders) (old plan) at (new states) (new plan) result }
+    ensures { Bound value (read_entries scratch.now 0 count) states.old binders.now plan.old at states.new plan.new result }
 {
     put_entry(plan, at, entry_kind::PAIR, value, 1, 0, 0);
     copy_entries(plan, at + 1, scratch, count);

@@ -1,5 +1,4 @@
 // What becomes of two sides.
-ghost use Rattle.base.specs.Lent.{old};
 ghost use Rattle.table.specs.Lent.{given, lent};
 ghost use Rattle.std.specs.Prelude.{◌≡◌, ◌||◌};
 ghost use Rattle.assignment.specs.declared.judge.Pairing.TheVariants.{Whole};
@@ -40,7 +39,7 @@ pub(crate) struct JudgedSides {
 
 // Two objects go by their keys if all of these are literals.
 fn objects_pairing(nodes: &[u32], children: &[u32], left: u32, right: u32) -> Pairing
-    ensures { result ≡ objects_pairing (old nodes) (old children) left right }
+    ensures { result ≡ objects_pairing nodes.now children.now left right }
 {
     if !literal_keys(nodes, children, left) {
         return Pairing::Whole;
@@ -52,7 +51,7 @@ fn objects_pairing(nodes: &[u32], children: &[u32], left: u32, right: u32) -> Pa
 }
 
 fn pairing_of(nodes: &[u32], children: &[u32], left: u32, right: u32) -> Pairing
-    ensures { result ≡ kinds_pairing (old nodes) (old children) left right }
+    ensures { result ≡ kinds_pairing nodes.now children.now left right }
 {
     let left_kind = kind_of(nodes, left);
     let right_kind = kind_of(nodes, right);
@@ -110,7 +109,7 @@ fn judge_sides(
     one: bool,
     other: bool,
 ) -> Judgement
-    ensures { result ≡ judgement_of one other (kinds_pairing (old nodes) (old children) left right) }
+    ensures { result ≡ judgement_of one other (kinds_pairing nodes.now children.now left right) }
 {
     if !either(one, other) {
         return Judgement::Compare;
@@ -138,7 +137,7 @@ pub(crate) fn judge<'a>(
     scratch: &mut [u32],
 ) -> JudgedSides
     requires { SidesAsksIn scratch (given nodes children numbers names strings text) states.now left right }
-    ensures { JudgesIn scratch binders (lent nodes children numbers names strings text) (old states) left right result.count result.way }
+    ensures { JudgesIn scratch binders (lent nodes children numbers names strings text) states.now left right result.count result.way }
 {
     let sides = preview_sides(
         nodes, children, numbers, names, strings, text, states, left, right, 1, binders, scratch,

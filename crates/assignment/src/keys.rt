@@ -1,5 +1,4 @@
 // The keys of two objects, held against each other.
-ghost use Rattle.base.specs.Lent.{old, new};
 ghost use Rattle.table.specs.Lent.{given, lent};
 ghost use Rattle.std.specs.Prelude.{◌≡◌};
 ghost use Rattle.assignment.specs.code.KeyMatching.{literal_keys, FindAsks, partner_of, MissingAsks, missing_from, KeysAsks, KeysMatched, FieldAsks, FieldSides};
@@ -27,7 +26,7 @@ pub(crate) struct NodePair {
 
 // Are all keys of an object literals?
 pub(crate) fn literal_keys(nodes: &[u32], children: &[u32], node: u32) -> bool
-    ensures { result ≡ literal_keys (old nodes) (old children) node }
+    ensures { result ≡ literal_keys nodes.now children.now node }
 {
     let first = first_of(nodes, node) as usize;
     let count = count_of(nodes, node) as usize;
@@ -122,7 +121,7 @@ pub(crate) fn collect_object_pairs<'a>(
     order: &mut [u8; 256],
 ) -> ObjectPairs
     requires { KeysAsks (given nodes children numbers names strings text) left right }
-    ensures { KeysMatched (lent nodes children numbers names strings text) left right (new order) result }
+    ensures { KeysMatched (lent nodes children numbers names strings text) left right order.new result }
 {
     let left_first = first_of(nodes, left) as usize;
     let left_count = count_of(nodes, left) as usize;

@@ -1,5 +1,4 @@
 // A side's plan, and the names that it binds.
-ghost use Rattle.base.specs.Lent.{old, new};
 ghost use Rattle.table.specs.Lent.{given, lent};
 ghost use Rattle.std.specs.Prelude.{◌<◌, ◌≡◌};
 ghost use Rattle.planner.specs.Layout.{binds_any};
@@ -27,7 +26,7 @@ pub(crate) struct Sides {
 
 // Does one of the first entries bind or ignore?
 pub(crate) fn introduces_binding(scratch: &[u32], count: usize) -> bool
-    ensures { result ≡ binds_any (read_entries (old scratch) 0 count) }
+    ensures { result ≡ binds_any (read_entries scratch.now 0 count) }
 {
     let mut i: usize = 0;
     while i < count {
@@ -65,7 +64,7 @@ pub(crate) fn preview_binding_plan<'a>(
     scratch: &mut [u32],
 ) -> Preview
     requires { PreviewAsksIn scratch (given nodes children numbers names strings text) states.now node }
-    ensures { PreviewedIn scratch binders (lent nodes children numbers names strings text) (old states) node position result.count result.binds }
+    ensures { PreviewedIn scratch binders (lent nodes children numbers names strings text) states.now node position result.count result.binds }
 {
     clear(binders);
     let planned = create_destructuring_plan_with_tracking(
@@ -110,7 +109,7 @@ pub(crate) fn preview_sides<'a>(
 // A name with a binder becomes known, `_` stays `_`.
 fn learn_name(states: &mut [u8; 128], binders: &[u32; 128], at: usize)
     requires { at < 128 }
-    ensures { LearntAt (old states) (old binders) at (new states) }
+    ensures { LearntAt states.old binders.now at states.new }
 {
     if states[at] == 1 {
         if binders[at] != 0 {
@@ -120,7 +119,7 @@ fn learn_name(states: &mut [u8; 128], binders: &[u32; 128], at: usize)
 }
 
 pub(crate) fn learn_names(states: &mut [u8; 128], binders: &[u32; 128])
-    ensures { Learnt (old states) (old binders) (new states) }
+    ensures { Learnt states.old binders.now states.new }
 {
     let mut i: usize = 0;
     while i < 128 {

@@ -1,6 +1,6 @@
 -- A whole rule body (request 14 of document 02): its lines planned in turn from one scope, at version 0; the answer, the scope and the plan buffer afterwards.
 use Rattle.std.specs.Prelude.{ℕ, ◌+◌, ◌≡◌, List, [], ◌∷◌, eqb, length}
-use Rattle.base.specs.Lent.{Slices}
+use Rattle.base.specs.Lent.{MutSlices}
 use Rattle.base.specs.Refusal.{Refusal, plan_too_large, not_a_body, name_not_ready, require_or, Line, line, refusal_line}
 use Rattle.scope.specs.declared.Scope.{Scope}
 use Rattle.scope.specs.Scope.{bind_variable}
@@ -101,5 +101,5 @@ pub record BodyAnswered (o : BodyOutcome) (s : Scope) (before after : List ℕ) 
   pub buffer : after ≡ body_written o before
 
 -- the same of a `&mut` buffer, at entry and at exit
-abbrev pub BodyAnsweredIn : Slices → Scope → BodyOutcome → BodyPlanned → Type 0
+abbrev pub BodyAnsweredIn : MutSlices → Scope → BodyOutcome → BodyPlanned → Type 0
 BodyAnsweredIn plan s o r = BodyAnswered o s plan.entry.now plan.exit.now r

@@ -1,5 +1,4 @@
 // What a plan binds is bound in the scope.
-ghost use Rattle.base.specs.Lent.{old, new};
 ghost use Rattle.std.specs.Prelude.{◌*◌, ◌≤◌, ◌≡◌, length};
 ghost use Rattle.planner.specs.Layout.{entry_words};
 ghost use Rattle.body.specs.code.Post.{bound_entry, learned, learned_entry, PlanBound};
@@ -11,7 +10,7 @@ use table::reading::first_of;
 
 // The name of a bind entry; any other entry binds none.
 pub(crate) fn bind_entry(nodes: &[u32], scope: Scope, kind: u32, node: u32) -> Scope
-    ensures { result ≡ bound_entry (old nodes) scope kind node }
+    ensures { result ≡ bound_entry nodes.now scope kind node }
 {
     if kind != entry_kind::BIND {
         return scope;
@@ -22,7 +21,7 @@ pub(crate) fn bind_entry(nodes: &[u32], scope: Scope, kind: u32, node: u32) -> S
 
 // A name that is bound is known; `_` stays.
 fn learn_name(states: &mut [u8; 128], name: u32)
-    ensures { new states ≡ learned (old states) name }
+    ensures { states.new ≡ learned states.old name }
 {
     if name < 1 {
         return;
@@ -37,7 +36,7 @@ fn learn_name(states: &mut [u8; 128], name: u32)
 
 // The states of all names, with the name of a bind entry known.
 pub(crate) fn learn_entry(nodes: &[u32], states: &mut [u8; 128], kind: u32, node: u32)
-    ensures { new states ≡ learned_entry (old nodes) (old states) kind node }
+    ensures { states.new ≡ learned_entry nodes.now states.old kind node }
 {
     if kind == entry_kind::BIND {
         learn_name(states, first_of(nodes, node));
@@ -53,7 +52,7 @@ pub(crate) fn bind_plan(
     count: usize,
 ) -> Scope
     requires { count * entry_words ≤ length plan.now }
-    ensures { PlanBound (old nodes) scope (old states) (old plan) count (new states) result }
+    ensures { PlanBound nodes.now scope states.old plan.now count states.new result }
 {
     let mut here = scope;
     let mut i: usize = 0;

@@ -4,7 +4,6 @@ pub mod lines;
 mod ready;
 mod sides;
 
-ghost use Rattle.base.specs.Lent.{old, new};
 ghost use Rattle.table.specs.Lent.{given, lent};
 ghost use Rattle.std.specs.Prelude.{◌≡◌, true};
 ghost use Rattle.body.specs.Lines.{is_body};
@@ -72,7 +71,7 @@ fn settle_line<'a>(
     plan: &mut [u32],
 ) -> LineStep
     requires { PlanHeld (given nodes children numbers names strings text) scope states.old plan.old entries }
-    ensures { SettledIn plan (new states) (lent nodes children numbers names strings text) scope operation line form side entries result }
+    ensures { SettledIn plan states.new (lent nodes children numbers names strings text) scope operation line form side entries result }
 {
     let name = line_unready(
         nodes, children, numbers, names, strings, text, scope, *states, operation, form, side,
@@ -113,7 +112,7 @@ fn plan_line<'a>(
     plan: &mut [u32],
 ) -> LineStep
     requires { StatesOf (given nodes children numbers names strings text) scope states.old }
-    ensures { LineDoneIn plan (new states) (lent nodes children numbers names strings text) scope operation line result }
+    ensures { LineDoneIn plan states.new (lent nodes children numbers names strings text) scope operation line result }
 {
     let answer = operation::plan(
         nodes, children, numbers, names, strings, text, scope, operation, REGO_V0, plan,
@@ -149,7 +148,7 @@ fn plan_lines<'a>(
     plan: &mut [u32],
 ) -> BodyPlanned
     requires { is_body lines.now ≡ true }
-    ensures { BodyAnsweredIn plan scope (body_outcome (lent nodes children numbers names strings text) scope (old lines) (old plan)) result }
+    ensures { BodyAnsweredIn plan scope (body_outcome (lent nodes children numbers names strings text) scope lines.now plan.old) result }
 {
     let count = lines.len() / LINE_WORDS;
     let mut here = scope;
@@ -201,7 +200,7 @@ pub fn plan_body<'a>(
     lines: &[u32],
     plan: &mut [u32],
 ) -> BodyPlanned
-    ensures { BodyAnsweredIn plan scope (body_outcome (lent nodes children numbers names strings text) scope (old lines) (old plan)) result }
+    ensures { BodyAnsweredIn plan scope (body_outcome (lent nodes children numbers names strings text) scope lines.now plan.old) result }
 {
     if is_body(lines) {
         return plan_lines(

@@ -1,5 +1,4 @@
 // The first name of a planned line that is not ready: on its value sides, then in its computed keys. Node 0 stands for none.
-ghost use Rattle.base.specs.Lent.{old, new};
 ghost use Rattle.table.specs.Lent.{given, lent};
 ghost use Rattle.std.specs.Prelude.{◌≡◌, cond, eqb};
 ghost use Rattle.body.specs.code.Post.{Asks, first_unknown, both_unknown, PlanHeld, pairs_found, keys_found, values_found, line_found};
@@ -90,7 +89,7 @@ fn pairs_unready<'a>(
     count: usize,
 ) -> u32
     requires { PlanHeld (given nodes children numbers names strings text) scope states plan.now count }
-    ensures { result ≡ pairs_found (lent nodes children numbers names strings text) scope (old plan) count }
+    ensures { result ≡ pairs_found (lent nodes children numbers names strings text) scope plan.now count }
 {
     let mut here = scope;
     let mut known = states;
@@ -141,7 +140,7 @@ fn scope_from(kind: u32, earlier: Scope, here: Scope) -> Scope
 }
 
 fn states_from(kind: u32, earlier: &mut [u8; 128], here: &[u8; 128])
-    ensures { new earlier ≡ cond (eqb kind 7) (old here) (old earlier) }
+    ensures { earlier.new ≡ cond (eqb kind 7) here.now earlier.old }
 {
     if kind == entry_kind::PAIR {
         *earlier = *here;
@@ -162,7 +161,7 @@ fn keys_unready<'a>(
     count: usize,
 ) -> u32
     requires { PlanHeld (given nodes children numbers names strings text) scope states plan.now count }
-    ensures { result ≡ keys_found (lent nodes children numbers names strings text) scope (old plan) count }
+    ensures { result ≡ keys_found (lent nodes children numbers names strings text) scope plan.now count }
 {
     let mut earlier = scope;
     let mut here = scope;
@@ -214,7 +213,7 @@ fn values_unready<'a>(
     count: usize,
 ) -> u32
     requires { PlanHeld (given nodes children numbers names strings text) scope states plan.now count }
-    ensures { result ≡ values_found (lent nodes children numbers names strings text) scope operation form side (old plan) count }
+    ensures { result ≡ values_found (lent nodes children numbers names strings text) scope operation form side plan.now count }
 {
     let sides = sides_of(operation, form, side);
     if sides.pairs {
@@ -253,7 +252,7 @@ pub(crate) fn line_unready<'a>(
     count: usize,
 ) -> u32
     requires { PlanHeld (given nodes children numbers names strings text) scope states plan.now count }
-    ensures { result ≡ line_found (lent nodes children numbers names strings text) scope operation form side (old plan) count }
+    ensures { result ≡ line_found (lent nodes children numbers names strings text) scope operation form side plan.now count }
 {
     let found = values_unready(
         nodes, children, numbers, names, strings, text, scope, states, operation, form, side, plan,

@@ -1,7 +1,7 @@
 -- The call for a rule body (request 14 of document 02): what is refused first, the answer's five numbers in the lent words, the plan buffer and the marks afterwards.
 use Rattle.std.specs.Prelude.{ℕ, ◌≡◌, cond, List, leb, ltb, length, get_or, set}
 use Rattle.base.specs.Lists.{tabulate}
-use Rattle.base.specs.Lent.{Slices, old, new}
+use Rattle.base.specs.Lent.{Slices, MutSlices, old, new}
 use Rattle.base.specs.Refusal.{over_limit, layout_broken, not_a_body, Tested, passed, require, tested_or}
 use Rattle.scope.specs.declared.Scope.{Scope}
 use Rattle.scope.specs.Bytes as Bytes
@@ -53,6 +53,6 @@ pub record BodyCalled (o : BodyOutcome) (marks buffer words marksExit bufferExit
   pub plan : bufferExit ≡ body_written o buffer
   pub kept : marksExit ≡ marks_after o marks
 
-abbrev pub BodyCalledIn : Slices → Slices → Slices → Tables → ℕ → Slices → ℕ → Type 0
+abbrev pub BodyCalledIn : MutSlices → MutSlices → MutSlices → Tables → ℕ → Slices → ℕ → Type 0
 BodyCalledIn marks plan answer T scheduler lines r =
-    BodyCalled (body_call T (old marks) scheduler (old lines) (old plan)) (old marks) (old plan) (old answer) (new marks) (new plan) (new answer) r
+    BodyCalled (body_call T (old marks) scheduler lines.entry.now (old plan)) (old marks) (old plan) (old answer) (new marks) (new plan) (new answer) r

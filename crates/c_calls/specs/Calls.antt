@@ -1,6 +1,6 @@
 -- The calls over tables: what is refused first, the answer's numbers in the lent words, and every other lent list afterwards.
 use Rattle.std.specs.Prelude.{ℕ, Bool, ◌≡◌, List}
-use Rattle.base.specs.Lent.{Slices, old, new}
+use Rattle.base.specs.Lent.{Slices, MutSlices, old, new}
 use Rattle.base.specs.Refusal.{Line, line, refusal_line, tested_or}
 use Rattle.scope.specs.Scope.{known}
 use Rattle.table.specs.Tables.{Tables}
@@ -27,9 +27,9 @@ pub record PlanCalled (o : Outcome) (buffer words bufferExit wordsExit : List �
   pub plan : bufferExit ≡ written o buffer
 
 -- the same of what is lent, at entry and at exit
-abbrev pub PlanCalledIn : Slices → Slices → Tables → Slices → ℕ → ℕ → ℕ → ℕ → ℕ → ℕ → ℕ → ℕ → Type 0
+abbrev pub PlanCalledIn : MutSlices → MutSlices → Tables → Slices → ℕ → ℕ → ℕ → ℕ → ℕ → ℕ → ℕ → ℕ → Type 0
 PlanCalledIn plan answer T marks operation scheduler scoping first second key version r =
-    PlanCalled (plan_call T (old marks) (given_numbers operation scheduler scoping first second key) version) (old plan) (old answer) (new plan) (new answer) r
+    PlanCalled (plan_call T marks.entry.now (given_numbers operation scheduler scoping first second key) version) (old plan) (old answer) (new plan) (new answer) r
 
 -- Run: the same first.
 abbrev pub run_call : Tables → List ℕ → ℕ → ℕ → ℕ → ℕ → List ℕ → RunOutcome
@@ -51,9 +51,9 @@ pub record RunCalled (names : ℕ → Bool) (o : RunOutcome) (values buffer word
   pub plan : bufferExit ≡ plan_after o buffer
   pub list : valuesExit ≡ values_after names o buffer values
 
-abbrev pub RunCalledIn : Slices → Slices → Slices → Tables → Slices → ℕ → ℕ → ℕ → ℕ → ℕ → Type 0
+abbrev pub RunCalledIn : MutSlices → MutSlices → MutSlices → Tables → Slices → ℕ → ℕ → ℕ → ℕ → ℕ → Type 0
 RunCalledIn values plan answer T marks scheduler scoping pattern value r =
-    RunCalled (names_set T (old marks) scheduler scoping pattern) (run_call T (old marks) scheduler scoping pattern value (old values))
+    RunCalled (names_set T marks.entry.now scheduler scoping pattern) (run_call T marks.entry.now scheduler scoping pattern value (old values))
     (old values) (old plan) (old answer) (new values) (new plan) (new answer) r
 
 -- The names report: the same first.
@@ -70,6 +70,6 @@ pub record ReportCalled (T : Tables) (marks : List ℕ) (scheduler scoping patte
   pub answer : Told (report_answer (report_call T marks scheduler scoping pattern before)) words wordsExit r
   pub list : after ≡ list_after T marks scheduler scoping pattern before
 
-abbrev pub ReportCalledIn : Slices → Slices → Tables → Slices → ℕ → ℕ → ℕ → ℕ → Type 0
+abbrev pub ReportCalledIn : MutSlices → MutSlices → Tables → Slices → ℕ → ℕ → ℕ → ℕ → Type 0
 ReportCalledIn list answer T marks scheduler scoping pattern r =
-    ReportCalled T (old marks) scheduler scoping pattern (old list) (old answer) (new list) (new answer) r
+    ReportCalled T marks.entry.now scheduler scoping pattern (old list) (old answer) (new list) (new answer) r

@@ -1,7 +1,7 @@
 -- The call for the common example (request 13 of document 02): what is given of each side, the refusals in their order, the answer's four numbers in the lent words and the two lists afterwards.
 use Rattle.std.specs.Prelude.{ℕ, ◌≤◌, ◌≡◌, List}
 use Rattle.std.proofs.Math.Option.{some}
-use Rattle.base.specs.Lent.{Slices, old, new}
+use Rattle.base.specs.Lent.{Slices, MutSlices, old, new}
 use Rattle.base.specs.Refusal as Refusal
 use Rattle.base.specs.Refusal.{breaks_rules, layout_broken, Tested, passed, require, tested_or, Line, line, refusal_line, tested_line}
 use Rattle.scope.specs.Bytes.{conversion_of, convertible, converted}
@@ -25,7 +25,7 @@ pub record GivenSide : Type 0 where
   pub values : List ℕ
 
 abbrev pub given_side : Slices → ℕ → ℕ → ℕ → Slices → GivenSide
-given_side marks scheduler scoping pattern values = record { marks = old marks; scheduler = scheduler; scoping = scoping; pattern = pattern; values = old values }
+given_side marks scheduler scoping pattern values = record { marks = marks.entry.now; scheduler = scheduler; scoping = scoping; pattern = pattern; values = values.entry.now }
 
 abbrev pub numbers_in : GivenSide → OperationNumbers
 numbers_in g = pattern_numbers g.scheduler g.scoping g.pattern
@@ -54,7 +54,7 @@ pub record ExampleCalled (T : Tables) (o : ExampleOutcome) (nodes children words
   pub nodes_are : nodesExit ≡ nodes_after T o nodes children
   pub children_are : childrenExit ≡ children_after T o nodes children
 
-abbrev pub ExampleCalledIn : Tables → GivenSide → GivenSide → Slices → Slices → Slices → ℕ → Type 0
+abbrev pub ExampleCalledIn : Tables → GivenSide → GivenSide → MutSlices → MutSlices → MutSlices → ℕ → Type 0
 ExampleCalledIn T g₁ g₂ nodes children answer r =
     ExampleCalled T (example_call T g₁ g₂) (old nodes) (old children) (old answer) (new nodes) (new children) (new answer) r
 
@@ -76,12 +76,12 @@ pub record SecondRefused (T : Tables) (s : PatternSide) (r : ExampleAnswer) : Ty
   pub answer : some (example_result r) ≡ tested_result (tested_or Refusal.refused (side_checked T s) (Refusal.refused breaks_rules))
 
 abbrev pub SecondRefusedIn : Tables → ScopedPattern → Slices → ExampleAnswer → Type 0
-SecondRefusedIn T p values r = SecondRefused T (pattern_side p (old values)) r
+SecondRefusedIn T p values r = SecondRefused T (pattern_side p values.entry.now) r
 
 -- the example, with what the conversion of the second side's marks says between the two sides' checks.
 abbrev pub marked_outcome : Tables → PatternSide → Tested → PatternSide → ExampleOutcome
 marked_outcome T s₁ made s₂ = tested_or refused (side_checked T s₁) (tested_or refused made (tested_or refused (side_checked T s₂) (example_from T s₁ s₂)))
 
-abbrev pub MarkedIn : Tables → ScopedPattern → Slices → Tested → ScopedPattern → Slices → Slices → Slices → ExampleAnswer → Type 0
+abbrev pub MarkedIn : Tables → ScopedPattern → Slices → Tested → ScopedPattern → Slices → MutSlices → MutSlices → ExampleAnswer → Type 0
 MarkedIn T p values₁ made q values₂ nodes children r =
-    Gives T (marked_outcome T (pattern_side p (old values₁)) made (pattern_side q (old values₂))) (old nodes) (old children) (new nodes) (new children) r
+    Gives T (marked_outcome T (pattern_side p values₁.entry.now) made (pattern_side q values₂.entry.now)) (old nodes) (old children) (new nodes) (new children) r

@@ -1,6 +1,6 @@
 -- The first miss over tables: what is given beside the tables is tested first, as for a run; 100 comes with the value's node, the pattern's node and why.
 use Rattle.std.specs.Prelude.{ℕ, List}
-use Rattle.base.specs.Lent.{Slices, old, new}
+use Rattle.base.specs.Lent.{Slices, MutSlices, old, new}
 use Rattle.base.specs.Refusal.{Line, line, refusal_line, tested_or}
 use Rattle.table.specs.Tables.{Tables}
 use Rattle.operation.specs.Numbers.{scoping_of}
@@ -34,6 +34,6 @@ miss_call T marks scheduler scoping pattern value values =
 pub record MissCalled (o : MissResult) (words wordsExit : List ℕ) (r : ℕ) : Type 0 where
   pub answer : Told (miss_line o) words wordsExit r
 
-abbrev pub MissCalledIn : Slices → Slices → Tables → Slices → ℕ → ℕ → ℕ → ℕ → ℕ → Type 0
+abbrev pub MissCalledIn : Slices → MutSlices → Tables → Slices → ℕ → ℕ → ℕ → ℕ → ℕ → Type 0
 MissCalledIn values answer T marks scheduler scoping pattern value r =
-    MissCalled (miss_call T (old marks) scheduler scoping pattern value (old values)) (old answer) (new answer) r
+    MissCalled (miss_call T marks.entry.now scheduler scoping pattern value values.entry.now) (old answer) (new answer) r

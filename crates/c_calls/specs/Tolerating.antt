@@ -1,6 +1,6 @@
 -- The run with tolerances over tables: what is given beside the tables is tested first, as for a run; sometimes is 101 and never 100.
 use Rattle.std.specs.Prelude.{ℕ, ◌≡◌, List, T as True}
-use Rattle.base.specs.Lent.{Slices, old, new}
+use Rattle.base.specs.Lent.{Slices, MutSlices, old, new}
 use Rattle.base.specs.Refusal.{Line, line, refusal_line, tested_or}
 use Rattle.table.specs.Tables.{Tables}
 use Rattle.operation.specs.Numbers.{scoping_of}
@@ -33,6 +33,6 @@ module _ (T : Tables) (marks : List ℕ) (scheduler scoping pattern value : ℕ)
     pub plan : bufferExit ≡ plan_left (tolerance_call answer) buffer
     pub list : valuesExit ≡ values_left (names_set T marks scheduler scoping pattern) (tolerance_call answer) buffer values
 
-abbrev pub ToleratedIn : Slices → Slices → Slices → Slices → Slices → Tables → Slices → ℕ → ℕ → ℕ → ℕ → ℕ → Type 0
+abbrev pub ToleratedIn : MutSlices → Slices → Slices → MutSlices → MutSlices → Tables → Slices → ℕ → ℕ → ℕ → ℕ → ℕ → Type 0
 ToleratedIn values lows highs plan answer T marks scheduler scoping pattern value r =
-    Tolerated T (old marks) scheduler scoping pattern value (old values) (old lows) (old highs) (old plan) (old answer) (new values) (new plan) (new answer) r
+    Tolerated T marks.entry.now scheduler scoping pattern value (old values) lows.entry.now highs.entry.now (old plan) (old answer) (new values) (new plan) (new answer) r

@@ -1,5 +1,4 @@
 // An answer's four numbers.
-ghost use Rattle.base.specs.Lent.{old, new};
 ghost use Rattle.std.specs.Prelude.{◌≡◌, ◌≤◌};
 ghost use Rattle.base.specs.Refusal.{line};
 ghost use Rattle.run.specs.Answer.{result_of};
@@ -58,7 +57,7 @@ pub(crate) fn report_row(answer: ReportAnswer) -> Row
 // A refusal without place and counts.
 pub(crate) fn refuse(answer: &mut [u32], number: u32) -> u32
     requires { number ≤ 7 }
-    ensures { Told (line number 0 0 0) (old answer) (new answer) result }
+    ensures { Told (line number 0 0 0) answer.old answer.new result }
 {
     tell(answer, row_from(number as u64, 0, 0, 0))
 }

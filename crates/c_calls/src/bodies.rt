@@ -1,5 +1,4 @@
 // The call for a rule body over lent tables.
-ghost use Rattle.base.specs.Lent.{old, new};
 ghost use Rattle.table.specs.Lent.{lent};
 ghost use Rattle.std.specs.Prelude.{◌≡◌, cond, eqb};
 ghost use Rattle.base.specs.Refusal.{line, tested_line};
@@ -20,7 +19,7 @@ use table::limits::within_limits;
 
 // 7 or 37, or 0.
 fn words_first(scheduler: u32, lines: &[u32]) -> u32
-    ensures { line result 0 0 0 ≡ tested_line (words_first scheduler (old lines)) }
+    ensures { line result 0 0 0 ≡ tested_line (words_first scheduler lines.now) }
 {
     if 1 < scheduler {
         return 7;
@@ -51,7 +50,7 @@ fn marks_first<'a>(
 
 // The marks of the scope, as far as there is space.
 fn put_marks(marks: &mut [u8], scope: Scope)
-    ensures { new marks ≡ marks_in scope (old marks) }
+    ensures { marks.new ≡ marks_in scope marks.old }
 {
     let bytes = scope.to_bytes();
     let all = bytes.marks;
@@ -67,7 +66,7 @@ fn put_marks(marks: &mut [u8], scope: Scope)
 
 // They are written after an accepted body, whose number is 0.
 fn keep_marks(marks: &mut [u8], number: u64, scope: Scope)
-    ensures { new marks ≡ cond (eqb number 0) (marks_in scope (old marks)) (old marks) }
+    ensures { marks.new ≡ cond (eqb number 0) (marks_in scope marks.old) marks.old }
 {
     if number != 0 {
         return;
@@ -112,7 +111,7 @@ fn body_row(answer: BodyAnswer) -> BodyRow
 // Puts the five numbers into the lent words and returns the first.
 fn tell_body(answer: &mut [u32], row: Row, line: u32) -> u32
     requires { ShortLine (row_line row) }
-    ensures { ToldBody (body_line (row_line row) line) (old answer) (new answer) result }
+    ensures { ToldBody (body_line (row_line row) line) answer.old answer.new result }
 {
     let number = tell(answer, row);
     put_word(answer, 4, line);

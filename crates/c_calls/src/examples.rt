@@ -1,5 +1,4 @@
 // The common example over lent tables: a value that two patterns both match.
-ghost use Rattle.base.specs.Lent.{old};
 ghost use Rattle.table.specs.Lent.{lent};
 ghost use Rattle.std.specs.Prelude.{◌≡◌};
 ghost use Rattle.scope.specs.Bytes.{conversion_of};
@@ -47,7 +46,7 @@ struct HostSide {
 }
 
 fn host_side(marks: &[u8], scheduler: u32, scoping: u32, pattern: u32) -> HostSide
-    ensures { OfHost (old marks) scheduler scoping pattern result }
+    ensures { OfHost marks.now scheduler scoping pattern result }
 {
     let converted = scope_of(marks, scheduler);
     let made = converted.answer;

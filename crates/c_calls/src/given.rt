@@ -1,5 +1,4 @@
 // What a C host gives beside the tables: marks as bytes, the operation as numbers.
-ghost use Rattle.base.specs.Lent.{old};
 ghost use Rattle.std.specs.Prelude.{◌≡◌, get_or};
 ghost use Rattle.base.specs.Refusal.{tested_line};
 ghost use Rattle.scope.specs.Bytes.{conversion_of, ConvertedFrom};
@@ -11,7 +10,7 @@ use scope::{ByteScope, ConversionAnswer, Converted, Scope};
 use table::limits::within_limits;
 
 fn mark_at(marks: &[u8], i: usize) -> u8
-    ensures { result ≡ get_or (old marks) i 0 }
+    ensures { result ≡ get_or marks.now i 0 }
 {
     if i < marks.len() {
         return marks[i];
@@ -20,7 +19,7 @@ fn mark_at(marks: &[u8], i: usize) -> u8
 }
 
 fn marks_of(marks: &[u8]) -> [u8; 128]
-    ensures { result ≡ marks_of (old marks) }
+    ensures { result ≡ marks_of marks.now }
 {
     let mut all = [0u8; 128];
     let mut i: usize = 0;
@@ -33,7 +32,7 @@ fn marks_of(marks: &[u8]) -> [u8; 128]
 
 // `_` is told by its bytes: the scope needs no number of it.
 pub(crate) fn scope_of(marks: &[u8], scheduler: u32) -> Converted
-    ensures { ConvertedFrom (byte_scope_of (old marks) scheduler) result }
+    ensures { ConvertedFrom (byte_scope_of marks.now scheduler) result }
 {
     Scope::from_bytes(ByteScope {
         marks: marks_of(marks),

@@ -1,5 +1,4 @@
 // Fields of two objects under equal literal keys.
-ghost use Rattle.base.specs.Lent.{old, new};
 ghost use Rattle.base.specs.Lists.{all_from};
 ghost use Rattle.table.specs.Lent.{given, lent};
 ghost use Rattle.std.specs.Prelude.{◌≡◌, ◌≤◌};
@@ -63,7 +62,7 @@ pub(crate) fn pattern_at<'a>(
 }
 
 fn mark(marks: &mut [u32], place: usize)
-    ensures { MarkedAt place (old marks) (new marks) }
+    ensures { MarkedAt place marks.old marks.new }
 {
     if place < marks.len() {
         marks[place] = 1;
@@ -86,7 +85,7 @@ fn mark_partners<'a>(
     marks: &mut [u32; 256],
 )
     requires { FieldsAsks (given nodes children numbers names strings text) pattern value order.now literals total × Unmarked marks.old }
-    ensures { Marked (lent nodes children numbers names strings text) pattern value literals (new marks) }
+    ensures { Marked (lent nodes children numbers names strings text) pattern value literals marks.new }
 {
     let first = first_of(nodes, value) as usize;
     let count = count_of(nodes, value) as usize;
@@ -103,7 +102,7 @@ fn mark_partners<'a>(
 
 fn all_marked(marks: &[u32; 256], size: usize) -> bool
     requires { size ≤ 256 }
-    ensures { result ≡ all_from (is_marked (old marks)) 0 size }
+    ensures { result ≡ all_from (is_marked marks.now) 0 size }
 {
     let mut q: usize = 0;
     while q < size {

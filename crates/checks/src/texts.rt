@@ -1,5 +1,4 @@
 // The literal keys of two objects, by their texts.
-ghost use Rattle.base.specs.Lent.{old, new};
 ghost use Rattle.table.specs.Lent.{given, lent, lent_literal, lent_referred};
 ghost use Rattle.std.specs.Prelude.{◌≡◌, ◌≤◌};
 ghost use Rattle.literal.specs.Text.{texts_compared};
@@ -56,7 +55,7 @@ fn find_text<'a>(
     key: LiteralRef,
 ) -> usize
     requires { TextAsksIn nodes numbers strings text keys size key }
-    ensures { TextPlace (lent_literal nodes numbers strings text) (old keys) size (lent_referred numbers strings text key) result }
+    ensures { TextPlace (lent_literal nodes numbers strings text) keys.now size (lent_referred numbers strings text key) result }
 {
     let mut low: usize = 0;
     let mut high = size;
@@ -82,7 +81,7 @@ fn add_key<'a>(
     size: usize,
 ) -> usize
     requires { AddKeyAsks nodes.now (literal_node nodes.now numbers.now strings.now text.now) key keys.old size }
-    ensures { KeyAdded (literal_node (old nodes) (old numbers) (old strings) (old text)) key (old keys) size (new keys) result }
+    ensures { KeyAdded (literal_node nodes.now numbers.now strings.now text.now) key keys.old size keys.new result }
 {
     let Key::Literal(literal) = extract_literal_key(nodes, key) else {
         return size;
@@ -106,7 +105,7 @@ fn sort_ordered<'a>(
     keys: &mut [u32; 256],
 ) -> usize
     requires { OrderedAsks (given nodes children numbers names strings text) first order.now total }
-    ensures { let T = lent nodes children numbers names strings text in SortedKeys T (ordered_key T first (old order)) total (old keys) (new keys) result }
+    ensures { let T = lent nodes children numbers names strings text in SortedKeys T (ordered_key T first order.now) total keys.old keys.new result }
 {
     let mut size: usize = 0;
     let mut q = total;
@@ -131,7 +130,7 @@ fn sort_written<'a>(
     keys: &mut [u32; 256],
 ) -> usize
     requires { OrderAsks (given nodes children numbers names strings text) first count }
-    ensures { let T = lent nodes children numbers names strings text in SortedKeys T (field_key T first) count (old keys) (new keys) result }
+    ensures { let T = lent nodes children numbers names strings text in SortedKeys T (field_key T first) count keys.old keys.new result }
 {
     let mut size: usize = 0;
     let mut i = count;
@@ -155,7 +154,7 @@ fn same_texts<'a>(
     n: usize,
 ) -> bool
     requires { m ≤ 256 }
-    ensures { result ≡ texts_agree (literal_node (old nodes) (old numbers) (old strings) (old text)) (old a) m (old b) n }
+    ensures { result ≡ texts_agree (literal_node nodes.now numbers.now strings.now text.now) a.now m b.now n }
 {
     if m != n {
         return false;
@@ -189,7 +188,7 @@ fn compare_texts<'a>(
     others: &mut [u32; 256],
 ) -> ComparedKeys
     requires { BothAsks (given nodes children numbers names strings text) first order.now total from size }
-    ensures { TextsComparedBy (lent nodes children numbers names strings text) first (old order) total from size result × WorkingSpaces keys others }
+    ensures { TextsComparedBy (lent nodes children numbers names strings text) first order.now total from size result × WorkingSpaces keys others }
 {
     let literals = sort_ordered(
         nodes, children, numbers, names, strings, text, first, order, total, keys,
@@ -220,7 +219,7 @@ pub(crate) fn compare_object_keys<'a>(
     others: &mut [u32; 256],
 ) -> ComparedKeys
     requires { ObjectsAsks (given nodes children numbers names strings text) pattern value }
-    ensures { KeysComparedBy (lent nodes children numbers names strings text) pattern value (new order) result × WorkingSpaces keys others }
+    ensures { KeysComparedBy (lent nodes children numbers names strings text) pattern value order.new result × WorkingSpaces keys others }
 {
     let first = first_of(nodes, pattern) as usize;
     let count = count_of(nodes, pattern) as usize;

@@ -1,5 +1,4 @@
 // Decimal forms.
-ghost use Rattle.base.specs.Lent.{old};
 ghost use Rattle.std.specs.Prelude.{◌≡◌};
 ghost use Rattle.columns.specs.Columns.{after_blanks};
 ghost use Rattle.columns.specs.code.Decimals.{digits_number, read_decimal};
@@ -12,7 +11,7 @@ pub(crate) enum Decimal {
 }
 
 pub(crate) fn after_blanks(bytes: &[u8]) -> &[u8]
-    ensures { result.now ≡ after_blanks (old bytes) }
+    ensures { result.now ≡ after_blanks bytes.now }
 {
     let mut i: usize = 0;
     while i < bytes.len() {
@@ -26,7 +25,7 @@ pub(crate) fn after_blanks(bytes: &[u8]) -> &[u8]
 
 // What digits say. 1844674407370955161 is the last number of which ten times are below 2^64.
 fn digits_number(bytes: &[u8]) -> Decimal
-    ensures { result ≡ digits_number 0 (old bytes) }
+    ensures { result ≡ digits_number 0 bytes.now }
 {
     let mut n: u64 = 0;
     let mut i: usize = 0;
@@ -52,7 +51,7 @@ fn digits_number(bytes: &[u8]) -> Decimal
 }
 
 pub(crate) fn read_decimal(bytes: &[u8]) -> Decimal
-    ensures { result ≡ read_decimal (old bytes) }
+    ensures { result ≡ read_decimal bytes.now }
 {
     if bytes.len() == 0 {
         return Decimal::NoNumber;

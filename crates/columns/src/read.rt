@@ -1,5 +1,4 @@
 // The reading of columns.
-ghost use Rattle.base.specs.Lent.{old};
 ghost use Rattle.std.specs.Prelude.{◌≡◌, [], ◌∷◌, ◌≤◌, length};
 ghost use Rattle.columns.specs.Columns.{after_blanks, read_column, six_column, column_bytes, column_at, signed_column_at, signed_number};
 ghost use Rattle.columns.specs.code.Decimals.{are_blank, column_word};
@@ -9,7 +8,7 @@ use crate::{Column, SignedColumn};
 
 // Empty for a column that is not all there.
 fn column_bytes(bytes: &[u8], at: usize, width: usize) -> &[u8]
-    ensures { result.now ≡ column_bytes (old bytes) at width }
+    ensures { result.now ≡ column_bytes bytes.now at width }
 {
     if bytes.len() < width {
         return &bytes[0..0];
@@ -52,7 +51,7 @@ fn read_two(tens: u8, units: u8) -> u32
 
 fn read_six(bytes: &[u8]) -> u32
     requires { length bytes.now ≤ 6 }
-    ensures { result ≡ column_word (read_column (old bytes)) }
+    ensures { result ≡ column_word (read_column bytes.now) }
 {
     match read_decimal(after_blanks(bytes)) {
         Decimal::Number(n) => n as u32,
@@ -62,7 +61,7 @@ fn read_six(bytes: &[u8]) -> u32
 
 fn column_word(bytes: &[u8]) -> u32
     requires { length bytes.now ≡ 6 }
-    ensures { result ≡ column_word (read_column (old bytes)) }
+    ensures { result ≡ column_word (read_column bytes.now) }
 {
     if are_blank(bytes[0], bytes[1], bytes[2], bytes[3]) {
         return read_two(bytes[4], bytes[5]);
@@ -72,7 +71,7 @@ fn column_word(bytes: &[u8]) -> u32
 
 // The number that six bytes say; of more or fewer, none.
 pub fn column_of(bytes: &[u8]) -> Column
-    ensures { result ≡ six_column (old bytes) }
+    ensures { result ≡ six_column bytes.now }
 {
     if bytes.len() != 6 {
         return Column::Unreadable;
@@ -86,14 +85,14 @@ pub fn column_of(bytes: &[u8]) -> Column
 
 // The column of six bytes at a place.
 pub fn read_column(bytes: &[u8], at: usize) -> Column
-    ensures { result ≡ column_at (old bytes) at }
+    ensures { result ≡ column_at bytes.now at }
 {
     column_of(column_bytes(bytes, at, 6))
 }
 
 // The bytes after the blanks in front, as far as these are whole fours.
 fn after_fours(bytes: &[u8]) -> &[u8]
-    ensures { after_blanks result.now ≡ after_blanks (old bytes) }
+    ensures { after_blanks result.now ≡ after_blanks bytes.now }
 {
     let mut i: usize = 0;
     while 4 <= bytes.len() - i {
@@ -106,7 +105,7 @@ fn after_fours(bytes: &[u8]) -> &[u8]
 }
 
 fn signed_number(below: u64, digits: &[u8]) -> SignedColumn
-    ensures { result ≡ signed_number below (old digits) }
+    ensures { result ≡ signed_number below digits.now }
 {
     match read_decimal(digits) {
         Decimal::Number(size) => SignedColumn::Number { below, size },
@@ -116,7 +115,7 @@ fn signed_number(below: u64, digits: &[u8]) -> SignedColumn
 
 // The column of twenty bytes at a place: a sign and a size of 64 bits, minus zero too.
 pub fn read_signed_column(bytes: &[u8], at: usize) -> SignedColumn
-    ensures { result ≡ signed_column_at (old bytes) at }
+    ensures { result ≡ signed_column_at bytes.now at }
 {
     let number = after_blanks(after_fours(column_bytes(bytes, at, 20)));
     if number.len() == 0 {

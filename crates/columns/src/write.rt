@@ -1,5 +1,4 @@
 // The writing of a column.
-ghost use Rattle.base.specs.Lent.{old, new};
 ghost use Rattle.std.specs.Prelude.{◌≡◌, ◌+◌, ◌≤◌, length};
 ghost use Rattle.columns.specs.Columns.{column_stored};
 ghost use Rattle.columns.specs.code.Written.{column_byte, write_rest};
@@ -17,7 +16,7 @@ fn column_byte(rest: u64) -> u8
 // What is left of a number above its last digit.
 fn write_rest(out: &mut [u8], at: usize, above: u64)
     requires { at + 5 ≤ length out.old }
-    ensures { new out ≡ write_rest (old out) at 5 above }
+    ensures { out.new ≡ write_rest out.old at 5 above }
 {
     let mut left: usize = 5;
     let mut rest = above;
@@ -31,7 +30,7 @@ fn write_rest(out: &mut [u8], at: usize, above: u64)
 // Nothing is left of a number of one digit.
 fn write_blanks(out: &mut [u8], at: usize)
     requires { at + 5 ≤ length out.old }
-    ensures { new out ≡ write_rest (old out) at 5 0 }
+    ensures { out.new ≡ write_rest out.old at 5 0 }
 {
     let mut left: usize = 5;
     while 0 < left {
@@ -42,7 +41,7 @@ fn write_blanks(out: &mut [u8], at: usize)
 
 // The number as a column of six at a place, if there is space for it.
 pub fn write_column(out: &mut [u8], at: usize, n: u64)
-    ensures { new out ≡ column_stored (old out) at n }
+    ensures { out.new ≡ column_stored out.old at n }
 {
     if out.len() < 6 {
         return;

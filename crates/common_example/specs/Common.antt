@@ -1,7 +1,7 @@
 -- What the common example of two patterns answers and writes.
 use Rattle.std.specs.Prelude.{List, ◌≡◌, ℕ}
 use Rattle.std.proofs.Math.Option.{Option, none, some}
-use Rattle.base.specs.Lent.{Slices, old, new}
+use Rattle.base.specs.Lent.{Slices, MutSlices, old, new}
 use Rattle.base.specs.Refusal.{root_outside, list_too_short, pattern_not_simple, not_a_value, name_without_value, value_too_large, Tested}
 use Rattle.base.specs.Refusal as Refusal
 use Rattle.table.specs.Tables.{Tables}
@@ -34,9 +34,9 @@ pub record Gives (T : Tables) (o : ExampleOutcome) (nodes children nodes' childr
 abbrev pub pattern_side : ScopedPattern → List ℕ → PatternSide
 pattern_side p values = record { scope = p.scope; scoping = p.scoping; pattern = p.root; values = values }
 
-abbrev pub CommonIn : Tables → ScopedPattern → Slices → ScopedPattern → Slices → Slices → Slices → ExampleAnswer → Type 0
+abbrev pub CommonIn : Tables → ScopedPattern → Slices → ScopedPattern → Slices → MutSlices → MutSlices → ExampleAnswer → Type 0
 CommonIn T p values₁ q values₂ nodes children r =
-    Gives T (example_outcome T (pattern_side p (old values₁)) (pattern_side q (old values₂))) (old nodes) (old children) (new nodes) (new children) r
+    Gives T (example_outcome T (pattern_side p values₁.entry.now) (pattern_side q values₂.entry.now)) (old nodes) (old children) (new nodes) (new children) r
 
 -- The checks of one side: a refusal's answer, none where they pass.
 abbrev pub checked_result : Checked → Option ExampleResult
@@ -51,4 +51,4 @@ pub record SideChecked (T : Tables) (s : PatternSide) (r : Checked) : Type 0 whe
   pub answer : checked_result r ≡ tested_result (side_checked T s)
 
 abbrev pub SideCheckedIn : Tables → ScopedPattern → Slices → Checked → Type 0
-SideCheckedIn T p values r = SideChecked T (pattern_side p (old values)) r
+SideCheckedIn T p values r = SideChecked T (pattern_side p values.entry.now) r

@@ -1,5 +1,4 @@
 // Classes of places that must have one value: joined in rounds over all places until nothing more is forced.
-ghost use Rattle.base.specs.Lent.{old, new};
 ghost use Rattle.std.specs.Prelude.{◌<◌, ◌≡◌, eqb};
 ghost use Rattle.common_example.specs.Unify.{one_if};
 ghost use Rattle.base.specs.Lists.{tabulate};
@@ -16,7 +15,7 @@ pub(crate) const LINK_WORDS: usize = 2048;
 // Word k of a place's head.
 pub(crate) fn head_word(heads: &[u32; HEAD_WORDS], place: u32, k: usize) -> u32
     requires { (place < 2052) × (k < 3) }
-    ensures { result ≡ head_word k (old heads) place }
+    ensures { result ≡ head_word k heads.now place }
 {
     heads[place as usize * 3 + k]
 }
@@ -24,7 +23,7 @@ pub(crate) fn head_word(heads: &[u32; HEAD_WORDS], place: u32, k: usize) -> u32
 // The place that names a place's class.
 pub(crate) fn class_of(classes: &[u32; PLACES], place: u32) -> u32
     requires { ClassAsks classes.now place }
-    ensures { ClassIs (old classes) place result }
+    ensures { ClassIs classes.now place result }
 {
     classes[place as usize]
 }
@@ -42,7 +41,7 @@ fn class_after(class: u32, from: u32, to: u32) -> u32
 // Class `from` goes into class `to`.
 fn join_classes(classes: &mut [u32; PLACES], from: u32, to: u32)
     requires { ClassesOk classes.old }
-    ensures { new classes ≡ tabulate (joined_in (old classes) from to) 0 2052 }
+    ensures { classes.new ≡ tabulate (joined_in classes.old from to) 0 2052 }
 {
     let mut i: usize = 0;
     while i < PLACES {
@@ -54,7 +53,7 @@ fn join_classes(classes: &mut [u32; PLACES], from: u32, to: u32)
 // The classes of two places become one; the one of which something is known names it.
 pub(crate) fn join_pair(heads: &[u32; HEAD_WORDS], classes: &mut [u32; PLACES], a: u32, b: u32)
     requires { PairAsks heads.now classes.old a b }
-    ensures { PairJoined (old heads) (old classes) a b (new classes) }
+    ensures { PairJoined heads.now classes.old a b classes.new }
 {
     let first = class_of(classes, a);
     let second = class_of(classes, b);
@@ -78,7 +77,7 @@ fn join_items(
     count: usize,
 )
     requires { LinksAsks 4 heads.now links.now classes.old at from count }
-    ensures { ItemsJoined (old heads) (old links) (old classes) at from count (new classes) }
+    ensures { ItemsJoined heads.now links.now classes.old at from count classes.new }
 {
     let mut first = at;
     let mut second = from;
@@ -101,7 +100,7 @@ fn join_fields(
     count: usize,
 ) -> bool
     requires { LinksAsks 8 heads.now links.now classes.old at from count }
-    ensures { FieldsJoined (old heads) (old links) (old classes) at from count (new classes) result }
+    ensures { FieldsJoined heads.now links.now classes.old at from count classes.new result }
 {
     let mut first = at;
     let mut second = from;
@@ -127,7 +126,7 @@ fn meet_arrays(
     place: u32,
 ) -> bool
     requires { HeadsAsks 2 heads.now links.now classes.old class place }
-    ensures { HeadsMet (old heads) (old links) (old classes) class place (new classes) result }
+    ensures { HeadsMet heads.now links.now classes.old class place classes.new result }
 {
     let count = head_word(heads, class, 2);
     if head_word(heads, place, 2) != count {
@@ -155,7 +154,7 @@ fn meet_objects(
     place: u32,
 ) -> bool
     requires { HeadsAsks 3 heads.now links.now classes.old class place }
-    ensures { HeadsMet (old heads) (old links) (old classes) class place (new classes) result }
+    ensures { HeadsMet heads.now links.now classes.old class place classes.new result }
 {
     let count = head_word(heads, class, 2);
     if head_word(heads, place, 2) != count {
@@ -183,7 +182,7 @@ fn meet_heads(
     kind: u32,
 ) -> bool
     requires { KindAsks kind heads.now links.now classes.old class place }
-    ensures { HeadsMet (old heads) (old links) (old classes) class place (new classes) result }
+    ensures { HeadsMet heads.now links.now classes.old class place classes.new result }
 {
     if kind == 1 {
         return head_word(heads, class, 1) == head_word(heads, place, 1);
@@ -202,7 +201,7 @@ fn meet_class(
     place: u32,
 ) -> bool
     requires { MeetAsks heads.now links.now classes.old place }
-    ensures { Met (old heads) (old links) (old classes) place (new classes) result }
+    ensures { Met heads.now links.now classes.old place classes.new result }
 {
     let class = class_of(classes, place);
     let kind = head_word(heads, class, 0);
@@ -226,7 +225,7 @@ fn join_round(
     classes: &mut [u32; PLACES],
 ) -> bool
     requires { RoundAsks heads.now links.now classes.old }
-    ensures { RoundDone (old heads) (old links) (old classes) (new classes) result }
+    ensures { RoundDone heads.now links.now classes.old classes.new result }
 {
     let mut left: u32 = 2048;
     while 0 < left {
@@ -251,7 +250,7 @@ fn names_class(class: u32, place: u32) -> u32
 // How many classes there are.
 fn count_classes(classes: &[u32; PLACES]) -> u32
     requires { ClassesOk classes.now }
-    ensures { result ≡ class_count_in (old classes) 2048 }
+    ensures { result ≡ class_count_in classes.now 2048 }
 {
     let mut total: u32 = 0;
     let mut left: u32 = 2048;
@@ -269,7 +268,7 @@ pub(crate) fn close_classes(
     classes: &mut [u32; PLACES],
 ) -> bool
     requires { RoundAsks heads.now links.now classes.old }
-    ensures { CloseDone (old heads) (old links) (old classes) (new classes) result }
+    ensures { CloseDone heads.now links.now classes.old classes.new result }
 {
     let mut before = count_classes(classes);
     let mut left: u32 = 2049;

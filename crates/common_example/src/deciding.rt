@@ -1,5 +1,4 @@
 // Whether a class has a value, and whether there is space for it.
-ghost use Rattle.base.specs.Lent.{old, new};
 ghost use Rattle.common_example.specs.code.Deciding.{DeepAsks, DeepDecided, DecideAsks, DecidedIn};
 
 use crate::classes::{HEAD_WORDS, LINK_WORDS, PLACES};
@@ -22,7 +21,7 @@ fn decide_deep(
     place: u32,
 ) -> Verdict
     requires { DeepAsks heads.now links.now classes.now place }
-    ensures { DeepDecided (old heads) (old links) (old classes) place result }
+    ensures { DeepDecided heads.now links.now classes.now place result }
 {
     settle(heads, links, classes, 2048, sizes, next);
     if size_at(sizes, place) == 0 {
@@ -43,7 +42,7 @@ pub(crate) fn decide(
     entries: usize,
 ) -> Verdict
     requires { DecideAsks heads.now links.now classes.now sizes.old place }
-    ensures { DecidedIn (old heads) (old links) (old classes) (old sizes) place words entries (new sizes) result }
+    ensures { DecidedIn heads.now links.now classes.now sizes.old place words entries sizes.new result }
 {
     let size = size_at(sizes, place);
     if size == 0 {

@@ -1,5 +1,4 @@
 // How large the value of each class is, level by level. A class that holds itself never has one.
-ghost use Rattle.base.specs.Lent.{old, new};
 ghost use Rattle.std.specs.Prelude.{◌+◌, ◌<◌, min, ◌≡◌, get_or};
 ghost use Rattle.common_example.specs.code.Sizes.{CapAsks, SumAsks, sum_at, SizeAsks, place_size, LevelAsks, LevelDone, same_sizes, SettleAsks, Settled};
 
@@ -26,7 +25,7 @@ fn wide(size: u16) -> u32
 // The size of a place's value.
 pub(crate) fn size_at(sizes: &[u16; PLACES], place: u32) -> u32
     requires { place < 2052 }
-    ensures { result ≡ get_or (old sizes) place 0 }
+    ensures { result ≡ get_or sizes.now place 0 }
 {
     wide(sizes[place as usize])
 }
@@ -41,7 +40,7 @@ fn sum_sizes(
     start: u32,
 ) -> u32
     requires { SumAsks links.now sizes.now step at count start }
-    ensures { result ≡ sum_at (old links) (old sizes) step at count start }
+    ensures { result ≡ sum_at links.now sizes.now step at count start }
 {
     let mut total = start;
     let mut link = at;
@@ -66,7 +65,7 @@ fn place_size(
     class: u32,
 ) -> u32
     requires { SizeAsks heads.now links.now sizes.now class }
-    ensures { result ≡ place_size (old heads) (old links) (old sizes) class }
+    ensures { result ≡ place_size heads.now links.now sizes.now class }
 {
     let kind = head_word(heads, class, 0);
     if kind <= 1 {
@@ -89,7 +88,7 @@ fn next_sizes(
     next: &mut [u16; PLACES],
 )
     requires { LevelAsks heads.now links.now classes.now sizes.now }
-    ensures { LevelDone (old heads) (old links) (old classes) (old sizes) (new next) }
+    ensures { LevelDone heads.now links.now classes.now sizes.now next.new }
 {
     *next = [0u16; PLACES];
     let mut place: u32 = 0;
@@ -102,7 +101,7 @@ fn next_sizes(
 
 // Does a level change nothing?
 fn same_sizes(sizes: &[u16; PLACES], next: &[u16; PLACES]) -> bool
-    ensures { result ≡ same_sizes (old sizes) (old next) }
+    ensures { result ≡ same_sizes sizes.now next.now }
 {
     let mut i: usize = 0;
     while i < PLACES {
@@ -124,7 +123,7 @@ pub(crate) fn settle(
     next: &mut [u16; PLACES],
 )
     requires { SettleAsks heads.now links.now classes.now }
-    ensures { Settled (old heads) (old links) (old classes) levels (new sizes) }
+    ensures { Settled heads.now links.now classes.now levels sizes.new }
 {
     *sizes = [0u16; PLACES];
     let mut done: u32 = 0;

@@ -1,5 +1,4 @@
 // The classes of two places that must have one value, with all that this forces.
-ghost use Rattle.base.specs.Lent.{old, new};
 ghost use Rattle.std.specs.Prelude.{◌≡◌};
 ghost use Rattle.base.specs.Lists.{tabulate};
 ghost use Rattle.common_example.specs.code.Roots.{UnifyAsks, Unified};
@@ -8,7 +7,7 @@ use crate::classes::{HEAD_WORDS, LINK_WORDS, PLACES, close_classes, join_pair};
 
 // Each place is a class of its own.
 fn start_classes(classes: &mut [u32; PLACES])
-    ensures { new classes ≡ tabulate (λ i. i) 0 2052 }
+    ensures { classes.new ≡ tabulate (λ i. i) 0 2052 }
 {
     *classes = [0u32; PLACES];
     let mut place: u32 = 0;
@@ -27,7 +26,7 @@ pub(crate) fn unify_roots(
     b: u32,
 ) -> bool
     requires { UnifyAsks heads.now links.now a b }
-    ensures { Unified (old heads) (old links) a b (new classes) result }
+    ensures { Unified heads.now links.now a b classes.new result }
 {
     start_classes(classes);
     join_pair(heads, classes, a, b);

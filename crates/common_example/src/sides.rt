@@ -1,5 +1,4 @@
 // The checks of a run, to 23, of one side: a pattern with the scope and the values of its own names.
-ghost use Rattle.base.specs.Lent.{old};
 ghost use Rattle.table.specs.Lent.{given, lent};
 ghost use Rattle.std.specs.Prelude.{◌≡◌};
 ghost use Rattle.run.specs.Operations.{values_listed};
@@ -46,7 +45,7 @@ fn all_listed<'a>(
     values: &[u32],
 ) -> bool
     requires { AllAsks (given nodes children numbers names strings text) pattern values.now }
-    ensures { result ≡ values_listed (lent nodes children numbers names strings text) (old values) }
+    ensures { result ≡ values_listed (lent nodes children numbers names strings text) values.now }
 {
     let marks = mark_nodes(nodes, children, numbers, names, strings, text, false);
     values_listed(nodes, names, &marks, values)
@@ -66,7 +65,7 @@ fn check_values<'a>(
     values: &[u32],
 ) -> SideAnswer
     requires { KnownAsks (given nodes children numbers names strings text) scope pattern values.now }
-    ensures { ValuesAnswered (lent nodes children numbers names strings text) scope scoping pattern (old values) result }
+    ensures { ValuesAnswered (lent nodes children numbers names strings text) scope scoping pattern values.now result }
 {
     if !all_listed(
         nodes, children, numbers, names, strings, text, pattern, values,
@@ -95,7 +94,7 @@ fn check_inside<'a>(
     values: &[u32],
 ) -> SideAnswer
     requires { InsideAsks (given nodes children numbers names strings text) scope pattern values.now }
-    ensures { InsideAnswered (lent nodes children numbers names strings text) scope scoping pattern (old values) result }
+    ensures { InsideAnswered (lent nodes children numbers names strings text) scope scoping pattern values.now result }
 {
     if !is_simple(nodes, children, numbers, names, strings, text, pattern) {
         return SideAnswer::PatternNotSimple;
@@ -119,7 +118,7 @@ fn check_root<'a>(
     values: &[u32],
 ) -> SideAnswer
     requires { RootAsks (given nodes children numbers names strings text) scope }
-    ensures { RootAnswered (lent nodes children numbers names strings text) scope scoping pattern (old values) result }
+    ensures { RootAnswered (lent nodes children numbers names strings text) scope scoping pattern values.now result }
 {
     if !is_node(nodes, pattern) {
         return SideAnswer::RootOutside;
@@ -142,7 +141,7 @@ pub(crate) fn check_side<'a>(
     pattern: ScopedPattern,
     values: &[u32],
 ) -> SideAnswer
-    ensures { SideAnswered (lent nodes children numbers names strings text) (pattern_side pattern (old values)) result }
+    ensures { SideAnswered (lent nodes children numbers names strings text) (pattern_side pattern values.now) result }
 {
     let scope = pattern.scope;
     let scoping = pattern.scoping;

@@ -1,5 +1,4 @@
 // The graph of two patterns of a checked table, and its classes with the two roots joined.
-ghost use Rattle.base.specs.Lent.{old, new};
 ghost use Rattle.table.specs.Lent.{given, lent};
 ghost use Rattle.common_example.specs.code.arrays.Unifying.{LinksFrom, LinksMade, GraphAsks, GraphMade, PatternsAsks, Unifies};
 
@@ -25,7 +24,7 @@ fn graph_links<'a>(
     links: &mut [u32; LINK_WORDS],
 )
     requires { LinksFrom (given nodes children numbers names strings text) held1.now held2.now marks.now }
-    ensures { LinksMade (lent nodes children numbers names strings text) (old held1) (old held2) (old like) (new links) }
+    ensures { LinksMade (lent nodes children numbers names strings text) held1.now held2.now like.now links.new }
 {
     let ordered = order_children(nodes, children, numbers, names, strings, text, marks);
     let first = side_places(nodes, children, numbers, names, strings, text, held1, 0);
@@ -47,7 +46,7 @@ pub(crate) fn make_graph<'a>(
     links: &mut [u32; LINK_WORDS],
 )
     requires { GraphAsks (given nodes children numbers names strings text) held1.now held2.now }
-    ensures { GraphMade (lent nodes children numbers names strings text) (old held1) (old held2) (new heads) (new links) }
+    ensures { GraphMade (lent nodes children numbers names strings text) held1.now held2.now heads.new links.new }
 {
     let marks = mark_nodes(nodes, children, numbers, names, strings, text, true);
     let like = like_nodes(nodes, numbers, strings, text);
@@ -74,7 +73,7 @@ pub(crate) fn unify_patterns<'a>(
     classes: &mut [u32; PLACES],
 ) -> bool
     requires { PatternsAsks (given nodes children numbers names strings text) held1.now held2.now root1 root2 }
-    ensures { Unifies (lent nodes children numbers names strings text) (old held1) (old held2) root1 root2 (new heads) (new links) (new classes) result }
+    ensures { Unifies (lent nodes children numbers names strings text) held1.now held2.now root1 root2 heads.new links.new classes.new result }
 {
     make_graph(
         nodes, children, numbers, names, strings, text, held1, held2, heads, links,

@@ -1,5 +1,4 @@
 // The value of a class, written into two lists: children before parents, a parent's child entries when its node is written.
-ghost use Rattle.base.specs.Lent.{old, new};
 ghost use Rattle.std.specs.Prelude.{◌≡◌, ◌*◌, ◌<◌};
 ghost use Rattle.std.proofs.lemmas.List.Edits.{sets};
 ghost use Rattle.common_example.specs.code.Writing.{literal_entry, key_count, step_by, link_by, parent_kind, part_numbers, LiteralAsks, KeyAsks, KeyWritten, KeyNumberAsks, KeyNumbered, NumberAsks, leaf_node, ParentAsks, ParentWritten, PlaceAsks, PlaceWrittenIn, PartsAsks, PartsWrittenIn};
@@ -13,7 +12,7 @@ use table::reading::{count_of, first_of, kind_of};
 // Kind, first and count of a literal's node; null for 0.
 fn write_literal(nodes: &[u32], literal: u32, at: u32, out: &mut [u32])
     requires { LiteralAsks at out.old }
-    ensures { new out ≡ sets (old out) (at * 5) (literal_entry (old nodes) literal) }
+    ensures { out.new ≡ sets out.old (at * 5) (literal_entry nodes.now literal) }
 {
     if literal == 0 {
         put_entry(out, at as usize, node_kind::NULL, 0, 0, 0, 0);
@@ -35,7 +34,7 @@ fn write_key(
     out: &mut [u32],
 ) -> u32
     requires { KeyAsks step link at out.old }
-    ensures { KeyWritten (old nodes) (old links) step link at (old out) (new out) result }
+    ensures { KeyWritten nodes.now links.now step link at out.old out.new result }
 {
     if step == 8 {
         write_literal(nodes, links[link - 2], at, out);
@@ -57,7 +56,7 @@ fn key_count(step: usize) -> u32
 // The key's number among its object's child entries; an item has none.
 fn number_key(step: usize, before: u32, entry: u32, children: &mut [u32]) -> u32
     requires { KeyNumberAsks step before entry children.old }
-    ensures { KeyNumbered step before entry (old children) (new children) result }
+    ensures { KeyNumbered step before entry children.old children.new result }
 {
     if step == 8 {
         children[entry as usize] = before + 1;
@@ -78,7 +77,7 @@ fn number_parts(
     children: &mut [u32],
 )
     requires { NumberAsks links.now sizes.now step link count before entry children.old }
-    ensures { new children ≡ sets (old children) entry (part_numbers (old links) (old sizes) step link count before) }
+    ensures { children.new ≡ sets children.old entry (part_numbers links.now sizes.now step link count before) }
 {
     let mut from = link;
     let mut left = count;
@@ -127,7 +126,7 @@ fn parent_kind(kind: u32) -> u32
 // The literal of a class that has one; 0 of a free one.
 fn leaf_node(heads: &[u32; HEAD_WORDS], class: u32) -> u32
     requires { class < 2052 }
-    ensures { result ≡ leaf_node (old heads) class }
+    ensures { result ≡ leaf_node heads.now class }
 {
     if head_word(heads, class, 0) == 1 {
         return head_word(heads, class, 1);
@@ -151,7 +150,7 @@ fn write_parent(
     children: &mut [u32],
 )
     requires { ParentAsks links.now sizes.now kind link count before entries first node end out.old children.old }
-    ensures { ParentWritten (old links) (old sizes) kind link count before entries first node end (old out) (old children) (new out) (new children) }
+    ensures { ParentWritten links.now sizes.now kind link count before entries first node end out.old children.old out.new children.new }
 {
     number_parts(
         links,

@@ -1,6 +1,6 @@
 -- The first miss of a run over tables: what it answers. It writes nothing, so that there is no 6.
 use Rattle.std.specs.Prelude.{ℕ, ◌+◌, ◌*◌, ◌≡◌, List}
-use Rattle.base.specs.Lent.{Slices, old}
+use Rattle.base.specs.Lent.{Slices}
 use Rattle.scope.specs.declared.Scope.{Scope}
 use Rattle.scope.specs.declared.ScopingMode.{ScopingMode}
 use Rattle.scope.specs.Scope.{is_unbound}
@@ -47,4 +47,4 @@ module _ (T : Tables) (s : Scope) (mode : ScopingMode) (pattern value : ℕ) (va
 
 -- the same of a list that is lent
 abbrev pub MissToldIn : Slices → Tables → Scope → ScopingMode → ℕ → ℕ → MissAnswer → Type 0
-MissToldIn values T s mode pattern value r = MissTold T s mode pattern value (old values) r
+MissToldIn values T s mode pattern value r = MissTold T s mode pattern value values.entry.now r

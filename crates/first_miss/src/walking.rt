@@ -1,5 +1,4 @@
 // The run again, as a walk over the pattern: a name that has no value is set, one that has is compared.
-ghost use Rattle.base.specs.Lent.{old};
 ghost use Rattle.table.specs.Lent.{given, lent};
 ghost use Rattle.std.specs.Prelude.{◌≡◌};
 ghost use Rattle.first_miss.specs.code.Post.{literal_walked, array_walked, ObjectTold, LiteralAsks, ObjectAsks, WalkAsks, NameAsks, ItemsAsks, FieldsAsks, walk_nodes, walk_listed, walk_under, CameIn};
@@ -80,7 +79,7 @@ fn walk_name<'a>(
 
 // Is a value an array as long as the pattern's?
 fn walk_array(nodes: &[u32], a: u32, b: u32) -> Walked
-    ensures { result ≡ array_walked (old nodes) a b }
+    ensures { result ≡ array_walked nodes.now a b }
 {
     if kind_of(nodes, b) != node_kind::ARRAY {
         return Walked::Missed(Miss {

@@ -1,5 +1,4 @@
 // What a reference says: its literal's rank and number, and the bytes of a string.
-ghost use Rattle.base.specs.Lent.{old};
 ghost use Rattle.std.specs.Prelude.{◌≡◌, ◌+◌, leb};
 ghost use Rattle.literal.specs.Reading.{literal_of, number_at, string_at, string_bytes};
 ghost use Rattle.literal.specs.code.SortKey.{key_of, plain_key};
@@ -35,7 +34,7 @@ fn has_range(length: usize, start: usize, count: usize) -> bool
 }
 
 fn string_key(bytes: &[u8], start: usize, count: usize) -> SortKey
-    ensures { result ≡ key_of (string_at (old bytes) start count) }
+    ensures { result ≡ key_of (string_at bytes.now start count) }
 {
     if has_range(bytes.len(), start, count) {
         return plain_key(4);
@@ -44,7 +43,7 @@ fn string_key(bytes: &[u8], start: usize, count: usize) -> SortKey
 }
 
 fn number_key(numbers: &[u64], place: usize) -> SortKey
-    ensures { result ≡ key_of (number_at (old numbers) place) }
+    ensures { result ≡ key_of (number_at numbers.now place) }
 {
     if numbers.len() / 2 <= place {
         return plain_key(5);
@@ -62,7 +61,7 @@ fn number_key(numbers: &[u64], place: usize) -> SortKey
 }
 
 pub(crate) fn key_of(numbers: &[u64], strings: &[u8], text: &[u8], l: LiteralRef) -> SortKey
-    ensures { result ≡ key_of (literal_of (old numbers) (old strings) (old text) l) }
+    ensures { result ≡ key_of (literal_of numbers.now strings.now text.now l) }
 {
     match l {
         LiteralRef::Null => plain_key(0),
@@ -76,7 +75,7 @@ pub(crate) fn key_of(numbers: &[u64], strings: &[u8], text: &[u8], l: LiteralRef
 
 // Empty for a range that does not lie in the bytes.
 pub(crate) fn part(bytes: &[u8], start: usize, count: usize) -> &[u8]
-    ensures { result.now ≡ string_bytes (string_at (old bytes) start count) }
+    ensures { result.now ≡ string_bytes (string_at bytes.now start count) }
 {
     if has_range(bytes.len(), start, count) {
         return &bytes[start..start + count];

@@ -1,5 +1,4 @@
 // The order of keys.
-ghost use Rattle.base.specs.Lent.{old};
 ghost use Rattle.std.specs.Prelude.{◌≡◌, ◌+◌, ◌^◌, ◌<◌, ◌≤◌, min, length};
 ghost use Rattle.literal.specs.Order.{nat_order, number_order, bytes_order, comparison_of, compared};
 ghost use Rattle.literal.specs.Reading.{literal_of, bytes_of};
@@ -48,7 +47,7 @@ fn lesser(a: usize, b: usize) -> usize
 // Are the 64 bytes from `at` on the same? No way out of the loop: so it becomes vector code.
 fn same_chunk(a: &[u8], b: &[u8], at: usize) -> bool
     requires { (at + 64 ≤ length a.now) × (at + 64 ≤ length b.now) }
-    ensures { result ≡ same_from (old a) (old b) at 64 }
+    ensures { result ≡ same_from a.now b.now at 64 }
 {
     let mut same = true;
     let mut i: usize = 0;
@@ -61,7 +60,7 @@ fn same_chunk(a: &[u8], b: &[u8], at: usize) -> bool
 
 // The bytes of the chunks that are the same at the front.
 fn same_chunks(a: &[u8], b: &[u8]) -> usize
-    ensures { Prefix (old a) (old b) result }
+    ensures { Prefix a.now b.now result }
 {
     let shorter = lesser(a.len(), b.len());
     let mut i: usize = 0;
@@ -83,7 +82,7 @@ fn wide(byte: u8) -> u64
 // A number with four bytes more, the highest first.
 fn four_more(high: u64, bytes: &[u8], at: usize) -> u64
     requires { (at + 4 ≤ length bytes.now) × (high < 2 ^ 32) }
-    ensures { Said high (old bytes) at 4 result }
+    ensures { Said high bytes.now at 4 result }
 {
     let one = high * 256 + wide(bytes[at]);
     let two = one * 256 + wide(bytes[at + 1]);
@@ -94,7 +93,7 @@ fn four_more(high: u64, bytes: &[u8], at: usize) -> u64
 // The number that eight bytes say: a single load.
 fn word_at(bytes: &[u8], at: usize) -> u64
     requires { at + 8 ≤ length bytes.now }
-    ensures { Said 0 (old bytes) at 8 result }
+    ensures { Said 0 bytes.now at 8 result }
 {
     four_more(four_more(0, bytes, at), bytes, at + 4)
 }
@@ -102,7 +101,7 @@ fn word_at(bytes: &[u8], at: usize) -> u64
 // The bytes from `from` on, where those before are the same.
 fn compare_rest(a: &[u8], b: &[u8], from: usize) -> Comparison
     requires { Prefix a.now b.now from }
-    ensures { result ≡ comparison_of (bytes_order (old a) (old b)) }
+    ensures { result ≡ comparison_of (bytes_order a.now b.now) }
 {
     let shorter = lesser(a.len(), b.len());
     let mut i = from;
@@ -117,7 +116,7 @@ fn compare_rest(a: &[u8], b: &[u8], from: usize) -> Comparison
 
 fn compare_words(a: &[u8], b: &[u8], from: usize) -> Comparison
     requires { Prefix a.now b.now from }
-    ensures { result ≡ comparison_of (bytes_order (old a) (old b)) }
+    ensures { result ≡ comparison_of (bytes_order a.now b.now) }
 {
     let shorter = lesser(a.len(), b.len());
     let mut i = from;
@@ -134,7 +133,7 @@ fn compare_words(a: &[u8], b: &[u8], from: usize) -> Comparison
 
 // The first byte that differs decides; a prefix comes first.
 pub fn compare_bytes(a: &[u8], b: &[u8]) -> Comparison
-    ensures { result ≡ comparison_of (bytes_order (old a) (old b)) }
+    ensures { result ≡ comparison_of (bytes_order a.now b.now) }
 {
     compare_words(a, b, same_chunks(a, b))
 }
@@ -146,7 +145,7 @@ pub(crate) fn compare_to_string<'a>(
     text: &'a [u8],
     l: LiteralRef,
 ) -> Comparison
-    ensures { result ≡ comparison_of (bytes_order (old bytes) (bytes_of (old strings) (old text) l)) }
+    ensures { result ≡ comparison_of (bytes_order bytes.now (bytes_of strings.now text.now l)) }
 {
     compare_bytes(bytes, string_bytes(strings, text, l))
 }
@@ -157,7 +156,7 @@ fn compare_strings<'a>(
     a: LiteralRef,
     b: LiteralRef,
 ) -> Comparison
-    ensures { result ≡ comparison_of (bytes_order (bytes_of (old strings) (old text) a) (bytes_of (old strings) (old text) b)) }
+    ensures { result ≡ comparison_of (bytes_order (bytes_of strings.now text.now a) (bytes_of strings.now text.now b)) }
 {
     compare_to_string(string_bytes(strings, text, a), strings, text, b)
 }
@@ -169,7 +168,7 @@ pub fn compare<'a>(
     a: LiteralRef,
     b: LiteralRef,
 ) -> Comparison
-    ensures { result ≡ compared (literal_of (old numbers) (old strings) (old text) a) (literal_of (old numbers) (old strings) (old text) b) }
+    ensures { result ≡ compared (literal_of numbers.now strings.now text.now a) (literal_of numbers.now strings.now text.now b) }
 {
     let x = key_of(numbers, strings, text, a);
     let y = key_of(numbers, strings, text, b);

@@ -1,5 +1,4 @@
 // The text of a key.
-ghost use Rattle.base.specs.Lent.{old, new};
 ghost use Rattle.std.specs.Prelude.{◌≡◌, ◌+◌, ◌≤◌, eqb, length};
 ghost use Rattle.literal.specs.Text.{decimal, signed, text_compared, texts_compared};
 ghost use Rattle.literal.specs.Reading.{literal_of, bytes_of, TextDone};
@@ -12,7 +11,7 @@ use super::{Comparison, KeyText, LiteralRef};
 
 // A part of whichever of the two holds the string; empty for every other reference.
 pub fn string_bytes<'a>(strings: &'a [u8], text: &'a [u8], l: LiteralRef) -> &'a [u8]
-    ensures { result.now ≡ bytes_of (old strings) (old text) l }
+    ensures { result.now ≡ bytes_of strings.now text.now l }
 {
     match l {
         LiteralRef::String { start, count } => part(strings, start, count),
@@ -36,7 +35,7 @@ fn digit_count(size: u64) -> usize
 // The lowest digits of a number, count of them, from start on.
 fn write_digits(out: &mut [u8], start: usize, count: usize, size: u64)
     requires { start + count ≤ length out.old }
-    ensures { new out ≡ write_digits (old out) start count size }
+    ensures { out.new ≡ write_digits out.old start count size }
 {
     let mut left = count;
     let mut rest = size;
@@ -49,7 +48,7 @@ fn write_digits(out: &mut [u8], start: usize, count: usize, size: u64)
 
 fn write_number(out: &mut [u8], below: bool, size: u64) -> KeyText
     requires { length (signed below (decimal size)) ≤ length out.old }
-    ensures { Written (signed below (decimal size)) (old out) (new out) result }
+    ensures { Written (signed below (decimal size)) out.old out.new result }
 {
     let count = digit_count(size);
     if below {
@@ -63,7 +62,7 @@ fn write_number(out: &mut [u8], below: bool, size: u64) -> KeyText
 
 fn write_word(out: &mut [u8], word: &[u8]) -> KeyText
     requires { length word.now ≤ length out.old }
-    ensures { Written (old word) (old out) (new out) result }
+    ensures { Written word.now out.old out.new result }
 {
     let mut i = 0;
     while i < word.len() {
@@ -81,7 +80,7 @@ pub fn key_text(
     l: LiteralRef,
     out: &mut [u8; 20],
 ) -> KeyText
-    ensures { TextDone (literal_of (old numbers) (old strings) (old text) l) (old out) (new out) result }
+    ensures { TextDone (literal_of numbers.now strings.now text.now l) out.old out.new result }
 {
     let x = key_of(numbers, strings, text, l);
     if x.rank == 0 {
@@ -110,7 +109,7 @@ fn compare_to_text<'a>(
     text: &'a [u8],
     l: LiteralRef,
 ) -> Comparison
-    ensures { result ≡ text_compared (old bytes) (literal_of (old numbers) (old strings) (old text) l) }
+    ensures { result ≡ text_compared bytes.now (literal_of numbers.now strings.now text.now l) }
 {
     let mut out = [0u8; 20];
     match key_text(numbers, strings, text, l, &mut out) {
@@ -127,7 +126,7 @@ fn compare_string_text<'a>(
     a: LiteralRef,
     b: LiteralRef,
 ) -> Comparison
-    ensures { result ≡ text_compared (bytes_of (old strings) (old text) a) (literal_of (old numbers) (old strings) (old text) b) }
+    ensures { result ≡ text_compared (bytes_of strings.now text.now a) (literal_of numbers.now strings.now text.now b) }
 {
     compare_to_text(string_bytes(strings, text, a), numbers, strings, text, b)
 }
@@ -167,7 +166,7 @@ pub fn compare_key_texts<'a>(
     a: LiteralRef,
     b: LiteralRef,
 ) -> Comparison
-    ensures { result ≡ texts_compared (literal_of (old numbers) (old strings) (old text) a) (literal_of (old numbers) (old strings) (old text) b) }
+    ensures { result ≡ texts_compared (literal_of numbers.now strings.now text.now a) (literal_of numbers.now strings.now text.now b) }
 {
     let x = key_of(numbers, strings, text, a);
     if x.rank == 3 {

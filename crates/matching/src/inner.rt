@@ -1,5 +1,4 @@
 // Each asks for a checked table. A plan is carried out entry by entry; an entry's children are taken by their positions, so items and fields as written.
-ghost use Rattle.base.specs.Lent.{old, new};
 ghost use Rattle.table.specs.Lent.{given, lent};
 ghost use Rattle.std.specs.Prelude.{◌-◌, ◌≡◌, set};
 ghost use Rattle.table.specs.Tables.{first_word_of};
@@ -19,7 +18,7 @@ use value::inner::fields::{same_key_sets, value_under};
 // Sets the name at a node to a value's node.
 fn bind_name(nodes: &[u32], list: &mut [u32; 128], node: u32, value: u32)
     requires { NameNumber (first_word_of nodes.now node) }
-    ensures { new list ≡ set (old list) (first_word_of (old nodes) node - 1) value }
+    ensures { list.new ≡ set list.old (first_word_of nodes.now node - 1) value }
 {
     let name = first_of(nodes, node) as usize;
     list[name - 1] = value;
@@ -38,7 +37,7 @@ fn equals_name<'a>(
     value: u32,
 ) -> bool
     requires { CompareAsks (given nodes children numbers names strings text) list.now node value }
-    ensures { let T = lent nodes children numbers names strings text in result ≡ same (held_value T (old list) node) (value_of (expr T value)) }
+    ensures { let T = lent nodes children numbers names strings text in result ≡ same (held_value T list.now node) (value_of (expr T value)) }
 {
     let name = first_of(nodes, node) as usize;
     let held = list[name - 1];
@@ -63,7 +62,7 @@ fn match_entry<'a>(
     list: &mut [u32; 128],
 ) -> bool
     requires { EntryAsks (given nodes children numbers names strings text) scratch.now starts.now links.now at value rest list.old }
-    ensures { let T = lent nodes children numbers names strings text in CameIn list T (old scratch) at value result }
+    ensures { let T = lent nodes children numbers names strings text in CameIn list T scratch.now at value result }
 {
     let kind = scratch[at * ENTRY_WORDS];
     let node = scratch[at * ENTRY_WORDS + 1];
@@ -138,7 +137,7 @@ fn match_items<'a>(
     list: &mut [u32; 128],
 ) -> bool
     requires { ItemsAsks (given nodes children numbers names strings text) scratch.now starts.now links.now at count value rest list.old }
-    ensures { let T = lent nodes children numbers names strings text in CameIn list T (old scratch) at value result }
+    ensures { let T = lent nodes children numbers names strings text in CameIn list T scratch.now at value result }
 {
     if kind_of(nodes, value) != node_kind::ARRAY {
         return false;
@@ -182,7 +181,7 @@ fn match_fields<'a>(
     list: &mut [u32; 128],
 ) -> bool
     requires { FieldsAsks (given nodes children numbers names strings text) scratch.now starts.now links.now at count value rest list.old }
-    ensures { let T = lent nodes children numbers names strings text in CameIn list T (old scratch) at value result }
+    ensures { let T = lent nodes children numbers names strings text in CameIn list T scratch.now at value result }
 {
     if kind_of(nodes, value) != node_kind::OBJECT {
         return false;
@@ -231,7 +230,7 @@ pub fn match_pattern<'a>(
     start: [u32; 128],
 ) -> Matched
     requires { PatternAsks (given nodes children numbers names strings text) scratch.now count value start }
-    ensures { PatternCame (lent nodes children numbers names strings text) (old scratch) count value start result }
+    ensures { PatternCame (lent nodes children numbers names strings text) scratch.now count value start result }
 {
     let linked = link_entries(scratch, count);
     let starts = linked.starts;

@@ -1,5 +1,4 @@
 // The entries of a plan's children by their positions: fields stand in key order in a plan, and are taken as written.
-ghost use Rattle.base.specs.Lent.{old, new};
 ghost use Rattle.std.specs.Prelude.{◌<◌, ◌^◌, ◌≡◌};
 ghost use Rattle.matching.specs.code.Linking.{LinkAsks, Linked, ChainAsks, ChainLinked};
 
@@ -34,7 +33,7 @@ fn link_children(
     count: usize,
 ) -> usize
     requires { ChainAsks scratch.now nexts.now links.old at start count }
-    ensures { ChainLinked (old scratch) (old nexts) (old links) at start count (new links) result }
+    ensures { ChainLinked scratch.now nexts.now links.old at start count links.new result }
 {
     let mut child = at + 1;
     let mut i: usize = 0;
@@ -50,7 +49,7 @@ fn link_children(
 // The children of each of the first `count` entries of the scratch, from the last entry to the first.
 pub(crate) fn link_entries(scratch: &[u32; PATTERN_WORDS], count: usize) -> Links
     requires { LinkAsks scratch.now count }
-    ensures { Linked (old scratch) count result.starts result.entries }
+    ensures { Linked scratch.now count result.starts result.entries }
 {
     let mut nexts = [0u16; 512];
     let mut starts = [0u16; 512];

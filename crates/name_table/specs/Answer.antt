@@ -1,6 +1,6 @@
 -- What adding a name answers, as document 01's four numbers, and its contract.
 use Rattle.std.specs.Prelude.{ℕ, ◌≡◌, List}
-use Rattle.base.specs.Lent.{Slices, old, new}
+use Rattle.base.specs.Lent.{MutSlices, old, new}
 use Rattle.base.specs.Refusal.{Line, line, refusal_line, no_place}
 use Rattle.table.specs.Check.{table_refused}
 use Rattle.name_table.specs.declared.NameAnswer.{NameAnswer}
@@ -19,7 +19,7 @@ pub record NameAdded (o : AddOutcome) (used start size : ℕ) (before after : Li
   pub names : after ≡ names_after o before used start size
 
 -- the same of a `&mut` name table, at entry and at exit
-abbrev pub NameAddedIn : Slices → AddOutcome → ℕ → ℕ → ℕ → NameAnswer → Type 0
+abbrev pub NameAddedIn : MutSlices → AddOutcome → ℕ → ℕ → ℕ → NameAnswer → Type 0
 NameAddedIn names o used start size r = NameAdded o used start size (old names) (new names) r
 
 -- document 01's numbers settle the answer

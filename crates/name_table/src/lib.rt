@@ -1,5 +1,4 @@
 // Adding a name to the lent name table.
-ghost use Rattle.base.specs.Lent.{old};
 ghost use Rattle.table.specs.Lent.{lent};
 ghost use Rattle.table.specs.Check.{tested_of};
 ghost use Rattle.std.specs.Prelude.{◌≡◌, ◌≤◌};
@@ -22,7 +21,7 @@ pub enum NameAnswer {
 
 // Is the name table whole pairs, with a place for each name in use?
 fn has_names(names: &[u32], used: u32) -> bool
-    ensures { result ≡ has_names (old names) used }
+    ensures { result ≡ has_names names.now used }
 {
     if names.len() % 2 != 0 {
         return false;
@@ -65,7 +64,7 @@ fn check_in_use<'a>(
 
 // May a name have this range of the text?
 fn is_allowed(text: &[u8], start: u32, size: u32) -> bool
-    ensures { result ≡ allowed (old text) start size }
+    ensures { result ≡ allowed text.now start size }
 {
     if size < 1 {
         return false;
@@ -79,7 +78,7 @@ fn is_allowed(text: &[u8], start: u32, size: u32) -> bool
 // The first of the names in use that has these bytes, or 0.
 fn number_of(names: &[u32], text: &[u8], used: u32, bytes: &[u8]) -> u32
     requires { used ≤ 128 }
-    ensures { result ≡ number_from (old names) (old text) (old bytes) 1 used }
+    ensures { result ≡ number_from names.now text.now bytes.now 1 used }
 {
     let mut name: u32 = 1;
     while name <= used {
@@ -93,7 +92,7 @@ fn number_of(names: &[u32], text: &[u8], used: u32, bytes: &[u8]) -> u32
 
 // Puts a name into the first free place, if there is one and it is no 129th name.
 fn put_name(names: &mut [u32], used: u32, start: u32, size: u32) -> NameAnswer
-    ensures { NameAddedIn names (at_end (old names) used) used start size result }
+    ensures { NameAddedIn names (at_end names.old used) used start size result }
 {
     let at = used as usize * 2;
     let last = at + 1;

@@ -1,5 +1,4 @@
 // How an answer's four numbers are told to a C host, for the crates above alone.
-ghost use Rattle.base.specs.Lent.{old, new};
 ghost use Rattle.std.specs.Prelude.{◌≡◌, set};
 ghost use Rattle.planner.specs.Short.{ShortLine};
 ghost use Rattle.operation.specs.Rows.{row_line, Told};
@@ -8,7 +7,7 @@ use crate::row::Row;
 
 // A word, if there is a place for it.
 pub fn put_word(words: &mut [u32], i: usize, word: u32)
-    ensures { new words ≡ set (old words) i word }
+    ensures { words.new ≡ set words.old i word }
 {
     if words.len() <= i {
         return;
@@ -19,7 +18,7 @@ pub fn put_word(words: &mut [u32], i: usize, word: u32)
 // Puts the numbers into the lent words and returns the first.
 pub fn tell(answer: &mut [u32], row: Row) -> u32
     requires { ShortLine (row_line row) }
-    ensures { Told (row_line row) (old answer) (new answer) result }
+    ensures { Told (row_line row) answer.old answer.new result }
 {
     let number = row.number as u32;
     put_word(answer, 0, number);

@@ -1,5 +1,4 @@
 // The patterns and the roots of an operation.
-ghost use Rattle.base.specs.Lent.{old};
 ghost use Rattle.std.specs.Prelude.{◌≡◌, [], ◌∷◌};
 ghost use Rattle.scope.specs.declared.ScopingMode.TheVariants.{RespectParent};
 ghost use Rattle.table.specs.Tables.{tables};
@@ -79,7 +78,7 @@ pub(crate) fn patterns_of(operation: Operation) -> Patterns
 }
 
 fn are_nodes(nodes: &[u32], first: u32, second: u32) -> bool
-    ensures { result ≡ all_nodes (tables (old nodes) [] [] [] [] []) (first ∷ (second ∷ [])) }
+    ensures { result ≡ all_nodes (tables nodes.now [] [] [] [] []) (first ∷ (second ∷ [])) }
 {
     if is_node(nodes, first) {
         return is_node(nodes, second);
@@ -89,7 +88,7 @@ fn are_nodes(nodes: &[u32], first: u32, second: u32) -> bool
 
 // Key root 0 says that there is no key.
 fn are_some_in_nodes(nodes: &[u32], value: u32, collection: u32, key: u32) -> bool
-    ensures { result ≡ all_nodes (tables (old nodes) [] [] [] [] []) (roots value collection key) }
+    ensures { result ≡ all_nodes (tables nodes.now [] [] [] [] []) (roots value collection key) }
 {
     if key == 0 {
         return are_nodes(nodes, value, collection);
@@ -101,7 +100,7 @@ fn are_some_in_nodes(nodes: &[u32], value: u32, collection: u32, key: u32) -> bo
 }
 
 pub(crate) fn roots_are_nodes(nodes: &[u32], operation: Operation) -> bool
-    ensures { result ≡ all_nodes (tables (old nodes) [] [] [] [] []) (roots_of operation) }
+    ensures { result ≡ all_nodes (tables nodes.now [] [] [] [] []) (roots_of operation) }
 {
     match operation {
         Operation::Pattern { scoping, root } => is_node(nodes, root),

@@ -1,5 +1,4 @@
 // Version 1 of Rego reserves `input` and `data`.
-ghost use Rattle.base.specs.Lent.{old};
 ghost use Rattle.table.specs.Lent.{given, lent};
 ghost use Rattle.std.specs.Prelude.{◌≡◌};
 ghost use Rattle.table.specs.Tables.{name_bytes};
@@ -18,7 +17,7 @@ use table::{NameClass, TableAnswer, check};
 
 // The state of a name, 0 for one that is not reserved.
 fn reserved_state(names: &[u32], text: &[u8], name: u32, state: u8) -> u8
-    ensures { result ≡ reserved_state (class_of (name_bytes (old names) (old text) name)) state }
+    ensures { result ≡ reserved_state (class_of (name_bytes names.now text.now name)) state }
 {
     let class = name_class(names, text, name);
     match class {
@@ -30,7 +29,7 @@ fn reserved_state(names: &[u32], text: &[u8], name: u32, state: u8) -> u8
 
 // 1 for a reserved name that is unbound, 2 for `_`, else 0.
 fn reserved_states(names: &[u32], text: &[u8], scope: Scope, scoping: ScopingMode) -> [u8; 128]
-    ensures { result ≡ reserved_states (old names) (old text) scope scoping }
+    ensures { result ≡ reserved_states names.now text.now scope scoping }
 {
     let states = name_states(names, text, scope, scoping);
     let mut reserved = [0u8; 128];

@@ -1,6 +1,6 @@
 -- The pages of a sheet's plan: the answer, and the page buffer afterwards.
 use Rattle.std.specs.Prelude.{ℕ, ◌-◌, ◌/◌, ◌≡◌, Bool, cond, List, [], ◌++◌, leb, length, replicate}
-use Rattle.base.specs.Lent.{Slices, old, new}
+use Rattle.base.specs.Lent.{MutSlices, old, new}
 use Rattle.base.specs.Refusal.{Refusal, plan_too_large, page_buffer_too_short, Line, line, refusal_line}
 use Rattle.planner.specs.Operations as Plan
 use Rattle.planner.specs.Operations.{Outcome}
@@ -52,7 +52,7 @@ pub record LaidOut (p : Paged) (before after : List ℕ) (r : PageAnswer) : Type
   pub buffer : after ≡ pages_after p before
 
 -- the same of a `&mut` buffer, at entry and at exit
-abbrev pub LaidOutIn : Slices → Paged → PageAnswer → Type 0
+abbrev pub LaidOutIn : MutSlices → Paged → PageAnswer → Type 0
 LaidOutIn pages p r = LaidOut p (old pages) (new pages) r
 
 -- An answer's four numbers: 0, the pages, 0, 0; or the refusal's.
@@ -66,5 +66,5 @@ pub record PagesTold (p : Paged) (buffer words bufferExit wordsExit : List ℕ) 
   pub answer : Told (page_line (pages_answer p buffer)) words wordsExit r
   pub pages : bufferExit ≡ pages_after p buffer
 
-abbrev pub PagesToldIn : Slices → Slices → Paged → ℕ → Type 0
+abbrev pub PagesToldIn : MutSlices → MutSlices → Paged → ℕ → Type 0
 PagesToldIn pages answer p r = PagesTold p (old pages) (old answer) (new pages) (new answer) r

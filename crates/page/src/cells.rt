@@ -1,6 +1,5 @@
 // The cells of a line.
 ghost use Rattle.std.specs.Prelude.{◌≡◌, ◌+◌, ◌≤◌, ◌<◌, length, get_or};
-ghost use Rattle.base.specs.Lent.{old, new};
 ghost use Rattle.columns.specs.Columns.{stored};
 ghost use Rattle.page.specs.Page.{printable, cell, kind_name, kind_width};
 
@@ -24,7 +23,7 @@ fn printed_byte(byte: u8) -> u8
 // Byte i of a text's cell.
 fn cell_byte(text: &[u8], width: usize, i: usize) -> u8
     requires { i < width }
-    ensures { result ≡ get_or (cell width (old text)) i 0 }
+    ensures { result ≡ get_or (cell width text.now) i 0 }
 {
     if text.len() <= i {
         return b' ';
@@ -41,7 +40,7 @@ fn cell_byte(text: &[u8], width: usize, i: usize) -> u8
 // A text in so many columns.
 pub(crate) fn write_cell(out: &mut [u8], at: usize, width: usize, text: &[u8])
     requires { (at + width ≤ length out.old) × (0 < width) }
-    ensures { new out ≡ stored (old out) at (cell width (old text)) }
+    ensures { out.new ≡ stored out.old at (cell width text.now) }
 {
     let mut i: usize = 0;
     while i < width {
@@ -52,7 +51,7 @@ pub(crate) fn write_cell(out: &mut [u8], at: usize, width: usize, text: &[u8])
 
 pub(crate) fn write_kind(out: &mut [u8], at: usize, kind: u32)
     requires { at + kind_width ≤ length out.old }
-    ensures { new out ≡ stored (old out) at (cell kind_width (kind_name kind)) }
+    ensures { out.new ≡ stored out.old at (cell kind_width (kind_name kind)) }
 {
     match kind {
         BIND => write_cell(out, at, KIND, b"bind"),

@@ -3,7 +3,6 @@ mod cells;
 mod lines;
 
 ghost use Rattle.std.specs.Prelude.{◌≡◌};
-ghost use Rattle.base.specs.Lent.{old};
 ghost use Rattle.operation.specs.Rows.{row_line};
 ghost use Rattle.sheet.specs.Sheet.{parse};
 ghost use Rattle.page.specs.Answer.{pages_of_sheet, LaidOutIn, page_line, PagesToldIn};
@@ -29,7 +28,7 @@ pub enum PageAnswer {
 
 // Plans a sheet and lays the plan out on pages. A refusal leaves the buffer as it was.
 pub fn lay_out_pages(sheet: &[u8], pages: &mut [u8]) -> PageAnswer
-    ensures { LaidOutIn pages (pages_of_sheet (parse (old sheet))) result }
+    ensures { LaidOutIn pages (pages_of_sheet (parse sheet.now)) result }
 {
     let mut plan = [0u32; PLAN_WORDS];
     let row = plan_into(sheet, &mut plan);
@@ -52,7 +51,7 @@ fn page_row(answer: PageAnswer) -> Row
 // The same for a C host: 0 or the refusal's number, and the answer's numbers in the lent words; the pages are the second.
 #[unsafe(no_mangle)]
 pub extern "C" fn teluddru_pages(sheet: &[u8], pages: &mut [u8], answer: &mut [u32]) -> u32
-    ensures { PagesToldIn pages answer (pages_of_sheet (parse (old sheet))) result }
+    ensures { PagesToldIn pages answer (pages_of_sheet (parse sheet.now)) result }
 {
     let laid = lay_out_pages(sheet, pages);
     tell(answer, page_row(laid))

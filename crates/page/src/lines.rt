@@ -1,6 +1,5 @@
 // The lines of the pages.
 ghost use Rattle.std.specs.Prelude.{◌≡◌, ◌++◌, ◌+◌, ◌-◌, ◌*◌, ◌≤◌, length, replicate, take};
-ghost use Rattle.base.specs.Lent.{old, new};
 ghost use Rattle.columns.specs.Columns.{stored};
 ghost use Rattle.page.specs.Page.{number_width, kind_width, source_width, key_width, page_line_length, line_cells, blank_cells, cells_bytes, entry_lines, pages_lines, page_bytes};
 ghost use Rattle.page.specs.code.Lines.{front_bytes, texts_bytes, entry_line, EntryAsks, EntriesAsks, PlanAsks};
@@ -32,7 +31,7 @@ pub(crate) const PAGE_LINES: usize = 60;
 // An entry's number and kind.
 fn write_front(out: &mut [u8], at: usize, number: u64, kind: u32)
     requires { at + (number_width + kind_width) ≤ length out.old }
-    ensures { new out ≡ stored (old out) at (front_bytes number kind) }
+    ensures { out.new ≡ stored out.old at (front_bytes number kind) }
 {
     write_column(out, at, number);
     write_kind(out, at + NUMBER, kind);
@@ -41,7 +40,7 @@ fn write_front(out: &mut [u8], at: usize, number: u64, kind: u32)
 // The source texts of its node and of its key.
 fn write_texts(out: &mut [u8], at: usize, source: &[u8], key: &[u8])
     requires { at + (source_width + key_width) ≤ length out.old }
-    ensures { new out ≡ stored (old out) at (texts_bytes (old source) (old key)) }
+    ensures { out.new ≡ stored out.old at (texts_bytes source.now key.now) }
 {
     write_cell(out, at, SOURCE, source);
     write_cell(out, at + SOURCE, KEY, key);
@@ -49,7 +48,7 @@ fn write_texts(out: &mut [u8], at: usize, source: &[u8], key: &[u8])
 
 fn write_line(out: &mut [u8], at: usize, number: u64, kind: u32, source: &[u8], key: &[u8])
     requires { at + page_line_length ≤ length out.old }
-    ensures { new out ≡ stored (old out) at (cells_bytes (line_cells number kind (old source) (old key))) }
+    ensures { out.new ≡ stored out.old at (cells_bytes (line_cells number kind source.now key.now)) }
 {
     write_front(out, at, number, kind);
     write_texts(out, at + FRONT, source, key);
@@ -59,7 +58,7 @@ fn write_line(out: &mut [u8], at: usize, number: u64, kind: u32, source: &[u8], 
 // Entry i of the plan, whose number is i + 1.
 fn write_entry(out: &mut [u8], sheet: &[u8], plan: &[u32], i: usize)
     requires { EntryAsks out.old plan.now i }
-    ensures { new out ≡ stored (old out) (i * page_line_length) (entry_line (source_in (old sheet)) (old plan) i) }
+    ensures { out.new ≡ stored out.old (i * page_line_length) (entry_line (source_in sheet.now) plan.now i) }
 {
     let words = i * ENTRY_WORDS;
     let source = source_of(sheet, plan[words + 1]);
@@ -80,7 +79,7 @@ fn write_entry(out: &mut [u8], sheet: &[u8], plan: &[u32], i: usize)
 
 fn write_entries(out: &mut [u8], sheet: &[u8], plan: &[u32], count: usize)
     requires { EntriesAsks out.old plan.now count }
-    ensures { new out ≡ stored (old out) 0 (page_bytes (entry_lines (source_in (old sheet)) 1 (read_entries (old plan) 0 count))) }
+    ensures { out.new ≡ stored out.old 0 (page_bytes (entry_lines (source_in sheet.now) 1 (read_entries plan.now 0 count))) }
 {
     let mut i: usize = 0;
     while i < count {
@@ -91,7 +90,7 @@ fn write_entries(out: &mut [u8], sheet: &[u8], plan: &[u32], count: usize)
 
 fn write_blank_line(out: &mut [u8], at: usize)
     requires { at + page_line_length ≤ length out.old }
-    ensures { new out ≡ stored (old out) at (cells_bytes blank_cells) }
+    ensures { out.new ≡ stored out.old at (cells_bytes blank_cells) }
 {
     write_cell(out, at, WIDTH, b"");
     out[at + WIDTH] = b'\n';
@@ -100,7 +99,7 @@ fn write_blank_line(out: &mut [u8], at: usize)
 // So many blank lines.
 fn write_blank_lines(out: &mut [u8], at: usize, count: usize)
     requires { at + count * page_line_length ≤ length out.old }
-    ensures { new out ≡ stored (old out) at (page_bytes (replicate count blank_cells)) }
+    ensures { out.new ≡ stored out.old at (page_bytes (replicate count blank_cells)) }
 {
     let mut line: usize = 0;
     while line < count {
@@ -111,7 +110,7 @@ fn write_blank_lines(out: &mut [u8], at: usize, count: usize)
 
 // Zeros from a place on, if it is in the buffer.
 fn clear_from(out: &mut [u8], at: usize)
-    ensures { new out ≡ take at (old out) ++ replicate (length (old out) - at) 0 }
+    ensures { out.new ≡ take at out.old ++ replicate (length out.old - at) 0 }
 {
     let mut i = at;
     while i < out.len() {
@@ -123,7 +122,7 @@ fn clear_from(out: &mut [u8], at: usize)
 // A plan of so many entries, if its pages fit.
 pub(crate) fn lay_out_plan(out: &mut [u8], sheet: &[u8], plan: &[u32], count: usize) -> PageAnswer
     requires { PlanAsks plan.now count }
-    ensures { LaidOutIn out (paged (pages_lines (source_in (old sheet)) (read_entries (old plan) 0 count))) result }
+    ensures { LaidOutIn out (paged (pages_lines (source_in sheet.now) (read_entries plan.now 0 count))) result }
 {
     let pages = (count + (PAGE_LINES - 1)) / PAGE_LINES;
     let lines = pages * PAGE_LINES;

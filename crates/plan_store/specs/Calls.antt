@@ -1,6 +1,6 @@
 -- The calls over lent words: the answer in document 02's numbers, and the words afterwards. Words of another length are no store.
 use Rattle.std.specs.Prelude.{ℕ, ◌≡◌, Bool, cond, ◌&&◌, List, eqb, leb, length}
-use Rattle.base.specs.Lent.{Slices, old, new}
+use Rattle.base.specs.Lent.{Slices, MutSlices, old, new}
 use Rattle.base.specs.Refusal.{shares_refused, store_refused, Line, line, refusal_line, require_or}
 use Rattle.planner.specs.Layout.{Entry}
 use Rattle.planner.specs.Entries.{read_entries}
@@ -77,11 +77,11 @@ pub record EmptiedBy (before after : List ℕ) (r : EmptyAnswer) : Type 0 where
   pub store : after ≡ empty_after before
 
 -- the same of what is lent, at entry and at exit
-abbrev pub SetUpIn : Slices → Slices → SetUpAnswer → Type 0
-SetUpIn store shares r = SetUp (old shares) (old store) (new store) r
+abbrev pub SetUpIn : MutSlices → Slices → SetUpAnswer → Type 0
+SetUpIn store shares r = SetUp shares.entry.now (old store) (new store) r
 
-abbrev pub KeptIn : Slices → ℕ → Slices → ℕ → KeepAnswer → Type 0
-KeptIn store n plan count r = KeptBy n (old plan) count (old store) (new store) r
+abbrev pub KeptIn : MutSlices → ℕ → Slices → ℕ → KeepAnswer → Type 0
+KeptIn store n plan count r = KeptBy n plan.entry.now count (old store) (new store) r
 
-abbrev pub EmptiedIn : Slices → EmptyAnswer → Type 0
+abbrev pub EmptiedIn : MutSlices → EmptyAnswer → Type 0
 EmptiedIn store r = EmptiedBy (old store) (new store) r

@@ -1,6 +1,5 @@
 // The head of a store: how many packs there are, and of each its share and how many entries it keeps.
 ghost use Rattle.std.specs.Prelude.{◌≡◌, true};
-ghost use Rattle.base.specs.Lent.{old, new};
 ghost use Rattle.plan_store.specs.Store.{shares_ok, fresh, emptied};
 ghost use Rattle.plan_store.specs.Words.{with_store, store_of, is_store};
 ghost use Rattle.plan_store.specs.code.Head.{room_in, taken, Among, entries_end, HeadAsks};
@@ -34,7 +33,7 @@ fn taken_by(share: u32, used: u32) -> u32
 
 // One pass over the packs.
 pub(crate) fn room_in(store: &[u32]) -> Room
-    ensures { result ≡ room_in (old store) }
+    ensures { result ≡ room_in store.now }
 {
     if store.len() != STORE_WORDS {
         return Room::NoStore;
@@ -57,7 +56,7 @@ pub(crate) fn room_in(store: &[u32]) -> Room
 }
 
 pub(crate) fn is_store(store: &[u32]) -> bool
-    ensures { result ≡ is_store (old store) }
+    ensures { result ≡ is_store store.now }
 {
     match room_in(store) {
         Room::Common(_) => true,
@@ -66,7 +65,7 @@ pub(crate) fn is_store(store: &[u32]) -> bool
 }
 
 pub(crate) fn shares_ok(shares: &[u32]) -> bool
-    ensures { result ≡ shares_ok (old shares) }
+    ensures { result ≡ shares_ok shares.now }
 {
     if MOST_PACKS < shares.len() {
         return false;
@@ -87,7 +86,7 @@ pub(crate) fn shares_ok(shares: &[u32]) -> bool
 // The place after the entries of the first packs.
 pub(crate) fn entries_end(store: &[u32], packs: usize) -> usize
     requires { Among store.now packs }
-    ensures { result ≡ entries_end (old store) packs }
+    ensures { result ≡ entries_end store.now packs }
 {
     let mut end = 1 + wide(store[0]) * 2;
     let mut i: usize = 0;
@@ -101,7 +100,7 @@ pub(crate) fn entries_end(store: &[u32], packs: usize) -> usize
 // The head of a new store: each pack's share, and no entries.
 pub(crate) fn write_head(store: &mut [u32], shares: &[u32])
     requires { HeadAsks store.old shares.now }
-    ensures { new store ≡ with_store (old store) (fresh (old shares)) }
+    ensures { store.new ≡ with_store store.old (fresh shares.now) }
 {
     let mut i: usize = 0;
     while i < shares.len() {
@@ -116,7 +115,7 @@ pub(crate) fn write_head(store: &mut [u32], shares: &[u32])
 // No entries in any pack.
 pub(crate) fn clear_used(store: &mut [u32])
     requires { is_store store.old ≡ true }
-    ensures { new store ≡ with_store (old store) (emptied (store_of (old store))) }
+    ensures { store.new ≡ with_store store.old (emptied (store_of store.old)) }
 {
     let packs = wide(store[0]);
     let mut pack: usize = 0;

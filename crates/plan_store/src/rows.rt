@@ -1,7 +1,6 @@
 // The entries of a store, and their words.
 ghost use Rattle.std.specs.Prelude.{◌≡◌, ◌+◌, ◌-◌, ◌≤◌, length, drop};
 ghost use Rattle.std.proofs.Math.Seq.{paste};
-ghost use Rattle.base.specs.Lent.{old, new};
 ghost use Rattle.plan_store.specs.code.Rows.{InsertAsks, inserted, Admitted, plan_inserted, five_at};
 
 use crate::head::{entries_end, wide};
@@ -10,7 +9,7 @@ use planner::buffer::ENTRY_WORDS;
 // Moves the words from `at` to `end` up by some places, the last one first.
 fn move_up(store: &mut [u32], at: usize, end: usize, by: usize)
     requires { (at ≤ end) × (end + by ≤ length store.old) }
-    ensures { new store ≡ paste (old store) (at + by) (drop at (old store)) (end - at) }
+    ensures { store.new ≡ paste store.old (at + by) (drop at store.old) (end - at) }
 {
     let mut q = end;
     while at < q {
@@ -23,7 +22,7 @@ fn move_up(store: &mut [u32], at: usize, end: usize, by: usize)
 // Copies the first `count` words of a plan to a place.
 fn copy_in(store: &mut [u32], at: usize, plan: &[u32], count: usize)
     requires { (at + count ≤ length store.old) × (count ≤ length plan.now) }
-    ensures { new store ≡ paste (old store) at (old plan) count }
+    ensures { store.new ≡ paste store.old at plan.now count }
 {
     let mut i: usize = 0;
     while i < count {
@@ -36,7 +35,7 @@ fn copy_in(store: &mut [u32], at: usize, plan: &[u32], count: usize)
 // Puts the first `size` words of a plan at a place; those that stand from there to `end` move up.
 fn insert_words(store: &mut [u32], at: usize, end: usize, plan: &[u32], size: usize)
     requires { InsertAsks store.old at end plan.now size }
-    ensures { new store ≡ inserted (old store) at end (old plan) size }
+    ensures { store.new ≡ inserted store.old at end plan.now size }
 {
     move_up(store, at, end, size);
     copy_in(store, at, plan, size);
@@ -45,7 +44,7 @@ fn insert_words(store: &mut [u32], at: usize, end: usize, plan: &[u32], size: us
 // Puts the words of a plan behind its pack's entries; those of later packs move up.
 pub(crate) fn insert_plan(store: &mut [u32], pack: u32, plan: &[u32], entries: u32)
     requires { Admitted store.old pack plan.now entries }
-    ensures { new store ≡ plan_inserted (old store) pack (old plan) entries }
+    ensures { store.new ≡ plan_inserted store.old pack plan.now entries }
 {
     let packs = wide(store[0]);
     let at = entries_end(store, pack as usize);
@@ -56,7 +55,7 @@ pub(crate) fn insert_plan(store: &mut [u32], pack: u32, plan: &[u32], entries: u
 // An entry's words.
 pub(crate) fn words_at(store: &[u32], at: usize) -> [u32; 5]
     requires { at + 5 ≤ length store.now }
-    ensures { result ≡ five_at (old store) at }
+    ensures { result ≡ five_at store.now at }
 {
     [
         store[at],

@@ -3,7 +3,7 @@ use Rattle.std.specs.Prelude.{ℕ, zero, suc, ◌+◌, ◌*◌, ◌/◌, ◌≡�
 use Rattle.std.proofs.lemmas.List.Edits.{sets}
 use Rattle.base.specs.Lists.{tabulate}
 use Rattle.base.specs.Refusal.{plan_too_large, line, refusal_line}
-use Rattle.base.specs.Lent.{Slices}
+use Rattle.base.specs.Lent.{MutSlices}
 use Rattle.planner.specs.declared.PlanAnswer.{PlanAnswer}
 use Rattle.planner.specs.Answer.{line_of}
 use Rattle.planner.specs.Layout.{Entry, entry_words, below, entry, words}
@@ -31,7 +31,7 @@ pub record Wrote (before : List ℕ) (at : ℕ) (es : List Entry) (after : List 
   pub put : after ≡ put_entries before at es
 
 -- the same of a `&mut` buffer, at entry and at exit
-abbrev pub WroteIn : Slices → ℕ → List Entry → ℕ → Type 0
+abbrev pub WroteIn : MutSlices → ℕ → List Entry → ℕ → Type 0
 WroteIn plan at es r = Wrote plan.entry.now at es plan.exit.now r
 
 -- word i of a buffer of which the first words are kept
@@ -43,5 +43,5 @@ pub record Closed (form count : ℕ) (before after : List ℕ) (r : PlanAnswer) 
   pub answer : line_of r ≡ cond (leb count (length before / entry_words)) (line 0 form 0 count) (refusal_line (plan_too_large count))
   pub buffer : after ≡ cond (leb count (length before / entry_words)) (tabulate (word_at before (count * entry_words)) 0 (length before)) (replicate (length before) 0)
 
-abbrev pub ClosedIn : Slices → ℕ → ℕ → PlanAnswer → Type 0
+abbrev pub ClosedIn : MutSlices → ℕ → ℕ → PlanAnswer → Type 0
 ClosedIn plan form count r = Closed form count plan.entry.now plan.exit.now r

@@ -7,7 +7,7 @@ use Rattle.scope.specs.Scope.{is_unbound}
 use Rattle.table.specs.declared.NameClass.{NameClass}
 use Rattle.table.specs.declared.NameClass.TheVariants.{Underscore, InputOrData, Ordinary}
 use Rattle.table.specs.Tables.{Tables, name_bytes}
-use Rattle.base.specs.Lent.{Slices}
+use Rattle.base.specs.Lent.{MutSlices}
 use Rattle.table.specs.Names.{class_of}
 use Rattle.table.specs.Decode.{expr}
 use Rattle.planner.specs.declared.PlanAnswer.{PlanAnswer}
@@ -49,7 +49,7 @@ pub record Answered (o : Outcome) (before after : List ℕ) (r : PlanAnswer) : T
   pub buffer : after ≡ written o before
 
 -- the same of a `&mut` buffer, at entry and at exit
-abbrev pub AnsweredIn : Slices → Outcome → PlanAnswer → Type 0
+abbrev pub AnsweredIn : MutSlices → Outcome → PlanAnswer → Type 0
 AnsweredIn plan o r = Answered o plan.entry.now plan.exit.now r
 
 -- a test, its refusal, and the rest

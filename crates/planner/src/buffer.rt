@@ -1,5 +1,4 @@
 // The lent plan buffer: the plan and then zeros, or all zeros.
-ghost use Rattle.base.specs.Lent.{old, new};
 ghost use Rattle.std.specs.Prelude.{◌≡◌, ◌+◌, [], ◌∷◌, length, get_or, replicate};
 ghost use Rattle.planner.specs.Layout.{below, entry};
 ghost use Rattle.planner.specs.Entries.{read_entries, WroteIn, put_entries, ClosedIn, word_at};
@@ -15,7 +14,7 @@ pub const PATTERN_WORDS: usize = 512 * ENTRY_WORDS;
 
 // Zeros from word `from` on.
 fn clear_after(plan: &mut [u32], from: usize)
-    ensures { new plan ≡ tabulate (word_at (old plan) from) 0 (length (old plan)) }
+    ensures { plan.new ≡ tabulate (word_at plan.old from) 0 (length plan.old) }
 {
     let mut i = from;
     while i < plan.len() {
@@ -25,7 +24,7 @@ fn clear_after(plan: &mut [u32], from: usize)
 }
 
 pub fn clear(plan: &mut [u32])
-    ensures { new plan ≡ replicate (length (old plan)) 0 }
+    ensures { plan.new ≡ replicate (length plan.old) 0 }
 {
     clear_after(plan, 0);
 }
@@ -54,7 +53,7 @@ pub fn put_entry(
 
 // Word i, or 0 behind the end.
 pub(crate) fn word_of(words: &[u32], i: usize) -> u32
-    ensures { result ≡ get_or (old words) i 0 }
+    ensures { result ≡ get_or words.now i 0 }
 {
     if i < words.len() {
         return words[i];
@@ -64,7 +63,7 @@ pub(crate) fn word_of(words: &[u32], i: usize) -> u32
 
 // The first entries of a scratch, as many as the buffer has space for.
 pub fn copy_entries(plan: &mut [u32], at: usize, scratch: &[u32], count: usize)
-    ensures { new plan ≡ put_entries (old plan) at (read_entries (old scratch) 0 count) }
+    ensures { plan.new ≡ put_entries plan.old at (read_entries scratch.now 0 count) }
 {
     let mut i: usize = 0;
     let mut to = at;

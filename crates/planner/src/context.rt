@@ -1,5 +1,4 @@
 // What the scope says of every name, asked once at the start of an operation (context.rs).
-ghost use Rattle.base.specs.Lent.{old};
 ghost use Rattle.std.specs.Prelude.{◌≡◌};
 ghost use Rattle.scope.specs.Scope.{is_unbound};
 ghost use Rattle.planner.specs.Names.{states_of, unbound_mark};
@@ -52,7 +51,7 @@ fn name_state(
     name: u32,
 ) -> u8
     requires { NameNumber name }
-    ensures { result ≡ flag_of (old names) (old text) scope scoping defined (old binders) name }
+    ensures { result ≡ flag_of names.now text.now scope scoping defined binders.now name }
 {
     if names.len() / 2 < name as usize {
         return 0;
@@ -75,7 +74,7 @@ pub(crate) fn name_flags(
     defined: bool,
     binders: &[u32; 128],
 ) -> [u8; 128]
-    ensures { result ≡ flags_of (old names) (old text) scope scoping defined (old binders) }
+    ensures { result ≡ flags_of names.now text.now scope scoping defined binders.now }
 {
     let mut flags = [0u8; 128];
     let mut i: usize = 0;
@@ -99,7 +98,7 @@ pub(crate) fn name_flags(
 
 // The states of all names, by their numbers: 0 known or not in the table, 1 unbound, 2 `_`.
 pub fn name_states(names: &[u32], text: &[u8], scope: Scope, scoping: ScopingMode) -> [u8; 128]
-    ensures { result ≡ states_of (old names) (old text) scope scoping }
+    ensures { result ≡ states_of names.now text.now scope scoping }
 {
     let none = [0u32; 128];
     name_flags(names, text, scope, scoping, false, &none)

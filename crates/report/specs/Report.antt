@@ -4,7 +4,7 @@ use Rattle.scope.specs.declared.Scope.{Scope}
 use Rattle.scope.specs.declared.ScopingMode.{ScopingMode}
 use Rattle.table.specs.Tables.{Tables, first_word_of, name_count}
 use Rattle.table.specs.Expr.{Expr}
-use Rattle.base.specs.Lent.{Slices, old, new}
+use Rattle.base.specs.Lent.{MutSlices, old, new}
 use Rattle.table.specs.Decode.{expr}
 use Rattle.base.specs.Lists.{elem, tabulate}
 use Rattle.base.specs.Refusal.{Refusal, list_too_short, require_or, Line, line, refusal_line}
@@ -56,5 +56,5 @@ pub record ReportedBy (T : Tables) (s : Scope) (mode : ScopingMode) (root : ℕ)
   pub list : after ≡ report_list (report_outcome T s root before) T s mode root before
 
 -- the same of a `&mut` list, at entry and at exit
-abbrev pub ReportedIn : Slices → Tables → Scope → ScopingMode → ℕ → ReportAnswer → Type 0
+abbrev pub ReportedIn : MutSlices → Tables → Scope → ScopingMode → ℕ → ReportAnswer → Type 0
 ReportedIn list T s mode root r = ReportedBy T s mode root (old list) (new list) r

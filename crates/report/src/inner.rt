@@ -1,5 +1,4 @@
 // The names that a pattern meets. Each function that asks something asks for a checked table.
-ghost use Rattle.base.specs.Lent.{old, new};
 ghost use Rattle.table.specs.Lent.{given, lent};
 ghost use Rattle.std.specs.Prelude.{◌≡◌, length};
 ghost use Rattle.table.specs.Decode.{expr};
@@ -13,7 +12,7 @@ use scope::{Scope, ScopingMode};
 
 // 2 for a name that is met.
 fn met_mark(met: &[u32; 128], i: usize) -> u32
-    ensures { result ≡ met_mark (old met) i }
+    ensures { result ≡ met_mark met.now i }
 {
     if 128 <= i {
         return 0;
@@ -26,7 +25,7 @@ fn met_mark(met: &[u32; 128], i: usize) -> u32
 
 // 2 for each name with a word in `met`, else 0.
 pub(crate) fn mark_met(met: &[u32; 128], list: &mut [u32])
-    ensures { new list ≡ tabulate (met_mark (old met)) 0 (length (old list)) }
+    ensures { list.new ≡ tabulate (met_mark met.now) 0 (length list.old) }
 {
     let mut i: usize = 0;
     while i < list.len() {

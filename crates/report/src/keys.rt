@@ -1,5 +1,4 @@
 // The names that stand as computed keys of a checked table's pattern.
-ghost use Rattle.base.specs.Lent.{old, new};
 ghost use Rattle.table.specs.Lent.{given, lent};
 ghost use Rattle.std.specs.Prelude.{◌≡◌};
 ghost use Rattle.table.specs.Decode.{expr, fields_of};
@@ -26,7 +25,7 @@ fn mark_key<'a>(
     met: &mut [u32; 128],
 )
     requires { Walks (given nodes children numbers names strings text) states.now key }
-    ensures { new met ≡ marked (key_name (expr (lent nodes children numbers names strings text) key)) (old met) }
+    ensures { met.new ≡ marked (key_name (expr (lent nodes children numbers names strings text) key)) met.old }
 {
     if kind_of(nodes, key) == node_kind::NAME {
         let at = first_of(nodes, key) as usize - 1;
@@ -49,7 +48,7 @@ fn mark_object_keys<'a>(
     met: &mut [u32; 128],
 )
     requires { ObjectAsks (given nodes children numbers names strings text) states.now object }
-    ensures { new met ≡ marked (key_names (fields_of (lent nodes children numbers names strings text) object)) (old met) }
+    ensures { met.new ≡ marked (key_names (fields_of (lent nodes children numbers names strings text) object)) met.old }
 {
     let mut place = first_of(nodes, object) as usize;
     let mut more = count_of(nodes, object) as usize;
@@ -77,7 +76,7 @@ fn mark_keys<'a>(
     met: &mut [u32; 128],
 )
     requires { Walks (given nodes children numbers names strings text) states.now node }
-    ensures { new met ≡ marked (names_as_keys (expr (lent nodes children numbers names strings text) node)) (old met) }
+    ensures { met.new ≡ marked (names_as_keys (expr (lent nodes children numbers names strings text) node)) met.old }
 {
     let kind = kind_of(nodes, node);
     let at = first_of(nodes, node) as usize;
@@ -116,7 +115,7 @@ fn mark_keys_below<'a>(
     met: &mut [u32; 128],
 )
     requires { WalksChildren (given nodes children numbers names strings text) states.now parent at step left }
-    ensures { new met ≡ marked (keys_below (lent nodes children numbers names strings text) at step left) (old met) }
+    ensures { met.new ≡ marked (keys_below (lent nodes children numbers names strings text) at step left) met.old }
 {
     let mut place = at;
     let mut more = left;

@@ -1,5 +1,4 @@
 // The report of a pattern's names.
-ghost use Rattle.base.specs.Lent.{old, new};
 ghost use Rattle.table.specs.Lent.{given, lent};
 ghost use Rattle.std.specs.Prelude.{◌≡◌};
 ghost use Rattle.report.specs.Report.{ReportedIn};
@@ -28,7 +27,7 @@ pub enum ReportAnswer {
 // 1 for the name that an entry binds.
 fn mark_entry(nodes: &[u32], kind: u32, node: u32, list: &mut [u32])
     requires { EntryBound nodes.now kind node list.old }
-    ensures { new list ≡ marked_by (old nodes) kind node (old list) }
+    ensures { list.new ≡ marked_by nodes.now kind node list.old }
 {
     if kind == entry_kind::BIND {
         let name = first_of(nodes, node) as usize;
@@ -39,7 +38,7 @@ fn mark_entry(nodes: &[u32], kind: u32, node: u32, list: &mut [u32])
 // 1 for each name that one of the first `count` entries binds.
 fn mark_bound(nodes: &[u32], scratch: &[u32; PATTERN_WORDS], count: usize, list: &mut [u32])
     requires { BoundAsks nodes.now scratch.now count list.old }
-    ensures { BoundMarked (old nodes) (old scratch) count (old list) (new list) }
+    ensures { BoundMarked nodes.now scratch.now count list.old list.new }
 {
     let mut i: usize = 0;
     while i < count {
@@ -64,7 +63,7 @@ fn mark_planned<'a>(
     list: &mut [u32],
 )
     requires { ReportAsks (given nodes children numbers names strings text) pattern list.old }
-    ensures { PlannedMarked (lent nodes children numbers names strings text) scope scoping pattern (old list) (new list) }
+    ensures { PlannedMarked (lent nodes children numbers names strings text) scope scoping pattern list.old list.new }
 {
     let mut binders = [0u32; 128];
     let mut scratch = [0u32; PATTERN_WORDS];
@@ -100,7 +99,7 @@ fn report_names<'a>(
     list: &mut [u32],
 )
     requires { ReportAsks (given nodes children numbers names strings text) pattern list.old }
-    ensures { ReportMarked (lent nodes children numbers names strings text) scope scoping pattern (old list) (new list) }
+    ensures { ReportMarked (lent nodes children numbers names strings text) scope scoping pattern list.old list.new }
 {
     let met = names_reported(nodes, children, numbers, names, strings, text, pattern);
     mark_met(&met, list);

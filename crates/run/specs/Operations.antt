@@ -4,7 +4,7 @@ use Rattle.std.proofs.Math.Option.{none}
 use Rattle.scope.specs.declared.Scope.{Scope}
 use Rattle.scope.specs.declared.ScopingMode.{ScopingMode}
 use Rattle.scope.specs.Scope.{is_unbound, known}
-use Rattle.base.specs.Lent.{Slices, old, new}
+use Rattle.base.specs.Lent.{MutSlices, old, new}
 use Rattle.table.specs.Tables.{Tables, name_count, is_node}
 use Rattle.table.specs.Expr.{Expr}
 use Rattle.table.specs.Decode.{expr}
@@ -118,6 +118,6 @@ pub record Ran (names : ℕ → Bool) (o : RunOutcome) (values buffer valuesExit
   pub list : valuesExit ≡ values_after names o buffer values
 
 -- the same of a `&mut` list and a `&mut` buffer, at entry and at exit
-abbrev pub RanIn : Slices → Slices → Tables → Scope → ScopingMode → ℕ → ℕ → RunAnswer → Type 0
+abbrev pub RanIn : MutSlices → MutSlices → Tables → Scope → ScopingMode → ℕ → ℕ → RunAnswer → Type 0
 RanIn values plan T s mode pattern value r =
     Ran (planned_name (known s mode) (expr T pattern)) (run_outcome T s mode pattern value (old values)) (old values) (old plan) (new values) (new plan) r

@@ -1,5 +1,4 @@
 // Run: a pattern's plan, carried out on a value.
-ghost use Rattle.base.specs.Lent.{old};
 ghost use Rattle.table.specs.Lent.{given, lent};
 ghost use Rattle.run.specs.Operations.{RanIn};
 ghost use Rattle.run.specs.code.Post.{RunAsks, MatchValuesAsks, ValuesCameIn, CarriedIn};
@@ -44,7 +43,7 @@ fn match_values<'a>(
     values: &mut [u32],
 ) -> RunAnswer
     requires { MatchValuesAsks (given nodes children numbers names strings text) scope scoping scratch.now count value values.old }
-    ensures { let T = lent nodes children numbers names strings text in ValuesCameIn values T scope scoping (old scratch) count (old binders) value result }
+    ensures { let T = lent nodes children numbers names strings text in ValuesCameIn values T scope scoping scratch.now count binders.now value result }
 {
     let start = start_list(names, scope, scoping, values);
     let done = match_pattern(

@@ -1,5 +1,4 @@
 // Between bit words and the byte layout.
-ghost use Rattle.base.specs.Lent.{old};
 ghost use Rattle.std.specs.Prelude.{◌≡◌, ◌/◌, ◌%◌, ◌^◌, ◌≤◌, ◌<◌};
 ghost use Rattle.base.specs.Lists.{all_from};
 ghost use Rattle.scope.specs.Names.{contains};
@@ -43,7 +42,7 @@ fn mark_bit(mark: u8, place: u32) -> u64
 // Has none of 64 marks from `from` on bit `place`? No way out of the loop, as above: most words of most scopes are 0.
 fn none_marked(marks: &[u8; 128], place: u32, from: usize) -> bool
     requires { (place < 8) × (from ≤ 64) }
-    ensures { result ≡ all_from (unmarked (old marks) place) from 64 }
+    ensures { result ≡ all_from (unmarked marks.now place) from 64 }
 {
     let mut none = true;
     let mut i: usize = 0;
@@ -57,7 +56,7 @@ fn none_marked(marks: &[u8; 128], place: u32, from: usize) -> bool
 // Bit `place` of 64 marks from `from` on, the first one's lowest.
 fn mark_word(marks: &[u8; 128], place: u32, from: usize) -> u64
     requires { (place < 8) × (from ≤ 64) }
-    ensures { result ≡ word_from (mark_bit (old marks) place) from 64 }
+    ensures { result ≡ word_from (mark_bit marks.now place) from 64 }
 {
     if none_marked(marks, place, from) {
         return 0;
@@ -74,7 +73,7 @@ fn mark_word(marks: &[u8; 128], place: u32, from: usize) -> u64
 // The names whose mark has bit `place`.
 pub(crate) fn marked(marks: &[u8; 128], place: u32) -> NameSet
     requires { place < 8 }
-    ensures { result ≡ marked (old marks) place }
+    ensures { result ≡ marked marks.now place }
 {
     NameSet {
         low: mark_word(marks, place, 0),

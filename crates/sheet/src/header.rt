@@ -1,7 +1,6 @@
 // Lines 1 and 2: what the tables hold, where each stands, and the operation.
 ghost use Rattle.std.specs.Prelude.{◌≡◌};
 ghost use Rattle.sheet.specs.Sheet.{counts_ok};
-ghost use Rattle.base.specs.Lent.{old};
 ghost use Rattle.sheet.specs.code.Header.{counts_in, operation_in, places_of, Countable, heading_of};
 
 use crate::lines::{COLUMN, NUMBER_LINE, read_lines};
@@ -145,7 +144,7 @@ fn operation_in(line: [u32; 6]) -> OperationNumbers
 
 // Both lines, and the length of the sheet.
 pub(crate) fn read_header(sheet: &[u8]) -> Heading
-    ensures { result ≡ heading_of (old sheet) }
+    ensures { result ≡ heading_of sheet.now }
 {
     let mut line_1 = [0u32; 6];
     if !read_lines(sheet, 0, 6, 1, &mut line_1) {

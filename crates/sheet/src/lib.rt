@@ -6,7 +6,6 @@ pub mod source;
 mod space;
 mod tables;
 
-ghost use Rattle.base.specs.Lent.{old, new};
 ghost use Rattle.sheet.specs.Sheet.{parse};
 ghost use Rattle.sheet.specs.Outcome.{outcome_of_sheet, PlannedInto};
 ghost use Rattle.sheet.specs.Listing.{listing_of, Printed};
@@ -18,7 +17,7 @@ use space::{list_headed, plan_headed, refuse_plan};
 
 // Plans a sheet into `plan`. The answer's four numbers.
 pub fn plan_into(sheet: &[u8], plan: &mut [u32]) -> Row
-    ensures { PlannedInto (outcome_of_sheet (parse (old sheet))) (old plan) (new plan) result }
+    ensures { PlannedInto (outcome_of_sheet (parse sheet.now)) plan.old plan.new result }
 {
     match read_header(sheet) {
         Heading::Good(header) => plan_headed(sheet, header, plan),
@@ -29,7 +28,7 @@ pub fn plan_into(sheet: &[u8], plan: &mut [u32]) -> Row
 // Plans a sheet and lists the plan in `out`. The bytes written, or 0 if the listing doesn't fit.
 #[unsafe(no_mangle)]
 pub extern "C" fn plan_sheet(sheet: &[u8], out: &mut [u8]) -> usize
-    ensures { Printed (listing_of (old sheet)) (old out) (new out) result }
+    ensures { Printed (listing_of sheet.now) out.old out.new result }
 {
     match read_header(sheet) {
         Heading::Good(header) => list_headed(sheet, header, out),
@@ -40,7 +39,7 @@ pub extern "C" fn plan_sheet(sheet: &[u8], out: &mut [u8]) -> usize
 // The same by the prefix of all other calls; the name without it ends with the next version.
 #[unsafe(no_mangle)]
 pub extern "C" fn teluddru_plan_sheet(sheet: &[u8], out: &mut [u8]) -> usize
-    ensures { Printed (listing_of (old sheet)) (old out) (new out) result }
+    ensures { Printed (listing_of sheet.now) out.old out.new result }
 {
     plan_sheet(sheet, out)
 }

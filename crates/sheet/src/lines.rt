@@ -1,5 +1,4 @@
 // Lines of columns of six, and of one column of twenty, read into arrays.
-ghost use Rattle.base.specs.Lent.{old, new};
 ghost use Rattle.std.specs.Prelude.{◌≡◌, ◌+◌, ◌*◌, ◌<◌, ◌≤◌, length};
 ghost use Rattle.sheet.specs.Lines.{column_place, is_line_feed, line_length, line_ok, lines_ok, number_line_ok, number_lines_ok, column_word_at, number_word};
 ghost use Rattle.sheet.specs.code.Post.{WordRead, LineAsks, LinesAsks, NumberAsks, NumbersAsks, Read};
@@ -16,7 +15,7 @@ pub(crate) const NUMBER_LINE: usize = SIGNED_COLUMN + 1;
 // Whether the column has a number, which is then word w.
 fn read_word(sheet: &[u8], at: usize, w: usize, out: &mut [u32]) -> bool
     requires { (column_place at 1 ≤ length sheet.now) × (w < length out.old) }
-    ensures { WordRead (old sheet) at w (old out) (new out) result }
+    ensures { WordRead sheet.now at w out.old out.new result }
 {
     match column_of(&sheet[at..at + COLUMN]) {
         Column::Number(n) => {
@@ -28,7 +27,7 @@ fn read_word(sheet: &[u8], at: usize, w: usize, out: &mut [u32]) -> bool
 }
 
 fn is_line_feed(sheet: &[u8], at: usize) -> bool
-    ensures { result ≡ is_line_feed (old sheet) at }
+    ensures { result ≡ is_line_feed sheet.now at }
 {
     if at < sheet.len() {
         return sheet[at] == 10;
@@ -39,7 +38,7 @@ fn is_line_feed(sheet: &[u8], at: usize) -> bool
 // Line i: columns of six, then LF.
 fn read_line(sheet: &[u8], at: usize, columns: usize, i: usize, out: &mut [u32]) -> bool
     requires { LineAsks sheet.now at columns i out.old }
-    ensures { Read (column_word_at (old sheet) at (line_length columns) columns) (i * columns + columns) (line_ok (old sheet) at columns i) (new out) result }
+    ensures { Read (column_word_at sheet.now at (line_length columns) columns) (i * columns + columns) (line_ok sheet.now at columns i) out.new result }
 {
     let place = at + i * (columns * COLUMN + 1);
     let end = place + columns * COLUMN;
@@ -65,7 +64,7 @@ pub(crate) fn read_lines(
     out: &mut [u32],
 ) -> bool
     requires { LinesAsks at columns count out.old }
-    ensures { Read (column_word_at (old sheet) at (line_length columns) columns) (count * columns) (lines_ok (old sheet) at columns count) (new out) result }
+    ensures { Read (column_word_at sheet.now at (line_length columns) columns) (count * columns) (lines_ok sheet.now at columns count) out.new result }
 {
     let mut i: usize = 0;
     while i < count {
@@ -80,7 +79,7 @@ pub(crate) fn read_lines(
 // Line i: a column of twenty, then LF. Its words are 1 for below zero or 0, and the size.
 fn read_number(sheet: &[u8], at: usize, i: usize, out: &mut [u64]) -> bool
     requires { NumberAsks sheet.now at i out.old }
-    ensures { Read (number_word (old sheet) at) (i * 2 + 2) (number_line_ok (old sheet) at i) (new out) result }
+    ensures { Read (number_word sheet.now at) (i * 2 + 2) (number_line_ok sheet.now at i) out.new result }
 {
     let place = at + i * NUMBER_LINE;
     match read_signed_column(sheet, place) {
@@ -95,7 +94,7 @@ fn read_number(sheet: &[u8], at: usize, i: usize, out: &mut [u64]) -> bool
 
 pub(crate) fn read_numbers(sheet: &[u8], at: usize, count: usize, out: &mut [u64]) -> bool
     requires { NumbersAsks at count out.old }
-    ensures { Read (number_word (old sheet) at) (count * 2) (number_lines_ok (old sheet) at count) (new out) result }
+    ensures { Read (number_word sheet.now at) (count * 2) (number_lines_ok sheet.now at count) out.new result }
 {
     let mut i: usize = 0;
     while i < count {

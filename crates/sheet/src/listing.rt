@@ -1,5 +1,4 @@
 // The listing: the answer's line, then a line for each entry of the plan.
-ghost use Rattle.base.specs.Lent.{old, new};
 ghost use Rattle.std.specs.Prelude.{◌≡◌, ◌+◌, ◌*◌, ◌≤◌, length, get_or, replicate};
 ghost use Rattle.planner.specs.Entries.{entry_at, read_entries};
 ghost use Rattle.planner.specs.Layout.{entry_words};
@@ -38,7 +37,7 @@ fn entries_in(row: Row) -> usize
 // Two columns side by side.
 fn write_pair(out: &mut [u8], at: usize, left: u64, right: u64)
     requires { column_place at 2 ≤ length out.old }
-    ensures { new out ≡ stored (old out) at (write_pair left right) }
+    ensures { out.new ≡ stored out.old at (write_pair left right) }
 {
     write_column(out, at, left);
     write_column(out, at + COLUMN, right);
@@ -46,7 +45,7 @@ fn write_pair(out: &mut [u8], at: usize, left: u64, right: u64)
 
 fn write_four(out: &mut [u8], at: usize, row: Row)
     requires { column_place at 4 ≤ length out.old }
-    ensures { new out ≡ stored (old out) at (four_columns (row_line row)) }
+    ensures { out.new ≡ stored out.old at (four_columns (row_line row)) }
 {
     write_pair(out, at, row.number, row.second);
     write_pair(out, at + PAIR, row.third, row.fourth);
@@ -54,14 +53,14 @@ fn write_four(out: &mut [u8], at: usize, row: Row)
 
 fn write_row(out: &mut [u8], at: usize, row: Row)
     requires { at + line_length 4 ≤ length out.old }
-    ensures { new out ≡ stored (old out) at (line_bytes (row_line row)) }
+    ensures { out.new ≡ stored out.old at (line_bytes (row_line row)) }
 {
     write_four(out, at, row);
     out[at + FEED] = 10;
 }
 
 fn word_of(plan: &[u32], i: usize) -> u64
-    ensures { result ≡ get_or (old plan) i 0 }
+    ensures { result ≡ get_or plan.now i 0 }
 {
     if i < plan.len() {
         return plan[i] as u64;
@@ -71,7 +70,7 @@ fn word_of(plan: &[u32], i: usize) -> u64
 
 fn entry_row(plan: &[u32], i: usize) -> Row
     requires { i * entry_words + entry_words ≤ length plan.now }
-    ensures { row_line result ≡ entry_line (entry_at (old plan) i) }
+    ensures { row_line result ≡ entry_line (entry_at plan.now i) }
 {
     let at = i * ENTRY_WORDS;
     row_from(
@@ -85,7 +84,7 @@ fn entry_row(plan: &[u32], i: usize) -> Row
 // Entry i of the plan.
 fn write_entry(out: &mut [u8], at: usize, plan: &[u32], i: usize)
     requires { EntryAsks out.old at plan.now i }
-    ensures { new out ≡ stored (old out) at (entry_bytes (entry_at (old plan) i)) }
+    ensures { out.new ≡ stored out.old at (entry_bytes (entry_at plan.now i)) }
 {
     write_four(out, at, entry_row(plan, i));
     write_column(out, at + FEED, word_of(plan, i * ENTRY_WORDS + 4));
@@ -95,7 +94,7 @@ fn write_entry(out: &mut [u8], at: usize, plan: &[u32], i: usize)
 // The entries of the plan, after the answer's line.
 fn write_entries(out: &mut [u8], plan: &[u32], count: usize)
     requires { EntriesAsks out.old plan.now count }
-    ensures { new out ≡ stored (old out) (line_length 4) (entries_bytes (read_entries (old plan) 0 count)) }
+    ensures { out.new ≡ stored out.old (line_length 4) (entries_bytes (read_entries plan.now 0 count)) }
 {
     let mut i: usize = 0;
     while i < count {
@@ -105,7 +104,7 @@ fn write_entries(out: &mut [u8], plan: &[u32], count: usize)
 }
 
 fn clear(out: &mut [u8])
-    ensures { new out ≡ replicate (length (old out)) 0 }
+    ensures { out.new ≡ replicate (length out.old) 0 }
 {
     let mut i: usize = 0;
     while i < out.len() {
@@ -117,7 +116,7 @@ fn clear(out: &mut [u8])
 // The answer and its plan in the output, if they fit. How many bytes were written.
 pub(crate) fn write_lines(out: &mut [u8], first: Row, plan: &[u32]) -> usize
     requires { entries_in (row_line first) * entry_words ≤ length plan.now }
-    ensures { PrintedIn out (lines_bytes (answer_lines (row_line first) (old plan))) result }
+    ensures { PrintedIn out (lines_bytes (answer_lines (row_line first) plan.now)) result }
 {
     clear(out);
     let count = entries_in(first);

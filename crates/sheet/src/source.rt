@@ -1,6 +1,5 @@
 // The text of a node, where it stands in the bytes of a sheet. Nothing is tested: a column that can't be read counts as 0, and what lies past the sheet is left out.
 ghost use Rattle.std.specs.Prelude.{◌≡◌, ◌<◌, min};
-ghost use Rattle.base.specs.Lent.{old};
 ghost use Rattle.table.specs.Tables.{record_word};
 ghost use Rattle.sheet.specs.Lines.{column_number};
 ghost use Rattle.sheet.specs.Sheet.{nodes_of};
@@ -29,7 +28,7 @@ fn at_most(a: usize, b: usize) -> usize
 }
 
 fn number_at(sheet: &[u8], at: usize) -> usize
-    ensures { NumberRead (column_number (old sheet) at) result }
+    ensures { NumberRead (column_number sheet.now at) result }
 {
     match read_column(sheet, at) {
         Column::Number(n) => n as usize,
@@ -39,7 +38,7 @@ fn number_at(sheet: &[u8], at: usize) -> usize
 
 // What line 1 says.
 fn counts_at(sheet: &[u8]) -> Counts
-    ensures { CountsRead (old sheet) result }
+    ensures { CountsRead sheet.now result }
 {
     Counts {
         nodes: number_at(sheet, 0),
@@ -54,7 +53,7 @@ fn counts_at(sheet: &[u8]) -> Counts
 // Word k of a node, or 0.
 fn node_word(sheet: &[u8], counts: Counts, node: u32, k: usize) -> usize
     requires { k < 5 }
-    ensures { NumberRead (record_word 5 k (nodes_of (old sheet) counts) node) result }
+    ensures { NumberRead (record_word 5 k (nodes_of sheet.now counts) node) result }
 {
     if node == 0 {
         return 0;
@@ -68,7 +67,7 @@ fn node_word(sheet: &[u8], counts: Counts, node: u32, k: usize) -> usize
 
 // Of a sheet that has no such node, an empty part.
 pub fn source_of(sheet: &[u8], node: u32) -> Span
-    ensures { result ≡ span_in (old sheet) node }
+    ensures { result ≡ span_in sheet.now node }
 {
     let counts = counts_at(sheet);
     let places = places_of(counts);

@@ -1,6 +1,5 @@
 // Space for a sheet's tables and its plan. For a listing nodes and plan have two sizes, as arrays have to be cleared, which for a small sheet would take longer than all else; the plan's is made once the tables are read.
 ghost use Rattle.std.specs.Prelude.{◌≡◌, ◌*◌, ◌≤◌, length};
-ghost use Rattle.base.specs.Lent.{old};
 ghost use Rattle.sheet.specs.Listing.{listing_of};
 ghost use Rattle.sheet.specs.code.Header.{Headed};
 ghost use Rattle.sheet.specs.code.Post.{scope_in, PrintedIn, TriedIn, PlannedIn, RefusedIn, SheetHeld};
@@ -30,7 +29,7 @@ enum Tried {
 
 // The scope of a sheet. A good layout has no mark above 31, so none is refused here.
 fn scope_of(marks: &[u8; 128], operation: OperationNumbers) -> Scope
-    ensures { result ≡ scope_in operation (old marks) }
+    ensures { result ≡ scope_in operation marks.now }
 {
     let made = Scope::from_bytes(ByteScope {
         marks: *marks,
@@ -60,7 +59,7 @@ fn plan_tables(
     plan: &mut [u32],
 ) -> Row
     requires { SheetHeld sheet.now header nodes.now children.now numbers.now names.now scope }
-    ensures { PlannedIn plan (old sheet) result }
+    ensures { PlannedIn plan sheet.now result }
 {
     let counts = header.counts;
     let places = header.places;
@@ -90,7 +89,7 @@ fn plan_tables(
 // Plans a sheet into the plan that is lent: its tables are read, then planned.
 pub(crate) fn plan_headed(sheet: &[u8], header: Header, plan: &mut [u32]) -> Row
     requires { Headed sheet.now header }
-    ensures { PlannedIn plan (old sheet) result }
+    ensures { PlannedIn plan sheet.now result }
 {
     let mut nodes = [0u32; MOST_NODES * 5];
     let mut children = [0u32; MOST_CHILDREN];
@@ -125,7 +124,7 @@ fn list_small(
     out: &mut [u8],
 ) -> Tried
     requires { SheetHeld sheet.now header nodes.now children.now numbers.now names.now scope }
-    ensures { TriedIn out (listing_of (old sheet)) result }
+    ensures { TriedIn out (listing_of sheet.now) result }
 {
     let mut plan = [0u32; SMALL_PLAN_WORDS];
     let first = plan_tables(
@@ -148,7 +147,7 @@ fn list_full(
     out: &mut [u8],
 ) -> usize
     requires { SheetHeld sheet.now header nodes.now children.now numbers.now names.now scope }
-    ensures { PrintedIn out (listing_of (old sheet)) result }
+    ensures { PrintedIn out (listing_of sheet.now) result }
 {
     let mut plan = [0u32; PLAN_WORDS];
     let first = plan_tables(
@@ -169,7 +168,7 @@ fn list_tables(
     out: &mut [u8],
 ) -> usize
     requires { SheetHeld sheet.now header nodes.now children.now numbers.now names.now scope }
-    ensures { PrintedIn out (listing_of (old sheet)) result }
+    ensures { PrintedIn out (listing_of sheet.now) result }
 {
     if SMALL_NODES < header.counts.nodes {
         return list_full(sheet, header, nodes, children, numbers, names, scope, out);
@@ -183,7 +182,7 @@ fn list_tables(
 // The tables are read, the nodes into the space that is lent; then they are listed.
 fn list_in(sheet: &[u8], header: Header, nodes: &mut [u32], out: &mut [u8]) -> usize
     requires { Headed sheet.now header × (header.counts.nodes * 5 ≤ length nodes.old) }
-    ensures { PrintedIn out (listing_of (old sheet)) result }
+    ensures { PrintedIn out (listing_of sheet.now) result }
 {
     let mut children = [0u32; MOST_CHILDREN];
     let mut numbers = [0u64; MOST_NUMBERS * 2];
@@ -209,7 +208,7 @@ fn list_in(sheet: &[u8], header: Header, nodes: &mut [u32], out: &mut [u8]) -> u
 // Lists a sheet.
 pub(crate) fn list_headed(sheet: &[u8], header: Header, out: &mut [u8]) -> usize
     requires { Headed sheet.now header }
-    ensures { PrintedIn out (listing_of (old sheet)) result }
+    ensures { PrintedIn out (listing_of sheet.now) result }
 {
     if SMALL_NODES < header.counts.nodes {
         let mut nodes = [0u32; MOST_NODES * 5];

@@ -1,6 +1,5 @@
 // The tables of a sheet, read into space for them.
 ghost use Rattle.std.specs.Prelude.{◌*◌, ◌≤◌};
-ghost use Rattle.base.specs.Lent.{old, new};
 ghost use Rattle.sheet.specs.code.Post.{Filled, name_word, LinesAsks, NamesAsks, MarksAsks, MarksRead, NamesRead, TablesAsks, TablesRead};
 
 use crate::header::Header;
@@ -11,7 +10,7 @@ const MOST_MARKS: u32 = 31;
 // The lines of names are start, length, marks: starts and lengths, with the marks between them left out.
 fn close_up(rows: &mut [u32], count: usize)
     requires { NamesAsks rows.old count }
-    ensures { Filled (name_word (old rows)) (count * 2) (new rows) }
+    ensures { Filled (name_word rows.old) (count * 2) rows.new }
 {
     let words = count * 2;
     let mut w: usize = 0;
@@ -24,7 +23,7 @@ fn close_up(rows: &mut [u32], count: usize)
 // Whether all marks are 0 to 31.
 fn fill_marks(rows: &[u32], count: usize, marks: &mut [u8]) -> bool
     requires { MarksAsks rows.now count marks.old }
-    ensures { MarksRead (old rows) count (old marks) (new marks) result }
+    ensures { MarksRead rows.now count marks.old marks.new result }
 {
     let mut x: usize = 0;
     while x < count {
@@ -47,7 +46,7 @@ fn read_names(
     marks: &mut [u8; 128],
 ) -> bool
     requires { LinesAsks at 3 count names.old × (count ≤ 128) }
-    ensures { NamesRead (old sheet) at count (new names) (old marks) (new marks) result }
+    ensures { NamesRead sheet.now at count names.new marks.old marks.new result }
 {
     if !read_lines(sheet, at, 3, count, names) {
         return false;
@@ -70,7 +69,7 @@ pub(crate) fn read_tables(
     marks: &mut [u8; 128],
 ) -> bool
     requires { TablesAsks header nodes.old children.old numbers.old names.old }
-    ensures { TablesRead (old sheet) header.counts (new nodes) (new children) (new numbers) (new names) (old marks) (new marks) result }
+    ensures { TablesRead sheet.now header.counts nodes.new children.new numbers.new names.new marks.old marks.new result }
 {
     let counts = header.counts;
     let places = header.places;

@@ -1,7 +1,6 @@
 // Plans of `some key, value in collection` (some_in.rs).
 mod collection;
 
-ghost use Rattle.base.specs.Lent.{old, new};
 ghost use Rattle.table.specs.Lent.{given, lent};
 ghost use Rattle.planner.specs.Operations.{AnsweredIn};
 ghost use Rattle.planner.specs.code.Post.{GoodPair};
@@ -38,7 +37,7 @@ fn plan_validated<'a>(
     at: usize,
 ) -> ValidatedPlan
     requires { PlaceAsks (given nodes children numbers names strings text) root at }
-    ensures { Validated (lent nodes children numbers names strings text) scope root at (old plan) (new plan) result.end result.name }
+    ensures { Validated (lent nodes children numbers names strings text) scope root at plan.old plan.new result.end result.name }
 {
     let mut binders = [0u32; 128];
     let planned = plan_pattern(
@@ -69,7 +68,7 @@ fn deliver_some_in(
     check: LiteralStructureCheck,
     end: usize,
 ) -> PlanAnswer
-    ensures { SomeInClosed form check end (old plan) (new plan) result }
+    ensures { SomeInClosed form check end plan.old plan.new result }
 {
     match check {
         LiteralStructureCheck::Match => close(plan, form, end),
@@ -110,7 +109,7 @@ fn plan_value<'a>(
     at: usize,
 ) -> PlanAnswer
     requires { ValueAsks (given nodes children numbers names strings text) value collection at }
-    ensures { ValueAnswered (lent nodes children numbers names strings text) scope value collection form reading at (old plan) (new plan) result }
+    ensures { ValueAnswered (lent nodes children numbers names strings text) scope value collection form reading at plan.old plan.new result }
 {
     let value_plan = plan_validated(
         nodes, children, numbers, names, strings, text, scope, value, plan, at,

@@ -1,5 +1,4 @@
 // That numbers do not repeat, found by marks in a local array.
-ghost use Rattle.base.specs.Lent.{old, new};
 ghost use Rattle.std.specs.Prelude.{◌≡◌, ℕ, ◌+◌, ◌/◌, ◌<◌, ◌≤◌, length, get_or};
 ghost use Rattle.base.specs.Lists.{no_repeat};
 ghost use Rattle.table.specs.Rules.{used_places};
@@ -10,7 +9,7 @@ use crate::reading::{node_word, width_at};
 // Does no node stand twice in the child list?
 pub(crate) fn distinct_entries(children: &[u32]) -> bool
     requires { (i : ℕ) → i < length children.now → get_or children.now i 0 ≤ 512 }
-    ensures { result ≡ no_repeat (old children) }
+    ensures { result ≡ no_repeat children.now }
 {
     let mut used = [0u8; 513];
     let mut i: usize = 0;
@@ -28,7 +27,7 @@ pub(crate) fn distinct_entries(children: &[u32]) -> bool
 // Marks `count` places from `first` on, unless one is marked.
 fn mark_places(used: &mut [u8; 512], first: usize, count: usize) -> bool
     requires { (i : ℕ) → i < count → first + i < 512 }
-    ensures { PlacesMarked first count (old used) (new used) result }
+    ensures { PlacesMarked first count used.old used.new result }
 {
     let mut i: usize = 0;
     while i < count {
@@ -45,7 +44,7 @@ fn mark_places(used: &mut [u8; 512], first: usize, count: usize) -> bool
 // Does no child entry serve two nodes?
 pub(crate) fn places_apart(nodes: &[u32]) -> bool
     requires { PlacesAsks nodes.now }
-    ensures { result ≡ no_repeat (used_places (old nodes) 1 (length (old nodes) / 5)) }
+    ensures { result ≡ no_repeat (used_places nodes.now 1 (length nodes.now / 5)) }
 {
     let mut used = [0u8; 512];
     let total = nodes.len() / 5;

@@ -1,5 +1,4 @@
 // That the names' bytes tell names apart.
-ghost use Rattle.base.specs.Lent.{old};
 ghost use Rattle.std.specs.Prelude.{◌≡◌, [], ◌/◌, ◌<◌, ◌≤◌, length};
 ghost use Rattle.table.specs.Tables.{tables, name_bytes};
 ghost use Rattle.table.specs.code.NameOrder.{Ascending, FoundName};
@@ -19,7 +18,7 @@ fn wide(name: u8) -> u32
 // The place of bytes among `count` names in order, by binary search; 128 if a name has the same.
 fn find_name(names: &[u32], text: &[u8], order: &[u8; 128], count: usize, bytes: &[u8]) -> usize
     requires { Ascending (name_bytes names.now text.now) order.now count × (count < 128) }
-    ensures { FoundName (name_bytes (old names) (old text)) (old bytes) (old order) count result }
+    ensures { FoundName (name_bytes names.now text.now) bytes.now order.now count result }
 {
     let mut low: usize = 0;
     let mut high = count;
@@ -38,7 +37,7 @@ fn find_name(names: &[u32], text: &[u8], order: &[u8; 128], count: usize, bytes:
 
 pub(crate) fn names_differ(names: &[u32], text: &[u8]) -> bool
     requires { length names.now / 2 ≤ 128 }
-    ensures { result ≡ names_differ (tables [] [] [] (old names) [] (old text)) }
+    ensures { result ≡ names_differ (tables [] [] [] names.now [] text.now) }
 {
     let mut order = [0u8; 128];
     let total = names.len() / 2;

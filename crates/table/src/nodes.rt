@@ -1,5 +1,4 @@
 // The table rules that speak of the nodes.
-ghost use Rattle.base.specs.Lent.{old};
 ghost use Rattle.table.specs.Lent.{given, lent};
 ghost use Rattle.std.specs.Prelude.{◌≡◌, [], ◌/◌, ◌≤◌, length};
 ghost use Rattle.table.specs.Tables.{tables};
@@ -18,7 +17,7 @@ fn heads_ok<'a>(
     text: &'a [u8],
 ) -> bool
     requires { length nodes.now / 5 ≤ 512 }
-    ensures { result ≡ all_from (head_ok_at (lent nodes children numbers names strings text)) 0 (length (old nodes) / 5) }
+    ensures { result ≡ all_from (head_ok_at (lent nodes children numbers names strings text)) 0 (length nodes.now / 5) }
 {
     let total = nodes.len() / 5;
     let mut i: usize = 0;
@@ -36,7 +35,7 @@ fn heads_ok<'a>(
 
 fn all_below(nodes: &[u32], children: &[u32]) -> bool
     requires { length nodes.now / 5 ≤ 512 }
-    ensures { result ≡ all_from (children_below_at (tables (old nodes) (old children) [] [] [] [])) 0 (length (old nodes) / 5) }
+    ensures { result ≡ all_from (children_below_at (tables nodes.now children.now [] [] [] [])) 0 (length nodes.now / 5) }
 {
     let total = nodes.len() / 5;
     let mut i: usize = 0;

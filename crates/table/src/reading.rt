@@ -1,5 +1,4 @@
 // The words of the tables, 0 where there is none.
-ghost use Rattle.base.specs.Lent.{old};
 ghost use Rattle.table.specs.Lent.{lent_literal, lent_referred};
 ghost use Rattle.std.specs.Prelude.{◌≡◌, [], ◌+◌, ◌-◌, ◌/◌, ◌<◌, ◌≤◌, ◌^◌, length};
 ghost use Rattle.table.specs.Tables.{tables, is_node, record_word, kind_of, first_word_of, count_of, width_of, width, child_at, name_start, name_length, name_bytes};
@@ -16,7 +15,7 @@ use literal::{Comparison, LiteralRef, text};
 // Word k of record n, of `size` words each.
 fn record_word(words: &[u32], size: usize, k: usize, n: u32) -> u32
     requires { (size ≤ 5) × (k < 5) }
-    ensures { result ≡ record_word size k (old words) n }
+    ensures { result ≡ record_word size k words.now n }
 {
     if n == 0 {
         return 0;
@@ -31,31 +30,31 @@ fn record_word(words: &[u32], size: usize, k: usize, n: u32) -> u32
 // Word k of node i + 1, which is there.
 pub(crate) fn node_word(nodes: &[u32], i: usize, k: usize) -> u32
     requires { (i < length nodes.now / 5) × (k < 5) }
-    ensures { result ≡ record_word 5 k (old nodes) (i + 1) }
+    ensures { result ≡ record_word 5 k nodes.now (i + 1) }
 {
     nodes[i * 5 + k]
 }
 
 pub fn kind_of(nodes: &[u32], node: u32) -> u32
-    ensures { result ≡ kind_of (old nodes) node }
+    ensures { result ≡ kind_of nodes.now node }
 {
     record_word(nodes, 5, 0, node)
 }
 
 pub fn first_of(nodes: &[u32], node: u32) -> u32
-    ensures { result ≡ first_word_of (old nodes) node }
+    ensures { result ≡ first_word_of nodes.now node }
 {
     record_word(nodes, 5, 3, node)
 }
 
 pub fn count_of(nodes: &[u32], node: u32) -> u32
-    ensures { result ≡ count_of (old nodes) node }
+    ensures { result ≡ count_of nodes.now node }
 {
     record_word(nodes, 5, 4, node)
 }
 
 pub fn child_at(children: &[u32], place: usize) -> u32
-    ensures { result ≡ child_at (old children) place }
+    ensures { result ≡ child_at children.now place }
 {
     if place < children.len() {
         return children[place];
@@ -82,32 +81,32 @@ fn width_by(kind: u32, words: u32) -> usize
 // The child entries of node i + 1, which is there.
 pub(crate) fn width_at(nodes: &[u32], i: usize) -> usize
     requires { i < length nodes.now / 5 }
-    ensures { (result ≡ width (old nodes) (i + 1)) × (result < 2 ^ 33) }
+    ensures { (result ≡ width nodes.now (i + 1)) × (result < 2 ^ 33) }
 {
     width_by(node_word(nodes, i, 0), node_word(nodes, i, 4))
 }
 
 pub fn width_of(nodes: &[u32], node: u32) -> usize
-    ensures { (result ≡ width (old nodes) node) × (result < 2 ^ 33) }
+    ensures { (result ≡ width nodes.now node) × (result < 2 ^ 33) }
 {
     width_by(kind_of(nodes, node), count_of(nodes, node))
 }
 
 pub(crate) fn name_start(names: &[u32], name: u32) -> u32
-    ensures { result ≡ name_start (old names) name }
+    ensures { result ≡ name_start names.now name }
 {
     record_word(names, 2, 0, name)
 }
 
 pub(crate) fn name_length(names: &[u32], name: u32) -> u32
-    ensures { result ≡ name_length (old names) name }
+    ensures { result ≡ name_length names.now name }
 {
     record_word(names, 2, 1, name)
 }
 
 // The bytes of a range, as far as they are there.
 fn bytes_at(bytes: &[u8], start: usize, count: usize) -> &[u8]
-    ensures { result.now ≡ part (old bytes) start count }
+    ensures { result.now ≡ part bytes.now start count }
 {
     if bytes.len() < start {
         return &bytes[0..0];
@@ -120,7 +119,7 @@ fn bytes_at(bytes: &[u8], start: usize, count: usize) -> &[u8]
 
 // A name's bytes, lent back from the text.
 pub fn name_bytes<'a>(names: &[u32], text: &'a [u8], name: u32) -> &'a [u8]
-    ensures { result.now ≡ name_bytes (old names) (old text) name }
+    ensures { result.now ≡ name_bytes names.now text.now name }
 {
     let start = name_start(names, name) as usize;
     let length = name_length(names, name) as usize;
@@ -129,7 +128,7 @@ pub fn name_bytes<'a>(names: &[u32], text: &'a [u8], name: u32) -> &'a [u8]
 
 // The bytes from start to end; none where it ends first.
 pub(crate) fn bytes_between(bytes: &[u8], start: usize, end: usize) -> &[u8]
-    ensures { result.now ≡ part (old bytes) start (end - start) }
+    ensures { result.now ≡ part bytes.now start (end - start) }
 {
     if end < start {
         return bytes_at(bytes, start, 0);
@@ -139,7 +138,7 @@ pub(crate) fn bytes_between(bytes: &[u8], start: usize, end: usize) -> &[u8]
 
 // The literal that a node refers to, or that it is none.
 pub fn extract_literal_key(nodes: &[u32], node: u32) -> Key
-    ensures { result ≡ ref_of (old nodes) node }
+    ensures { result ≡ ref_of nodes.now node }
 {
     let kind = kind_of(nodes, node);
     let first = first_of(nodes, node) as usize;
@@ -167,7 +166,7 @@ pub fn extract_literal_key(nodes: &[u32], node: u32) -> Key
 
 // Is it a node's number?
 pub fn is_node(nodes: &[u32], node: u32) -> bool
-    ensures { result ≡ is_node (tables (old nodes) [] [] [] [] []) node }
+    ensures { result ≡ is_node (tables nodes.now [] [] [] [] []) node }
 {
     if node < 1 {
         return false;
@@ -176,7 +175,7 @@ pub fn is_node(nodes: &[u32], node: u32) -> bool
 }
 
 pub fn same_bytes(a: &[u8], b: &[u8]) -> bool
-    ensures { result ≡ same_bytes (old a) (old b) }
+    ensures { result ≡ same_bytes a.now b.now }
 {
     if a.len() != b.len() {
         return false;
@@ -190,7 +189,7 @@ pub fn same_bytes(a: &[u8], b: &[u8]) -> bool
 }
 
 pub fn name_class(names: &[u32], text: &[u8], name: u32) -> NameClass
-    ensures { result ≡ class_of (name_bytes (old names) (old text) name) }
+    ensures { result ≡ class_of (name_bytes names.now text.now name) }
 {
     let bytes = name_bytes(names, text, name);
     if same_bytes(bytes, b"_") {

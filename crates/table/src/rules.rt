@@ -1,5 +1,4 @@
 // The table rules that speak of the lists and the scope.
-ghost use Rattle.base.specs.Lent.{old};
 ghost use Rattle.table.specs.Lent.{given, lent};
 ghost use Rattle.std.specs.Prelude.{◌≡◌, true, [], ◌/◌, ◌≤◌, length};
 ghost use Rattle.table.specs.Tables.{tables};
@@ -14,7 +13,7 @@ use literal::is_number;
 use scope::Scope;
 
 fn whole_records(nodes: &[u32], numbers: &[u64], names: &[u32]) -> bool
-    ensures { result ≡ whole_records (tables (old nodes) [] (old numbers) (old names) [] []) }
+    ensures { result ≡ whole_records (tables nodes.now [] numbers.now names.now [] []) }
 {
     if nodes.len() % 5 != 0 {
         return false;
@@ -27,7 +26,7 @@ fn whole_records(nodes: &[u32], numbers: &[u64], names: &[u32]) -> bool
 
 // Has a name 1 to 255 bytes of the text?
 pub fn name_ok(names: &[u32], text: &[u8], name: u32) -> bool
-    ensures { result ≡ name_ok (tables [] [] [] (old names) [] (old text)) name }
+    ensures { result ≡ name_ok (tables [] [] [] names.now [] text.now) name }
 {
     let start = name_start(names, name) as usize;
     let length = name_length(names, name) as usize;
@@ -42,7 +41,7 @@ pub fn name_ok(names: &[u32], text: &[u8], name: u32) -> bool
 
 fn names_ok(names: &[u32], text: &[u8]) -> bool
     requires { length names.now / 2 ≤ 128 }
-    ensures { result ≡ all_from (name_ok_at (tables [] [] [] (old names) [] (old text))) 0 (length (old names) / 2) }
+    ensures { result ≡ all_from (name_ok_at (tables [] [] [] names.now [] text.now)) 0 (length names.now / 2) }
 {
     let total = names.len() / 2;
     let mut i: usize = 0;
@@ -56,7 +55,7 @@ fn names_ok(names: &[u32], text: &[u8]) -> bool
 }
 
 fn numbers_ok(numbers: &[u64]) -> bool
-    ensures { result ≡ all_from (number_ok (tables [] [] (old numbers) [] [] [])) 0 (length (old numbers) / 2) }
+    ensures { result ≡ all_from (number_ok (tables [] [] numbers.now [] [] [])) 0 (length numbers.now / 2) }
 {
     let total = numbers.len() / 2;
     let mut i: usize = 0;
@@ -71,7 +70,7 @@ fn numbers_ok(numbers: &[u64]) -> bool
 
 // Every child entry, used or not.
 fn entries_ok(nodes: &[u32], children: &[u32]) -> bool
-    ensures { result ≡ all_from (entry_ok (tables (old nodes) (old children) [] [] [] [])) 0 (length (old children)) }
+    ensures { result ≡ all_from (entry_ok (tables nodes.now children.now [] [] [] [])) 0 (length children.now) }
 {
     let mut place: usize = 0;
     while place < children.len() {
@@ -85,7 +84,7 @@ fn entries_ok(nodes: &[u32], children: &[u32]) -> bool
 
 fn lists_ok(nodes: &[u32], children: &[u32], numbers: &[u64], names: &[u32], text: &[u8]) -> bool
     requires { length names.now / 2 ≤ 128 }
-    ensures { result ≡ lists_ok (tables (old nodes) (old children) (old numbers) (old names) [] (old text)) }
+    ensures { result ≡ lists_ok (tables nodes.now children.now numbers.now names.now [] text.now) }
 {
     if !whole_records(nodes, numbers, names) {
         return false;
@@ -100,7 +99,7 @@ fn lists_ok(nodes: &[u32], children: &[u32], numbers: &[u64], names: &[u32], tex
 }
 
 fn scope_ok(names: &[u32], text: &[u8], scope: Scope) -> bool
-    ensures { result ≡ scope_ok (tables [] [] [] (old names) [] (old text)) scope }
+    ensures { result ≡ scope_ok (tables [] [] [] names.now [] text.now) scope }
 {
     let underscore = scope.underscore;
     if underscore == 0 {

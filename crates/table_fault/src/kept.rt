@@ -1,5 +1,4 @@
 // Whether a rule is kept at a place.
-ghost use Rattle.base.specs.Lent.{old};
 ghost use Rattle.table.specs.Lent.{given, lent};
 ghost use Rattle.std.specs.Prelude.{◌≡◌, [], ◌/◌, ◌<◌, ◌≤◌, length};
 ghost use Rattle.table.specs.Tables.{tables};
@@ -44,13 +43,13 @@ fn whole_kept<'a>(
 
 fn number_ok(numbers: &[u64], place: usize) -> bool
     requires { place < length numbers.now / 2 }
-    ensures { result ≡ number_ok (tables [] [] (old numbers) [] [] []) place }
+    ensures { result ≡ number_ok (tables [] [] numbers.now [] [] []) place }
 {
     is_number(numbers[place * 2], numbers[place * 2 + 1])
 }
 
 fn mark_ok(marks: &[u8], i: usize) -> bool
-    ensures { result ≡ mark_ok_at (old marks) i }
+    ensures { result ≡ mark_ok_at marks.now i }
 {
     if marks.len() <= i {
         return true;
@@ -100,7 +99,7 @@ fn other_kept<'a>(
     place: u32,
 ) -> bool
     requires { Asked (given nodes children numbers names strings text) marks.now rule place × (9 < rule) }
-    ensures { result ≡ kept_at (lent nodes children numbers names strings text) (old marks) rule place }
+    ensures { result ≡ kept_at (lent nodes children numbers names strings text) marks.now rule place }
 {
     let i = place as usize - 1;
     match rule {
@@ -129,7 +128,7 @@ pub(crate) fn is_kept<'a>(
     place: u32,
 ) -> bool
     requires { Asked (given nodes children numbers names strings text) marks.now rule place }
-    ensures { result ≡ kept_at (lent nodes children numbers names strings text) (old marks) rule place }
+    ensures { result ≡ kept_at (lent nodes children numbers names strings text) marks.now rule place }
 {
     if rule <= rule::LAST_WHOLE {
         return whole_kept(nodes, children, numbers, names, strings, text, rule);

@@ -1,5 +1,4 @@
 // Which rule of the tables is broken, and where.
-ghost use Rattle.base.specs.Lent.{old};
 ghost use Rattle.table.specs.Lent.{given, lent};
 ghost use Rattle.table.specs.Check.{table_refused};
 ghost use Rattle.std.specs.Prelude.{◌≡◌};
@@ -61,7 +60,7 @@ fn first_broken<'a>(
     rule: u32,
 ) -> BrokenPlace
     requires { Reached (given nodes children numbers names strings text) marks.now rule }
-    ensures { place_told result ≡ broken_place (numbered (lent nodes children numbers names strings text) (old marks) rule) }
+    ensures { place_told result ≡ broken_place (numbered (lent nodes children numbers names strings text) marks.now rule) }
 {
     let first = first_place(rule);
     let end = first as usize + count_places(nodes, children, numbers, names, rule);
@@ -87,7 +86,7 @@ pub fn table_fault<'a>(
     text: &'a [u8],
     marks: &[u8],
 ) -> FaultAnswer
-    ensures { FaultAnswered (lent nodes children numbers names strings text) (old marks) result }
+    ensures { FaultAnswered (lent nodes children numbers names strings text) marks.now result }
 {
     let mut rule: u32 = 1;
     while rule <= rule::LAST {

@@ -1,5 +1,4 @@
 // What the rules say of one node's words.
-ghost use Rattle.base.specs.Lent.{old};
 ghost use Rattle.table.specs.Lent.{lent};
 ghost use Rattle.std.specs.Prelude.{◌≡◌, true, cond, ◌&&◌, [], ◌/◌, ◌≤◌, eqb, leb, length};
 ghost use Rattle.table.specs.Tables.{tables, kind_of};
@@ -81,7 +80,7 @@ pub(crate) fn range_ok<'a>(
 // Is a name node's own text its name's bytes?
 pub(crate) fn text_ok(nodes: &[u32], names: &[u32], text: &[u8], node: u32) -> bool
     requires { (1 ≤ node) × (node ≤ length nodes.now / 5) }
-    ensures { result ≡ cond (eqb (kind_of (old nodes) node) 6) (name_text_ok (tables (old nodes) [] [] (old names) [] (old text)) node) true }
+    ensures { result ≡ cond (eqb (kind_of nodes.now node) 6) (name_text_ok (tables nodes.now [] [] names.now [] text.now) node) true }
 {
     if kind_of(nodes, node) == node_kind::NAME {
         return name_text_ok(nodes, names, text, node as usize - 1);

@@ -1,5 +1,4 @@
 // The places of a rule.
-ghost use Rattle.base.specs.Lent.{old};
 ghost use Rattle.std.specs.Prelude.{◌≡◌, []};
 ghost use Rattle.table.specs.Tables.{tables};
 ghost use Rattle.table_fault.specs.code.Asking.{first_by, places_by};
@@ -24,7 +23,7 @@ pub(crate) fn count_places(
     names: &[u32],
     rule: u32,
 ) -> usize
-    ensures { result ≡ places_by (tables (old nodes) (old children) (old numbers) (old names) [] []) rule }
+    ensures { result ≡ places_by (tables nodes.now children.now numbers.now names.now [] []) rule }
 {
     if rule <= rule::LAST_WHOLE {
         return 1;

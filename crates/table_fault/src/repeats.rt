@@ -1,5 +1,4 @@
 // That nothing repeats an earlier one.
-ghost use Rattle.base.specs.Lent.{old};
 ghost use Rattle.std.specs.Prelude.{◌≡◌, [], ◌-◌, ◌<◌, ◌≤◌, length};
 ghost use Rattle.table.specs.Tables.{tables};
 ghost use Rattle.table.specs.Rules.{new_name_at};
@@ -11,7 +10,7 @@ use table::reading::{first_of, name_bytes, same_bytes, width_of};
 // Is a child entry none of those before it?
 pub(crate) fn is_new_entry(children: &[u32], place: usize) -> bool
     requires { place < length children.now }
-    ensures { result ≡ new_entry_at (old children) place }
+    ensures { result ≡ new_entry_at children.now place }
 {
     let entry = children[place];
     let mut i: usize = 0;
@@ -44,7 +43,7 @@ fn overlap(first: usize, count: usize, other: usize, size: usize) -> bool
 // Are a node's child entries used by none of the nodes before it?
 pub(crate) fn has_new_places(nodes: &[u32], node: u32) -> bool
     requires { (1 ≤ node) × (node ≤ 512) }
-    ensures { result ≡ new_places_at (old nodes) (node - 1) }
+    ensures { result ≡ new_places_at nodes.now (node - 1) }
 {
     let first = first_of(nodes, node) as usize;
     let count = width_of(nodes, node);
@@ -62,7 +61,7 @@ pub(crate) fn has_new_places(nodes: &[u32], node: u32) -> bool
 // Has no name before it its bytes?
 pub(crate) fn is_new_name(names: &[u32], text: &[u8], name: u32) -> bool
     requires { (1 ≤ name) × (name ≤ 128) }
-    ensures { result ≡ new_name_at (tables [] [] [] (old names) [] (old text)) (name - 1) }
+    ensures { result ≡ new_name_at (tables [] [] [] names.now [] text.now) (name - 1) }
 {
     let bytes = name_bytes(names, text, name);
     let mut other: u32 = 1;

@@ -3,7 +3,7 @@ use Rattle.std.specs.Prelude.{ℕ, List, [], ◌∷◌}
 use Rattle.std.specs.Borrow.{Bor}
 use denote.Triple.Both.{Both}
 use Rattle.table.specs.Tables.{Tables, tables}
-use Rattle.base.specs.Lent.{Slices, old}
+use Rattle.base.specs.Lent.{Slices}
 use Rattle.teluddru.specs.declared.Name.{Name}
 
 -- start, length, start, length, ..
@@ -20,4 +20,4 @@ records_in names = names.entry.now
 
 -- the tables that a function is lent, the names as records
 abbrev pub lent_records : Slices → Slices → Slices → Records → Slices → Slices → Tables
-lent_records nodes children numbers names strings text = tables (old nodes) (old children) (old numbers) (name_words (records_in names)) (old strings) (old text)
+lent_records nodes children numbers names strings text = tables nodes.entry.now children.entry.now numbers.entry.now (name_words (records_in names)) strings.entry.now text.entry.now

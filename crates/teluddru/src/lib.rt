@@ -2,7 +2,6 @@
 mod records;
 mod words;
 
-ghost use Rattle.base.specs.Lent.{old};
 ghost use Rattle.body.specs.Body.{body_outcome, BodyAnsweredIn};
 ghost use Rattle.common_example.specs.Common.{CommonIn};
 ghost use Rattle.name_table.specs.Adding.{add_outcome};
@@ -105,7 +104,7 @@ pub fn plan_body<'a>(
     lines: &[u32],
     plan: &mut [u32],
 ) -> BodyPlanned
-    ensures { BodyAnsweredIn plan scope (body_outcome (lent_records nodes children numbers names strings text) scope (old lines) (old plan)) result }
+    ensures { BodyAnsweredIn plan scope (body_outcome (lent_records nodes children numbers names strings text) scope lines.now plan.old) result }
 {
     body_words(
         nodes,

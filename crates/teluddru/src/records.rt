@@ -1,5 +1,4 @@
 // Names from records to pairs of words, and a new name into the records. A function that takes the records is proved by hand.
-ghost use Rattle.base.specs.Lent.{old, new};
 ghost use Rattle.std.specs.Prelude.{◌≡◌, ◌+◌, ◌*◌, ◌<◌, min, length, set};
 ghost use Rattle.teluddru.specs.Records.{records_in};
 ghost use Rattle.teluddru.specs.Adding.{records_out};
@@ -32,7 +31,7 @@ fn copied_count(count: usize) -> usize
 
 fn put_pair(words: &mut [u32; 258], i: usize, start: u32, length: u32)
     requires { i < 129 }
-    ensures { new words ≡ set (set (old words) (i * 2) start) (i * 2 + 1) length }
+    ensures { words.new ≡ set (set words.old (i * 2) start) (i * 2 + 1) length }
 {
     let at = i * 2;
     words[at] = start;

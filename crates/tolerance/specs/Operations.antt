@@ -1,7 +1,7 @@
 -- A run with tolerances: 32 after the refusals of a run and before 6; its answer, the plan buffer and the list of value nodes afterwards.
 use Rattle.std.specs.Prelude.{ℕ, ◌/◌, ◌≡◌, Bool, true, false, cond, ◌&&◌, ◌||◌, not, List, T as True, eqb, leb, length}
 use Rattle.std.proofs.Math.Option.{Option, none, some}
-use Rattle.base.specs.Lent.{Slices, old, new}
+use Rattle.base.specs.Lent.{Slices, MutSlices, old, new}
 use Rattle.base.specs.Lists.{all_from}
 use Rattle.base.specs.Refusal.{Refusal, plan_too_large, require_or, range_wrong}
 use Rattle.literal.specs.Literal.{is_number}
@@ -122,6 +122,6 @@ pub record Judged (T : Tables) (s : Scope) (mode : ScopingMode) (pattern value :
   pub list : valuesExit ≡ values_left (planned_name (Scope.known s mode) (expr T pattern)) (tolerance_outcome T s mode pattern value values lows highs answer) buffer values
 
 -- the same of what is lent, at entry and at exit
-abbrev pub JudgedIn : Slices → Slices → Slices → Slices → Tables → Scope → ScopingMode → ℕ → ℕ → ToleranceAnswer → Type 0
+abbrev pub JudgedIn : MutSlices → Slices → Slices → MutSlices → Tables → Scope → ScopingMode → ℕ → ℕ → ToleranceAnswer → Type 0
 JudgedIn values lows highs plan T s mode pattern value r =
-    Judged T s mode pattern value (old values) (old lows) (old highs) (old plan) (new values) (new plan) r
+    Judged T s mode pattern value (old values) lows.entry.now highs.entry.now (old plan) (new values) (new plan) r

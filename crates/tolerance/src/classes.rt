@@ -1,6 +1,5 @@
 // Classes of nodes that must have one number: a label for each node, and for each label the range that its class has left, two words an end.
 ghost use Rattle.std.specs.Prelude.{◌<◌, ◌^◌, ◌≡◌, cond, eqb};
-ghost use Rattle.base.specs.Lent.{old, new};
 ghost use Rattle.tolerance.specs.code.Classes.{alike, equals, equal, free};
 ghost use Rattle.tolerance.specs.Tolerance.{at_most};
 ghost use Rattle.tolerance.specs.Tolerance.{num_order};
@@ -32,7 +31,7 @@ pub(crate) fn at_most(sign: u64, size: u64, bound: u64, most: u64) -> bool
 // Raises the low end of a label's range to a number, if it is below that.
 fn raise(lows: &mut [u64; 1026], label: usize, sign: u64, size: u64)
     requires { EndAsks lows.old label }
-    ensures { Raised (old lows) label (number_by sign size) (new lows) }
+    ensures { Raised lows.old label (number_by sign size) lows.new }
 {
     let own = lows[label * 2];
     let length = lows[label * 2 + 1];
@@ -45,7 +44,7 @@ fn raise(lows: &mut [u64; 1026], label: usize, sign: u64, size: u64)
 // Lowers the high end of a label's range to a number, if it is above that.
 fn lower(highs: &mut [u64; 1026], label: usize, sign: u64, size: u64)
     requires { EndAsks highs.old label }
-    ensures { Lowered (old highs) label (number_by sign size) (new highs) }
+    ensures { Lowered highs.old label (number_by sign size) highs.new }
 {
     let own = highs[label * 2];
     let length = highs[label * 2 + 1];
@@ -59,7 +58,7 @@ fn lower(highs: &mut [u64; 1026], label: usize, sign: u64, size: u64)
 // The nodes under one label get another.
 fn relabel(labels: &mut [u32; 513], to: u32, from: u32)
     requires { RelabelAsks labels.old to from }
-    ensures { Relabelled (old labels) to from (new labels) }
+    ensures { Relabelled labels.old to from labels.new }
 {
     let mut n: usize = 0;
     while n < 513 {
@@ -87,7 +86,7 @@ pub(crate) fn join_nodes(
     other: u32,
 ) -> bool
     requires { JoinAsks labels.old node other × EndsAsk lows.old highs.old }
-    ensures { Joined (alike node other) (old labels) (old lows) (old highs) (new labels) (new lows) (new highs) result }
+    ensures { Joined (alike node other) labels.old lows.old highs.old labels.new lows.new highs.new result }
 {
     let to = labels[node as usize];
     let from = labels[other as usize];
@@ -118,7 +117,7 @@ pub(crate) fn fix_node(
     size: u64,
 ) -> bool
     requires { JoinAsks labels.old node node × EndsAsk lows.old highs.old }
-    ensures { Joined (equals node (number_by sign size)) (old labels) (old lows) (old highs) (new labels) (new lows) (new highs) result }
+    ensures { Joined (equals node (number_by sign size)) labels.old lows.old highs.old labels.new lows.new highs.new result }
 {
     let label = wide(labels[node as usize]);
     raise(lows, label, sign, size);
@@ -150,7 +149,7 @@ fn is_free(
     node: usize,
 ) -> bool
     requires { FreeAsks labels.now node }
-    ensures { result ≡ free num_order (ranges_by (old lowest) (old highest)) (classes_in (old labels) (old lows) (old highs)) node }
+    ensures { result ≡ free num_order (ranges_by lowest.now highest.now) (classes_in labels.now lows.now highs.now) node }
 {
     let label = wide(labels[node]);
     if !same_number(
@@ -189,7 +188,7 @@ pub(crate) fn all_free(
     highest: &[u64; 1026],
 ) -> bool
     requires { LabelsOk labels.now }
-    ensures { result ≡ all_from (free num_order (ranges_by (old lowest) (old highest)) (classes_in (old labels) (old lows) (old highs))) 1 512 }
+    ensures { result ≡ all_from (free num_order (ranges_by lowest.now highest.now) (classes_in labels.now lows.now highs.now)) 1 512 }
 {
     let mut i: usize = 0;
     while i < 512 {

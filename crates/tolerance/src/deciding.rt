@@ -1,5 +1,4 @@
 // Always, sometimes or never: a pattern met with a value, from the ranges of the value's numbers.
-ghost use Rattle.base.specs.Lent.{old};
 ghost use Rattle.table.specs.Lent.{given, lent};
 ghost use Rattle.std.specs.Prelude.{◌≡◌, cond};
 ghost use Rattle.tolerance.specs.code.Post.{OwnLabels, EndsFrom, DecideAsks, DecidedIn};
@@ -33,7 +32,7 @@ fn kept_word(kept: bool, word: u64) -> u64
 
 // One end of each of 512 nodes' ranges, at the node's number; zero where the range is none.
 fn ends_of(lowest: &[u64], highest: &[u64], ends: &[u64]) -> [u64; 1026]
-    ensures { EndsFrom (old lowest) (old highest) (old ends) result }
+    ensures { EndsFrom lowest.now highest.now ends.now result }
 {
     let mut words = [0u64; 1026];
     let mut n: usize = 0;
@@ -61,7 +60,7 @@ pub(crate) fn decide<'a>(
     value: u32,
 ) -> ToleranceAnswer
     requires { DecideAsks (given nodes children numbers names strings text) pattern value list.old }
-    ensures { let T = lent nodes children numbers names strings text in DecidedIn list T (old lowest) (old highest) pattern value result }
+    ensures { let T = lent nodes children numbers names strings text in DecidedIn list T lowest.now highest.now pattern value result }
 {
     let mut labels = own_labels();
     let low = ends_of(lowest, highest, lowest);

@@ -1,5 +1,4 @@
 // A run on values whose numbers have a tolerance.
-ghost use Rattle.base.specs.Lent.{old};
 ghost use Rattle.table.specs.Lent.{given, lent};
 ghost use Rattle.std.specs.Prelude.{◌≡◌};
 ghost use Rattle.tolerance.specs.Operations.{JudgedIn};
@@ -43,7 +42,7 @@ fn ranges_given<'a>(
     list: &[u32; 128],
 ) -> bool
     requires { GivenAsks (given nodes children numbers names strings text) value list.now }
-    ensures { let T = lent nodes children numbers names strings text in result ≡ given_ok T value (old lowest) (old highest) (old list) }
+    ensures { let T = lent nodes children numbers names strings text in result ≡ given_ok T value lowest.now highest.now list.now }
 {
     if lowest.len() / 2 < nodes.len() / 5 {
         return false;

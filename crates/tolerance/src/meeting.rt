@@ -1,5 +1,4 @@
 // Can a pattern, or a value, be equal to a value? Structure aside, each two numbers that must be equal are put into one class; a name is set to the node that it meets first.
-ghost use Rattle.base.specs.Lent.{old};
 ghost use Rattle.table.specs.Lent.{given, lent};
 ghost use Rattle.std.specs.Prelude.{◌≡◌, true, get_or};
 ghost use Rattle.tolerance.specs.code.Post.{EquatedIn, LiteralAsks, MeetAsks, NameAsks, MeetItemsAsks, MeetFieldsAsks, MetIn, conditions_at, meets_nodes, meets_listed, meets_under};
@@ -12,7 +11,7 @@ use value::inner::fields::{same_literals, value_under};
 
 // Word i, or 0 behind the end.
 pub(crate) fn word_of(words: &[u64], i: usize) -> u64
-    ensures { result ≡ get_or (old words) i 0 }
+    ensures { result ≡ get_or words.now i 0 }
 {
     if i < words.len() {
         return words[i];

@@ -1,5 +1,4 @@
 // The ranges of nodes: are they allowed, and the classes that they start from.
-ghost use Rattle.base.specs.Lent.{old};
 ghost use Rattle.table.specs.Lent.{given, lent};
 ghost use Rattle.std.specs.Prelude.{◌≡◌, cond, eqb};
 ghost use Rattle.base.specs.Lists.{all_from};
@@ -15,7 +14,7 @@ use table::reading::{child_at, count_of, first_of, kind_of};
 
 // The two words of a node's end: 1 for below zero or 0, then the size.
 pub(crate) fn sign_of(words: &[u64], node: u32) -> u64
-    ensures { result ≡ record_word 2 0 (old words) node }
+    ensures { result ≡ record_word 2 0 words.now node }
 {
     if node == 0 {
         return 0;
@@ -24,7 +23,7 @@ pub(crate) fn sign_of(words: &[u64], node: u32) -> u64
 }
 
 pub(crate) fn size_of(words: &[u64], node: u32) -> u64
-    ensures { result ≡ record_word 2 1 (old words) node }
+    ensures { result ≡ record_word 2 1 words.now node }
 {
     if node == 0 {
         return 0;
@@ -34,7 +33,7 @@ pub(crate) fn size_of(words: &[u64], node: u32) -> u64
 
 // Are a node's ends allowed numbers, the lowest not above the highest?
 pub(crate) fn range_ok(lowest: &[u64], highest: &[u64], node: u32) -> bool
-    ensures { result ≡ range_ok (old lowest) (old highest) node }
+    ensures { result ≡ range_ok lowest.now highest.now node }
 {
     let sign = sign_of(lowest, node);
     let size = size_of(lowest, node);
@@ -72,7 +71,7 @@ pub(crate) fn numbers_ok<'a>(
     node: u32,
 ) -> bool
     requires { RangesAsks (given nodes children numbers names strings text) node }
-    ensures { result ≡ numbers_ok (lent nodes children numbers names strings text) (old lowest) (old highest) node }
+    ensures { result ≡ numbers_ok (lent nodes children numbers names strings text) lowest.now highest.now node }
 {
     let kind = kind_of(nodes, node);
     if kind == node_kind::NUMBER {
@@ -111,7 +110,7 @@ fn listed_ok<'a>(
     i: usize,
 ) -> bool
     requires { ListedAsks (given nodes children numbers names strings text) list.now i }
-    ensures { result ≡ numbers_ok_in (lent nodes children numbers names strings text) (old lowest) (old highest) (old list) i }
+    ensures { result ≡ numbers_ok_in (lent nodes children numbers names strings text) lowest.now highest.now list.now i }
 {
     let node = list[i];
     if node == 0 {
@@ -135,7 +134,7 @@ pub(crate) fn names_ok<'a>(
     list: &[u32; 128],
 ) -> bool
     requires { NamesAsks (given nodes children numbers names strings text) list.now }
-    ensures { let T = lent nodes children numbers names strings text in result ≡ all_from (numbers_ok_in T (old lowest) (old highest) (old list)) 0 128 }
+    ensures { let T = lent nodes children numbers names strings text in result ≡ all_from (numbers_ok_in T lowest.now highest.now list.now) 0 128 }
 {
     let mut i: usize = 0;
     while i < 128 {

@@ -2,7 +2,7 @@
 use Rattle.std.specs.Prelude.{ℕ, ◌≡◌, Bool, false, cond, ◌&&◌, List, [], eqb}
 use Rattle.scope.specs.declared.Scope.{Scope}
 use Rattle.scope.specs.declared.ScopingMode.TheVariants.{AllowShadowing}
-use Rattle.base.specs.Lent.{Slices, old, new}
+use Rattle.base.specs.Lent.{Slices, MutSlices, old, new}
 use Rattle.table.specs.Tables.{Tables, tables, kind_of, first_word_of}
 use Rattle.table.specs.Decode.{is_wildcard}
 use Rattle.planner.specs.declared.PlanAnswer.{PlanAnswer}
@@ -20,11 +20,11 @@ pub record BindAsks (T : Tables) (binding value : ℕ) (scratch : List ℕ) (cou
   pub read : ReadAsks scratch count
 
 -- what is answered from the entries in the scratch: of a binding side, and of `:=`
-abbrev pub SideBoundIn : Slices → Slices → Tables → ℕ → ℕ → ℕ → Reading → ℕ → PlanAnswer → Type 0
-SideBoundIn plan scratch T form binding value reading count r = AnsweredIn plan (bind_side T form binding value reading (read_entries (old scratch) 0 count)) r
+abbrev pub SideBoundIn : MutSlices → Slices → Tables → ℕ → ℕ → ℕ → Reading → ℕ → PlanAnswer → Type 0
+SideBoundIn plan scratch T form binding value reading count r = AnsweredIn plan (bind_side T form binding value reading (read_entries scratch.entry.now 0 count)) r
 
-abbrev pub ColonBoundIn : Slices → Slices → Tables → Scope → ℕ → ℕ → Reading → ℕ → PlanAnswer → Type 0
-ColonBoundIn plan scratch T s left right reading count r = AnsweredIn plan (colon_equals_from T s left right reading (read_entries (old scratch) 0 count)) r
+abbrev pub ColonBoundIn : MutSlices → Slices → Tables → Scope → ℕ → ℕ → Reading → ℕ → PlanAnswer → Type 0
+ColonBoundIn plan scratch T s left right reading count r = AnsweredIn plan (colon_equals_from T s left right reading (read_entries scratch.entry.now 0 count)) r
 
 -- an array against an object, by the kinds of their nodes
 unfoldable pub opposed_kinds : ℕ → ℕ → Bool
@@ -42,10 +42,10 @@ pub record RightBound (T : Tables) (states : List ℕ) (left right : ℕ) (readi
   pub answered : Answered (bind_side T 3 right left reading (side_entries T states right 0)) before after r
   pub written : SideWritten T states right 0 start binders scratch
 
-abbrev pub RightBoundIn : Slices → Slices → Slices → Tables → List ℕ → ℕ → ℕ → Reading → PlanAnswer → Type 0
+abbrev pub RightBoundIn : MutSlices → MutSlices → MutSlices → Tables → List ℕ → ℕ → ℕ → Reading → PlanAnswer → Type 0
 RightBoundIn plan scratch binders T states left right reading r = RightBound T states left right reading (old scratch) (new binders) (new scratch) (old plan) (new plan) r
 
 -- `:=`: the left side's entries stay in the scratch
-abbrev pub ColonEqualsIn : Slices → Slices → Tables → Scope → ℕ → ℕ → Reading → PlanAnswer → Type 0
+abbrev pub ColonEqualsIn : MutSlices → MutSlices → Tables → Scope → ℕ → ℕ → Reading → PlanAnswer → Type 0
 ColonEqualsIn plan scratch T s left right reading r =
     AnsweredIn plan (colon_equals_planned T s left right reading) r × (new scratch ≡ put_entries (old scratch) 0 (entries (plan_of T s AllowShadowing left) top))

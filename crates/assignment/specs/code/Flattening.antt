@@ -1,6 +1,6 @@
 -- What the functions of `flatten` ask and say.
 use Rattle.std.specs.Prelude.{ℕ, ◌+◌, ◌-◌, ◌^◌, ◌≤◌, ◌<◌, ◌≡◌, Bool, cond, ◌&&◌, List, [], ◌∷◌, ◌++◌, eqb, length, get_or}
-use Rattle.base.specs.Lent.{Slice, Slices, old, new}
+use Rattle.base.specs.Lent.{MutSlice, MutSlices, old, new}
 use Rattle.table.specs.Tables.{Tables, kind_of, child_at}
 use Rattle.base.specs.Lists.{elem}
 use Rattle.table.specs.code.Sound.{Node, WellFormed}
@@ -96,37 +96,37 @@ pub record ObjectFieldsAsks (T : Tables) (states : List ℕ) (left right : ℕ) 
   pub keys : SameKeys T left right order total
 
 -- each with a scratch that has space for an entry of each node
-abbrev pub SideAsksIn : Slice → Tables → List ℕ → ℕ → ℕ → ℕ → Type 0
+abbrev pub SideAsksIn : MutSlice → Tables → List ℕ → ℕ → ℕ → ℕ → Type 0
 SideAsksIn scratch T states pattern value at = SideAsks T states pattern value at × Roomy T scratch.now
 
-abbrev pub FlattenAsksIn : Slice → Tables → List ℕ → ℕ → ℕ → ℕ → Type 0
+abbrev pub FlattenAsksIn : MutSlice → Tables → List ℕ → ℕ → ℕ → ℕ → Type 0
 FlattenAsksIn scratch T states left right at = FlattenAsks T states left right at × Roomy T scratch.now
 
-abbrev pub ArraysAsksIn : Slice → Tables → List ℕ → ℕ → ℕ → ℕ → Type 0
+abbrev pub ArraysAsksIn : MutSlice → Tables → List ℕ → ℕ → ℕ → ℕ → Type 0
 ArraysAsksIn scratch T states left right at = ArraysAsks T states left right at × Roomy T scratch.now
 
-abbrev pub ItemsAsksIn : Slice → Tables → List ℕ → ℕ → ℕ → ℕ → ℕ → ℕ → Type 0
+abbrev pub ItemsAsksIn : MutSlice → Tables → List ℕ → ℕ → ℕ → ℕ → ℕ → ℕ → Type 0
 ItemsAsksIn scratch T states left parent right k at = ItemsAsks T states left parent right k at × Roomy T scratch.now
 
-abbrev pub ByKeyAsksIn : Slice → Tables → List ℕ → ℕ → ℕ → ℕ → Type 0
+abbrev pub ByKeyAsksIn : MutSlice → Tables → List ℕ → ℕ → ℕ → ℕ → Type 0
 ByKeyAsksIn scratch T states left right at = ByKeyAsks T states left right at × Roomy T scratch.now
 
-abbrev pub ObjectFieldsAsksIn : Slice → Tables → List ℕ → ℕ → ℕ → List ℕ → ℕ → ℕ → Type 0
+abbrev pub ObjectFieldsAsksIn : MutSlice → Tables → List ℕ → ℕ → ℕ → List ℕ → ℕ → ℕ → Type 0
 ObjectFieldsAsksIn scratch T states left right order total at = ObjectFieldsAsks T states left right order total at × Roomy T scratch.now
 
 -- what each says of what it is lent
-abbrev pub SideFlattened : Slices → Slices → Slices → Slices → Tables → ℕ → ℕ → ℕ → Flattened → Type 0
+abbrev pub SideFlattened : MutSlices → MutSlices → MutSlices → MutSlices → Tables → ℕ → ℕ → ℕ → Flattened → Type 0
 SideFlattened states scratch binders plan T pattern value at r =
     Flattens (side_flat T pattern value) T 513 (old states) (old plan) at (new states) (new plan) r × SideWritten T (old states) pattern 1 (old scratch) (new binders) (new scratch)
 
-abbrev pub NodesFlattened : Slices → Slices → Tables → ℕ → ℕ → ℕ → Flattened → Type 0
+abbrev pub NodesFlattened : MutSlices → MutSlices → Tables → ℕ → ℕ → ℕ → Flattened → Type 0
 NodesFlattened states plan T left right at r = Flattens (nodes_flat T left right) T (most_of T right) (old states) (old plan) at (new states) (new plan) r
 
-abbrev pub ArraysFlattened : Slices → Slices → Tables → ℕ → ℕ → ℕ → Flattened → Type 0
+abbrev pub ArraysFlattened : MutSlices → MutSlices → Tables → ℕ → ℕ → ℕ → Flattened → Type 0
 ArraysFlattened states plan T left right at r = Flattens (arrays_flat T left right) T (most_of T right) (old states) (old plan) at (new states) (new plan) r
 
-abbrev pub ItemsFlattened : Slices → Slices → Tables → ℕ → ℕ → ℕ → ℕ → Flattened → Type 0
+abbrev pub ItemsFlattened : MutSlices → MutSlices → Tables → ℕ → ℕ → ℕ → ℕ → Flattened → Type 0
 ItemsFlattened states plan T left right k at r = Flattens (items_flat T left right k) T (most_items T right k) (old states) (old plan) at (new states) (new plan) r
 
-abbrev pub ObjectsFlattened : Slices → Slices → Tables → ℕ → ℕ → ℕ → Flattened → Type 0
+abbrev pub ObjectsFlattened : MutSlices → MutSlices → Tables → ℕ → ℕ → ℕ → Flattened → Type 0
 ObjectsFlattened states plan T left right at r = Flattens (objects_flat T left right) T (most_of T right) (old states) (old plan) at (new states) (new plan) r

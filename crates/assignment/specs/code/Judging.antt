@@ -1,6 +1,6 @@
 -- What becomes of two sides.
 use Rattle.std.specs.Prelude.{ℕ, ◌≡◌, Bool, true, false, cond, ◌&&◌, List, eqb}
-use Rattle.base.specs.Lent.{Slices, old, new}
+use Rattle.base.specs.Lent.{MutSlices, old, new}
 use Rattle.table.specs.Tables.{Tables, kind_of}
 use Rattle.table.specs.Decode.{expr}
 use Rattle.assignment.specs.declared.judge.Pairing.{Pairing}
@@ -56,5 +56,5 @@ pub record Judges (T : Tables) (states : List ℕ) (left right : ℕ) (before bi
   pub sides : SidesTold T states left right 1 before binders scratch count one other
   pub is : r ≡ judgement_of one other (pairing_at T left right)
 
-abbrev pub JudgesIn : Slices → Slices → Tables → List ℕ → ℕ → ℕ → ℕ → Judgement → Type 0
+abbrev pub JudgesIn : MutSlices → MutSlices → Tables → List ℕ → ℕ → ℕ → ℕ → Judgement → Type 0
 JudgesIn scratch binders T states left right count r = Judges T states left right (old scratch) (new binders) (new scratch) count r

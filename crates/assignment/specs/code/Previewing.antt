@@ -1,6 +1,6 @@
 -- A side planned by the states: what the functions of `preview` ask and say.
 use Rattle.std.specs.Prelude.{ℕ, ◌*◌, ◌≤◌, ◌<◌, ◌≡◌, Bool, false, cond, ◌&&◌, not, List, [], eqb, length, get_or, replicate}
-use Rattle.base.specs.Lent.{Slice, Slices, old, new}
+use Rattle.base.specs.Lent.{Slices, MutSlice, MutSlices, old, new}
 use Rattle.table.specs.Tables.{Tables, node_count, kind_of, first_word_of}
 use Rattle.table.specs.Decode.{is_wildcard, expr}
 use Rattle.table.specs.code.Sound.{Node}
@@ -19,7 +19,7 @@ pub record ReadAsks (scratch : List ℕ) (count : ℕ) : Type 0 where
 pub record Roomy (T : Tables) (scratch : List ℕ) : Type 0 where
   pub space : node_count T * entry_words ≤ length scratch
 
-abbrev pub GoodPairIn : Slice → Tables → ℕ → ℕ → Type 0
+abbrev pub GoodPairIn : MutSlice → Tables → ℕ → ℕ → Type 0
 GoodPairIn scratch T left right = GoodPair T left right × Roomy T scratch.now
 
 -- `states` calls the names unbound that the scope does and that are not planned so far, and tells `_`
@@ -31,7 +31,7 @@ pub record Scoped (T : Tables) (unbound : ℕ → Bool) (seen states : List ℕ)
 abbrev pub side_entries : Tables → List ℕ → ℕ → ℕ → List Entry
 side_entries T states n position = entries (plan (unbound_in states) (expr T n) []) (below 0 position)
 
-abbrev pub PreviewAsksIn : Slice → Tables → List ℕ → ℕ → Type 0
+abbrev pub PreviewAsksIn : MutSlice → Tables → List ℕ → ℕ → Type 0
 PreviewAsksIn scratch T states n = Walks T states n × Roomy T scratch.now
 
 -- the plan of a side from the scratch's first word on, its names, and whether it binds
@@ -41,7 +41,7 @@ pub record Previewed (T : Tables) (states : List ℕ) (n position : ℕ) (before
   pub told : binds ≡ introduces_binding (plan (unbound_in states) (expr T n) [])
   pub asks : ReadAsks scratch count
 
-abbrev pub PreviewedIn : Slices → Slices → Tables → List ℕ → ℕ → ℕ → ℕ → Bool → Type 0
+abbrev pub PreviewedIn : MutSlices → MutSlices → Tables → List ℕ → ℕ → ℕ → ℕ → Bool → Type 0
 PreviewedIn scratch binders T states n position count binds = Previewed T states n position (old scratch) (new binders) (new scratch) count binds
 
 -- what a preview leaves in the scratch and the binders
@@ -64,7 +64,7 @@ pub record SidesAsks (T : Tables) (states : List ℕ) (left right : ℕ) : Type 
   pub pair_ok : GoodPair T left right
   pub states_ok : States T states
 
-abbrev pub SidesAsksIn : Slice → Tables → List ℕ → ℕ → ℕ → Type 0
+abbrev pub SidesAsksIn : MutSlice → Tables → List ℕ → ℕ → ℕ → Type 0
 SidesAsksIn scratch T states left right = SidesAsks T states left right × Roomy T scratch.now
 
 -- which of the sides binds; the left one's plan stays in the scratch, over the right one's
@@ -72,5 +72,5 @@ pub record SidesTold (T : Tables) (states : List ℕ) (left right position : ℕ
   pub left_seen : Previewed T states left position (put_entries before 0 (side_entries T states right position)) binders scratch count one
   pub right_told : other ≡ introduces_binding (plan (unbound_in states) (expr T right) [])
 
-abbrev pub SidesToldIn : Slices → Slices → Slices → Tables → ℕ → ℕ → ℕ → ℕ → Bool → Bool → Type 0
-SidesToldIn scratch binders states T left right position count one other = SidesTold T (old states) left right position (old scratch) (new binders) (new scratch) count one other
+abbrev pub SidesToldIn : MutSlices → MutSlices → Slices → Tables → ℕ → ℕ → ℕ → ℕ → Bool → Bool → Type 0
+SidesToldIn scratch binders states T left right position count one other = SidesTold T states.entry.now left right position (old scratch) (new binders) (new scratch) count one other

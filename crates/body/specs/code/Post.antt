@@ -1,6 +1,6 @@
 -- What the functions of a body's check ask and leave.
 use Rattle.std.specs.Prelude.{ℕ, ◌-◌, ◌*◌, ◌≤◌, ◌<◌, ◌≡◌, Bool, true, false, cond, List, [], ◌∷◌, eqb, length, get_or, set}
-use Rattle.base.specs.Lent.{Slices}
+use Rattle.base.specs.Lent.{MutSlices}
 use Rattle.base.specs.Refusal.{passed}
 use Rattle.scope.specs.declared.Scope.{Scope}
 use Rattle.scope.specs.declared.ScopingMode.TheVariants.{RespectParent}
@@ -113,7 +113,7 @@ pub record LineDone (T : Tables) (s : Scope) (n : ℕ) (o : Outcome) (buffer aft
   pub plan : after ≡ buffer
   pub states_are : StatesOf T r.scope known
 
-abbrev pub LineDoneIn : Slices → List ℕ → Tables → Scope → Operation → ℕ → LineStep → Type 0
+abbrev pub LineDoneIn : MutSlices → List ℕ → Tables → Scope → Operation → ℕ → LineStep → Type 0
 LineDoneIn plan known T s operation n r =
     let o = line_outcome T plan.entry.now s operation in
     LineDone T s n o (written o plan.entry.now) plan.exit.now known r
@@ -122,7 +122,7 @@ LineDoneIn plan known T s operation n r =
 abbrev pub cleared : Outcome → List ℕ → List ℕ
 cleared o buffer = cond (is_planned o) buffer (zeros buffer)
 
-abbrev pub SettledIn : Slices → List ℕ → Tables → Scope → Operation → ℕ → ℕ → ℕ → ℕ → LineStep → Type 0
+abbrev pub SettledIn : MutSlices → List ℕ → Tables → Scope → Operation → ℕ → ℕ → ℕ → ℕ → LineStep → Type 0
 SettledIn plan known T s operation n form which count r =
     let o = unless_not_ready T s operation (planned form which (read_entries plan.entry.now 0 count)) in
     LineDone T s n o (cleared o plan.entry.now) plan.exit.now known r

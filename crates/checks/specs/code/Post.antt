@@ -1,7 +1,7 @@
 -- What the functions of the structure check ask and say.
 use Rattle.std.specs.Prelude.{ℕ, ◌+◌, ◌-◌, ◌*◌, ◌^◌, ◌≤◌, ◌<◌, ◌≡◌, Bool, true, false, not, List, eqb, length, get_or}
 use Rattle.std.proofs.Math.Option.{Option}
-use Rattle.base.specs.Lent.{Slices}
+use Rattle.base.specs.Lent.{MutSlices}
 use Rattle.table.specs.Tables.{Tables, kind_of, first_word_of, count_of, child_at}
 use Rattle.literal.specs.Literal.{Literal, null}
 use Rattle.table.specs.Expr.{Expr, other, Exprs}
@@ -22,10 +22,10 @@ use Rattle.checks.specs.Structure.{same_keys, computed_keys, ValueField, is_unde
 use Rattle.checks.specs.code.Joins.{all_paired, each_paired, finished}
 
 -- a buffer to work in: nothing is said of its words at exit
-abbrev pub WorkingSpace : Slices → Type 0
+abbrev pub WorkingSpace : MutSlices → Type 0
 WorkingSpace x = Unit {0}
 
-abbrev pub WorkingSpaces : Slices → Slices → Type 0
+abbrev pub WorkingSpaces : MutSlices → MutSlices → Type 0
 WorkingSpaces x y = WorkingSpace x × WorkingSpace y
 
 -- `left` items from child entry `at` on

@@ -1,6 +1,6 @@
 -- What the parts of the common example ask and say.
 use Rattle.std.specs.Prelude.{ℕ, ◌<◌, List, ◌≡◌}
-use Rattle.base.specs.Lent.{Slices, old, new}
+use Rattle.base.specs.Lent.{Slices, MutSlices, old, new}
 use Rattle.base.specs.Refusal.{passed, tested_or}
 use Rattle.base.specs.Refusal as Refusal
 use Rattle.scope.specs.declared.Scope.{Scope}
@@ -25,15 +25,15 @@ pub record SidesChecked (T : Tables) (s₁ s₂ : PatternSide) (r : Checked) : T
   pub answer : checked_result r ≡ tested_result (tested_or Refusal.refused (side_checked T s₁) (side_checked T s₂))
 
 abbrev pub SidesCheckedIn : Tables → ScopedPattern → Slices → ScopedPattern → Slices → Checked → Type 0
-SidesCheckedIn T p values₁ q values₂ r = SidesChecked T (pattern_side p (old values₁)) (pattern_side q (old values₂)) r
+SidesCheckedIn T p values₁ q values₂ r = SidesChecked T (pattern_side p values₁.entry.now) (pattern_side q values₂.entry.now) r
 
 pub record PassedAsks (T : Tables) (s₁ s₂ : PatternSide) : Type 0 where
   pub first : side_checked T s₁ ≡ passed
   pub second : side_checked T s₂ ≡ passed
 
-abbrev pub PassedIn : Tables → ScopedPattern → Slices → ScopedPattern → Slices → Slices → Slices → ExampleAnswer → Type 0
+abbrev pub PassedIn : Tables → ScopedPattern → Slices → ScopedPattern → Slices → MutSlices → MutSlices → ExampleAnswer → Type 0
 PassedIn T p values₁ q values₂ nodes children r =
-    Gives T (example_from T (pattern_side p (old values₁)) (pattern_side q (old values₂))) (old nodes) (old children) (new nodes) (new children) r
+    Gives T (example_from T (pattern_side p values₁.entry.now) (pattern_side q values₂.entry.now)) (old nodes) (old children) (new nodes) (new children) r
 
 pub record GiveAsks (T : Tables) (held₁ held₂ : List ℕ) (root₁ root₂ : ℕ) : Type 0 where
   pub scope : Scope
@@ -45,8 +45,8 @@ pub record GivesHeld (T : Tables) (held₁ held₂ : List ℕ) (root₁ root₂ 
   pub is : (s₁ s₂ : PatternSide) → HeldBy T s₁ held₁ → HeldBy T s₂ held₂
       → Gives T (example_of (overlap (tree_of T) (held_by_side T s₁) (held_by_side T s₂) 512 root₁ root₂)) nodes children nodes' children' r
 
-abbrev pub GivenIn : Tables → Slices → Slices → ℕ → ℕ → Slices → Slices → ExampleAnswer → Type 0
-GivenIn T held₁ held₂ root₁ root₂ nodes children r = GivesHeld T (old held₁) (old held₂) root₁ root₂ (old nodes) (old children) (new nodes) (new children) r
+abbrev pub GivenIn : Tables → Slices → Slices → ℕ → ℕ → MutSlices → MutSlices → ExampleAnswer → Type 0
+GivenIn T held₁ held₂ root₁ root₂ nodes children r = GivesHeld T held₁.entry.now held₂.entry.now root₁ root₂ (old nodes) (old children) (new nodes) (new children) r
 
 pub record WriteAsks (T : Tables) (held : List ℕ) (root : ℕ) (heads links classes : List ℕ) : Type 0 where
   pub table : WellFormed T
@@ -62,5 +62,5 @@ pub record WritesJoined (T : Tables) (held : List ℕ) (root : ℕ) (heads links
   pub is : (literal_of : ℕ → Literal) → Copied T literal_of heads links
       → Gives T (example_of (built_of literal_of heads links classes 2048 (node_place T.nodes T.names T.text held root 0))) nodes children nodes' children' r
 
-abbrev pub WrittenIn : Tables → Slices → ℕ → Slices → Slices → Slices → Slices → Slices → ExampleAnswer → Type 0
-WrittenIn T held root heads links classes nodes children r = WritesJoined T (old held) root (old heads) (old links) (old classes) (old nodes) (old children) (new nodes) (new children) r
+abbrev pub WrittenIn : Tables → Slices → ℕ → Slices → Slices → Slices → MutSlices → MutSlices → ExampleAnswer → Type 0
+WrittenIn T held root heads links classes nodes children r = WritesJoined T held.entry.now root heads.entry.now links.entry.now classes.entry.now (old nodes) (old children) (new nodes) (new children) r

@@ -2,7 +2,7 @@
 use Rattle.std.specs.Prelude.{ℕ, ◌+◌, ◌-◌, ◌/◌, ◌≤◌, ◌<◌, List, ◌≡◌, length}
 use Rattle.std.proofs.Math.Option.{some}
 use Rattle.std.proofs.lemmas.List.Edits.{sets}
-use Rattle.base.specs.Lent.{Slices, old, new}
+use Rattle.base.specs.Lent.{Slices, MutSlices, old, new}
 use Rattle.base.specs.Refusal.{value_too_large}
 use Rattle.literal.specs.Literal.{Literal}
 use Rattle.table.specs.Tables.{Tables}
@@ -46,8 +46,8 @@ pub record FoundIs (nodes heads links classes : List ℕ) (p entries : ℕ) (out
       → (given_result r ≡ found (length nodes / 5 + size (example t)) (size (example t)) (size (example t) - 1))
       × (out' ≡ sets out 0 (node_words T (example t) entries)) × (kids' ≡ sets kids 0 (child_words_lem (example t) (length nodes / 5)))
 
-abbrev pub FoundWritten : Slices → Slices → Slices → Slices → ℕ → ℕ → Slices → Slices → Given → Type 0
-FoundWritten nodes heads links classes p entries out kids r = FoundIs (old nodes) (old heads) (old links) (old classes) p entries (old out) (old kids) (new out) (new kids) r
+abbrev pub FoundWritten : Slices → Slices → Slices → Slices → ℕ → ℕ → MutSlices → MutSlices → Given → Type 0
+FoundWritten nodes heads links classes p entries out kids r = FoundIs nodes.entry.now heads.entry.now links.entry.now classes.entry.now p entries (old out) (old kids) (new out) (new kids) r
 
 pub record GivenIs (T : Tables) (o : ExampleOutcome) (out kids out' kids' : List ℕ) (r : Given) : Type 0 where
   pub answer : given_result r ≡ example_answer T o out kids
@@ -58,5 +58,5 @@ pub record ExampleIs (nodes heads links classes : List ℕ) (p entries : ℕ) (o
   pub is : (T : Tables) (literal_of : ℕ → Literal) → T.nodes ≡ nodes → length T.children ≡ entries → Copied T literal_of heads links
       → GivenIs T (example_of (built_of literal_of heads links classes 2048 p)) out kids out' kids' r
 
-abbrev pub ExampleWritten : Slices → Slices → Slices → Slices → ℕ → ℕ → Slices → Slices → Given → Type 0
-ExampleWritten nodes heads links classes p entries out kids r = ExampleIs (old nodes) (old heads) (old links) (old classes) p entries (old out) (old kids) (new out) (new kids) r
+abbrev pub ExampleWritten : Slices → Slices → Slices → Slices → ℕ → ℕ → MutSlices → MutSlices → Given → Type 0
+ExampleWritten nodes heads links classes p entries out kids r = ExampleIs nodes.entry.now heads.entry.now links.entry.now classes.entry.now p entries (old out) (old kids) (new out) (new kids) r

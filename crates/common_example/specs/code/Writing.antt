@@ -1,7 +1,7 @@
 -- The words of a class's value, from the arrays of heads, links, classes and sizes.
 use Rattle.std.specs.Prelude.{ℕ, zero, suc, ◌+◌, ◌-◌, ◌*◌, ◌/◌, ◌≤◌, ◌<◌, cond, List, [], ◌∷◌, ◌++◌, ◌≡◌, eqb, leb, length, get_or}
 use Rattle.std.proofs.lemmas.List.Edits.{sets}
-use Rattle.base.specs.Lent.{Slices, old, new}
+use Rattle.base.specs.Lent.{Slices, MutSlices, old, new}
 use Rattle.literal.specs.Literal.{Literal, null}
 use Rattle.table.specs.Tables.{Tables, kind_of, first_word_of, count_of}
 use Rattle.common_example.specs.Operations.{literal_words}
@@ -191,13 +191,13 @@ pub record PartsWritten (nodes heads links classes sizes : List ℕ) (step link 
   pub ends : end ≡ entry + part_entries links sizes step link k
 
 -- the same of what a function is lent, at entry and at exit
-abbrev pub PlaceWrittenIn : Slices → Slices → Slices → Slices → Slices → ℕ → ℕ → ℕ → ℕ → ℕ → ℕ → Slices → Slices → Type 0
+abbrev pub PlaceWrittenIn : Slices → Slices → Slices → Slices → Slices → ℕ → ℕ → ℕ → ℕ → ℕ → ℕ → MutSlices → MutSlices → Type 0
 PlaceWrittenIn nodes heads links classes sizes p r before entries at entry out kids =
-    PlaceWritten (old nodes) (old heads) (old links) (old classes) (old sizes) p r before entries at entry (old out) (old kids) (new out) (new kids)
+    PlaceWritten nodes.entry.now heads.entry.now links.entry.now classes.entry.now sizes.entry.now p r before entries at entry (old out) (old kids) (new out) (new kids)
 
-abbrev pub PartsWrittenIn : Slices → Slices → Slices → Slices → Slices → ℕ → ℕ → ℕ → ℕ → ℕ → ℕ → ℕ → ℕ → Slices → Slices → ℕ → Type 0
+abbrev pub PartsWrittenIn : Slices → Slices → Slices → Slices → Slices → ℕ → ℕ → ℕ → ℕ → ℕ → ℕ → ℕ → ℕ → MutSlices → MutSlices → ℕ → Type 0
 PartsWrittenIn nodes heads links classes sizes step link k r before entries at entry out kids end =
-    PartsWritten (old nodes) (old heads) (old links) (old classes) (old sizes) step link k r before entries at entry (old out) (old kids) (new out) (new kids) end
+    PartsWritten nodes.entry.now heads.entry.now links.entry.now classes.entry.now sizes.entry.now step link k r before entries at entry (old out) (old kids) (new out) (new kids) end
 
 -- the nodes that stand for literals are those that are copied, and null's words are always the same
 pub record Copied (T : Tables) (literal_of : ℕ → Literal) (heads links : List ℕ) : Type 0 where

@@ -1,5 +1,4 @@
 // The child list with the fields of each object that is a simple pattern in key order, as a plan has them.
-ghost use Rattle.base.specs.Lent.{old, new};
 ghost use Rattle.table.specs.Lent.{given, lent};
 ghost use Rattle.std.specs.Prelude.{◌≡◌};
 ghost use Rattle.base.specs.Lists.{tabulate};
@@ -13,7 +12,7 @@ use table::reading::{child_at, count_of, first_of, kind_of};
 
 // The child entries, and 0 past them.
 fn copy_children(children: &[u32]) -> [u32; 512]
-    ensures { result ≡ tabulate (child_at (old children)) 0 512 }
+    ensures { result ≡ tabulate (child_at children.now) 0 512 }
 {
     let mut entries = [0u32; 512];
     let mut i: usize = 0;
@@ -33,7 +32,7 @@ fn copy_fields(
     entries: &mut [u32; 512],
 )
     requires { CopyAsks order.now first count entries.old }
-    ensures { FieldsCopied (old children) (old order) first count (old entries) (new entries) }
+    ensures { FieldsCopied children.now order.now first count entries.old entries.new }
 {
     let words = count * 2;
     let mut j: usize = 0;
@@ -56,7 +55,7 @@ fn order_object<'a>(
     entries: &mut [u32; 512],
 )
     requires { OrderObjectAsks (given nodes children numbers names strings text) node entries.old }
-    ensures { NodeOrdered (lent nodes children numbers names strings text) node (old entries) (new entries) }
+    ensures { NodeOrdered (lent nodes children numbers names strings text) node entries.old entries.new }
 {
     let first = first_of(nodes, node) as usize;
     let count = count_of(nodes, node) as usize;
@@ -80,7 +79,7 @@ fn order_node<'a>(
     entries: &mut [u32; 512],
 )
     requires { OrderNodeAsks (given nodes children numbers names strings text) marks.now node entries.old }
-    ensures { NodeOrdered (lent nodes children numbers names strings text) node (old entries) (new entries) }
+    ensures { NodeOrdered (lent nodes children numbers names strings text) node entries.old entries.new }
 {
     if marks[node as usize - 1] != 1 {
         return;

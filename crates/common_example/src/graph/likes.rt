@@ -1,5 +1,4 @@
 // For each literal's node the lowest-numbered node of an equal literal: what a literal is told by, and what is copied of it.
-ghost use Rattle.base.specs.Lent.{old, new};
 ghost use Rattle.std.specs.Prelude.{◌/◌, ◌≡◌, length};
 ghost use Rattle.table.specs.Decode.{literal_node};
 ghost use Rattle.common_example.specs.code.arrays.Distinct.{FindAsks, LiteralFound, AddAsks, NodeAdded};
@@ -29,7 +28,7 @@ fn find_literal<'a>(
     count: usize,
 ) -> Found
     requires { FindAsks (literal_node nodes.now numbers.now strings.now text.now) node order.now count }
-    ensures { LiteralFound (literal_node (old nodes) (old numbers) (old strings) (old text)) node (old order) count result.place result.equal }
+    ensures { LiteralFound (literal_node nodes.now numbers.now strings.now text.now) node order.now count result.place result.equal }
 {
     let mut low: usize = 0;
     let mut high = count;
@@ -65,7 +64,7 @@ fn add_node<'a>(
     count: usize,
 ) -> Added
     requires { AddAsks (literal_node nodes.now numbers.now strings.now text.now) node order.old count }
-    ensures { NodeAdded (literal_node (old nodes) (old numbers) (old strings) (old text)) node (new order) result.count result.like }
+    ensures { NodeAdded (literal_node nodes.now numbers.now strings.now text.now) node order.new result.count result.like }
 {
     let literal = same_literals(nodes, numbers, strings, text, node, node);
     if !literal {
@@ -94,7 +93,7 @@ pub(crate) fn like_nodes<'a>(
     text: &'a [u8],
 ) -> [u32; 512]
     requires { LikesAsks nodes.now }
-    ensures { result ≡ likes (literal_node (old nodes) (old numbers) (old strings) (old text)) (length (old nodes) / 5) }
+    ensures { result ≡ likes (literal_node nodes.now numbers.now strings.now text.now) (length nodes.now / 5) }
 {
     let mut like = [0u32; 512];
     let mut order = [0u32; 512];

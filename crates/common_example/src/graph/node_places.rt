@@ -1,5 +1,4 @@
 // The place of a node's value on a side: n * 4 is node n on the first, n * 4 + 1 on the second; n * 4 + 2 and n * 4 + 3 are name n.
-ghost use Rattle.base.specs.Lent.{old};
 ghost use Rattle.table.specs.Lent.{given};
 ghost use Rattle.std.specs.Prelude.{◌≡◌};
 ghost use Rattle.table.specs.Tables.{name_bytes};
@@ -10,7 +9,7 @@ use table::reading::{first_of, kind_of, name_class};
 use table::{NameClass, node_kind};
 
 fn is_underscore(names: &[u32], text: &[u8], name: u32) -> bool
-    ensures { result ≡ same_bytes (name_bytes (old names) (old text) name) underscore_bytes }
+    ensures { result ≡ same_bytes (name_bytes names.now text.now name) underscore_bytes }
 {
     let class = name_class(names, text, name);
     match class {
@@ -23,7 +22,7 @@ fn is_underscore(names: &[u32], text: &[u8], name: u32) -> bool
 // `held` has for each name number the node of its value, or 0.
 fn name_place(names: &[u32], text: &[u8], held: &[u32; 128], name: u32, node: u32, side: u32) -> u32
     requires { NamePlaceAsks held.now name node side }
-    ensures { result ≡ name_place_in (old names) (old text) (old held) name node side }
+    ensures { result ≡ name_place_in names.now text.now held.now name node side }
 {
     if is_underscore(names, text, name) {
         return node * 4 + side;
@@ -47,7 +46,7 @@ pub(crate) fn node_place<'a>(
     side: u32,
 ) -> u32
     requires { NodePlaceAsks (given nodes children numbers names strings text) held.now node side }
-    ensures { result ≡ node_place (old nodes) (old names) (old text) (old held) node side }
+    ensures { result ≡ node_place nodes.now names.now text.now held.now node side }
 {
     if kind_of(nodes, node) == node_kind::NAME {
         return name_place(names, text, held, first_of(nodes, node), node, side);
@@ -67,7 +66,7 @@ pub(crate) fn side_places<'a>(
     side: u32,
 ) -> [u32; 512]
     requires { SidePlacesAsks (given nodes children numbers names strings text) held.now side }
-    ensures { result ≡ side_places (old nodes) (old names) (old text) (old held) side }
+    ensures { result ≡ side_places nodes.now names.now text.now held.now side }
 {
     let mut places = [0u32; 512];
     let count = nodes.len() / 5;

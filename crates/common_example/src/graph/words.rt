@@ -1,5 +1,4 @@
 // What is known of each place, and the links to its parts.
-ghost use Rattle.base.specs.Lent.{old, new};
 ghost use Rattle.std.specs.Prelude.{◌≤◌, ◌≡◌};
 ghost use Rattle.base.specs.Lists.{tabulate};
 ghost use Rattle.common_example.specs.code.arrays.Arrays.{of_node, link_word, head_kind, head_start, head_count, HeadAsks, head_part, head_word_at, HeadsAsks};
@@ -10,7 +9,7 @@ use table::reading::{child_at, count_of, first_of, kind_of};
 
 // The word of a node, in a list by node numbers; 0 for node 0.
 fn of_node(list: &[u32], node: u32) -> u32
-    ensures { result ≡ of_node (old list) node }
+    ensures { result ≡ of_node list.now node }
 {
     if node == 0 {
         return 0;
@@ -20,7 +19,7 @@ fn of_node(list: &[u32], node: u32) -> u32
 
 // Four words a child entry: its place on each side, and twice the node of its literal.
 fn link_word(ordered: &[u32], first: &[u32], second: &[u32], like: &[u32], i: usize) -> u32
-    ensures { result ≡ link_word (old ordered) (old first) (old second) (old like) i }
+    ensures { result ≡ link_word ordered.now first.now second.now like.now i }
 {
     let node = child_at(ordered, i / 4);
     let way = i % 4;
@@ -40,7 +39,7 @@ pub(crate) fn link_words(
     like: &[u32],
     links: &mut [u32; LINK_WORDS],
 )
-    ensures { new links ≡ tabulate (link_word (old ordered) (old first) (old second) (old like)) 0 2048 }
+    ensures { links.new ≡ tabulate (link_word ordered.now first.now second.now like.now) 0 2048 }
 {
     *links = [0u32; LINK_WORDS];
     let mut i: usize = 0;
@@ -69,7 +68,7 @@ fn head_kind(kind: u32) -> u32
 // The node of a literal, or the first link.
 fn head_start(nodes: &[u32], like: &[u32], node: u32, side: u32) -> u32
     requires { HeadAsks nodes.now node side }
-    ensures { result ≡ head_start (old nodes) (old like) node side }
+    ensures { result ≡ head_start nodes.now like.now node side }
 {
     let known = head_kind(kind_of(nodes, node));
     if known == 0 {
@@ -83,7 +82,7 @@ fn head_start(nodes: &[u32], like: &[u32], node: u32, side: u32) -> u32
 
 // How many links.
 fn head_count(nodes: &[u32], node: u32) -> u32
-    ensures { result ≡ head_count (old nodes) node }
+    ensures { result ≡ head_count nodes.now node }
 {
     let known = head_kind(kind_of(nodes, node));
     if known <= 1 {
@@ -95,7 +94,7 @@ fn head_count(nodes: &[u32], node: u32) -> u32
 // Word k of a place's head; of a place that is no marked node's nothing is known.
 fn head_part(nodes: &[u32], marks: &[u8; 512], like: &[u32], node: u32, side: u32, k: usize) -> u32
     requires { HeadsAsks nodes.now marks.now × (node ≤ 512) }
-    ensures { result ≡ head_part (old nodes) (old marks) (old like) node side k }
+    ensures { result ≡ head_part nodes.now marks.now like.now node side k }
 {
     if node == 0 {
         return 0;
@@ -122,7 +121,7 @@ pub(crate) fn head_words(
     heads: &mut [u32; HEAD_WORDS],
 )
     requires { HeadsAsks nodes.now marks.now }
-    ensures { new heads ≡ tabulate (head_word_at (old nodes) (old marks) (old like)) 0 6156 }
+    ensures { heads.new ≡ tabulate (head_word_at nodes.now marks.now like.now) 0 6156 }
 {
     *heads = [0u32; HEAD_WORDS];
     let mut i: usize = 0;

@@ -1,7 +1,7 @@
 -- What the functions of the code ask of their callers and say.
 use Rattle.std.specs.Prelude.{ℕ, ◌≤◌, ◌<◌, ◌≡◌, Bool, true, false, cond, List, eqb}
 use Rattle.std.proofs.Math.Option.{Option, none, some}
-use Rattle.base.specs.Lent.{Slices, old, new}
+use Rattle.base.specs.Lent.{MutSlices, old, new}
 use Rattle.literal.specs.Literal.{Literal}
 use Rattle.literal.specs.Order.{key_order}
 use Rattle.table.specs.Tables.{Tables, kind_of, first_word_of, count_of}
@@ -143,5 +143,5 @@ abbrev pub walk_under : Tables → ℕ → ℕ → Env → MissOutcome
 walk_under T a b env = walk_fields (key_at T) b (fields_of T a) (value_fields_of (fields_of T b)) env
 
 -- the same of a list that is lent, at entry and at exit
-abbrev pub CameIn : Slices → Tables → (Env → MissOutcome) → Walked → Type 0
+abbrev pub CameIn : MutSlices → Tables → (Env → MissOutcome) → Walked → Type 0
 CameIn list T f r = Came T (f (env_of T (old list))) (new list) r

@@ -1,7 +1,7 @@
 -- What the functions that carry a plan out ask of their caller and say.
 use Rattle.std.specs.Prelude.{ℕ, ◌+◌, ◌-◌, ◌*◌, ◌≤◌, ◌<◌, ◌≡◌, Bool, true, false, cond, List, [], ◌++◌, eqb, length, get_or, replicate}
 use Rattle.std.proofs.Math.Option.{none}
-use Rattle.base.specs.Lent.{Slices}
+use Rattle.base.specs.Lent.{MutSlices}
 use Rattle.table.specs.Tables.{Tables, kind_of, first_word_of, count_of}
 use Rattle.table.specs.Expr.{depth}
 use Rattle.table.specs.Decode.{expr}
@@ -78,7 +78,7 @@ pub record Came (T : Tables) (o : MatchOutcome) (after : List ℕ) (r : Bool) : 
   pub list_ok : ListOk T after
 
 -- the same of a `&mut` list, at entry and at exit
-abbrev pub CameIn : Slices → Tables → List ℕ → ℕ → ℕ → Bool → Type 0
+abbrev pub CameIn : MutSlices → Tables → List ℕ → ℕ → ℕ → Bool → Type 0
 CameIn list T scratch at value r = Came T (run_at T scratch at value list.entry.now) list.exit.now r
 
 -- the value that the list has for the name at a node

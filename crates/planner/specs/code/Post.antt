@@ -4,7 +4,7 @@ use Rattle.std.proofs.lemmas.List.Edits.{sets}
 use Rattle.table.specs.Tables.{Tables, kind_of, child_at}
 use Rattle.std.specs.Borrow.{Bor}
 use denote.Triple.Both.{Both}
-use Rattle.base.specs.Lent.{Slices}
+use Rattle.base.specs.Lent.{MutSlices}
 use Rattle.scope.specs.declared.Scope.{Scope}
 use Rattle.scope.specs.declared.ScopingMode.{ScopingMode}
 use Rattle.scope.specs.Scope.{is_unbound}
@@ -130,8 +130,8 @@ pub record PatternPlanned (T : Tables) (s : Scope) (mode : ScopingMode) (root at
   pub space : r ≤ at + root
 
 -- the same of a `&mut` buffer and `&mut` binders, at entry and at exit
-abbrev pub PlannedIn : Slices → Slices → Tables → List ℕ → ℕ → ℕ → ℕ → ℕ → Type 0
+abbrev pub PlannedIn : MutSlices → MutSlices → Tables → List ℕ → ℕ → ℕ → ℕ → ℕ → Type 0
 PlannedIn plan binders T states root position at r = PlannedBy T states root position at plan.entry.now binders.exit.now plan.exit.now r
 
-abbrev pub PatternPlannedIn : Slices → Slices → Tables → Scope → ScopingMode → ℕ → ℕ → ℕ → Type 0
+abbrev pub PatternPlannedIn : MutSlices → MutSlices → Tables → Scope → ScopingMode → ℕ → ℕ → ℕ → Type 0
 PatternPlannedIn plan binders T s mode root at r = PatternPlanned T s mode root at plan.entry.now binders.exit.now plan.exit.now r

@@ -1,5 +1,4 @@
 // The plan of a pattern of a checked table: the first pass, in written order, finds the node that binds each name. Each pass counts the nodes that it goes into.
-ghost use Rattle.base.specs.Lent.{old, new};
 ghost use Rattle.table.specs.Lent.{given, lent};
 ghost use Rattle.std.specs.Prelude.{◌≡◌};
 ghost use Rattle.table.specs.Decode.{expr};
@@ -25,7 +24,7 @@ pub struct Progress {
 // A name binds at the first node that meets it unbound.
 fn decide_name(states: &[u8; 128], binders: &mut [u32; 128], node: u32, name: u32)
     requires { NameNumber name }
-    ensures { new binders ≡ bind_name (unbound_in (old states)) node name (old binders) }
+    ensures { binders.new ≡ bind_name (unbound_in states.now) node name binders.old }
 {
     let at = name as usize - 1;
     if states[at] == 1 {
@@ -50,7 +49,7 @@ fn decide<'a>(
 )
     requires walks { Walks (given nodes children numbers names strings text) states.now node }
     requires room { StepRoom steps.old (written_steps (expr (given nodes children numbers names strings text) node)) }
-    ensures bound { new binders ≡ binders_of (unbound_in (old states)) (expr (lent nodes children numbers names strings text) node) (old binders) }
+    ensures bound { binders.new ≡ binders_of (unbound_in states.now) (expr (lent nodes children numbers names strings text) node) binders.old }
     ensures counted { Counts steps (written_steps (expr (lent nodes children numbers names strings text) node)) }
 {
     *steps += 1;
@@ -87,7 +86,7 @@ fn decide_children<'a>(
 )
     requires walks { WalksChildren (given nodes children numbers names strings text) states.now parent at step left }
     requires room { StepRoom steps.old (steps_below (given nodes children numbers names strings text) at step left) }
-    ensures bound { new binders ≡ binders_below (old states) (lent nodes children numbers names strings text) at step left (old binders) }
+    ensures bound { binders.new ≡ binders_below states.now (lent nodes children numbers names strings text) at step left binders.old }
     ensures counted { Counts steps (steps_below (lent nodes children numbers names strings text) at step left) }
 {
     let mut place = at;
@@ -118,8 +117,8 @@ pub fn create_destructuring_plan_with_tracking<'a>(
     at: usize,
 ) -> Progress
     requires { PlanAsks (given nodes children numbers names strings text) states.now root binders.old at }
-    ensures planned { PlannedIn plan binders (lent nodes children numbers names strings text) (old states) root position at result.next }
-    ensures counted { result.steps ≡ steps (unbound_in (old states)) (expr (lent nodes children numbers names strings text) root) }
+    ensures planned { PlannedIn plan binders (lent nodes children numbers names strings text) states.now root position at result.next }
+    ensures counted { result.steps ≡ steps (unbound_in states.now) (expr (lent nodes children numbers names strings text) root) }
 {
     let mut steps: usize = 0;
     decide(

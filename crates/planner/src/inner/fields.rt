@@ -1,5 +1,4 @@
 // The fields of a checked table's object in plan order: literal keys in key order, the last of a repeated key, then computed ones as written.
-ghost use Rattle.base.specs.Lent.{old, new};
 ghost use Rattle.table.specs.Lent.{given, lent, lent_literal, lent_referred};
 ghost use Rattle.std.specs.Prelude.{◌≡◌, ◌+◌, ◌*◌, ◌<◌, ◌^◌};
 ghost use Rattle.literal.specs.Order.{compared};
@@ -39,7 +38,7 @@ fn compare_keys<'a>(
     j: usize,
 ) -> Comparison
     requires { first + j * 2 < 2 ^ 64 }
-    ensures { result ≡ compared (lent_referred numbers strings text key) (lent_literal nodes numbers strings text (child_at (old children) (first + j * 2))) }
+    ensures { result ≡ compared (lent_referred numbers strings text key) (lent_literal nodes numbers strings text (child_at children.now (first + j * 2))) }
 {
     let other = child_at(children, first + j * 2);
     compare_literal_to_node(nodes, numbers, strings, text, key, other)
@@ -59,7 +58,7 @@ pub fn find_field<'a>(
     key: LiteralRef,
 ) -> Found
     requires { FindAsks (given nodes children numbers names strings text) first order.now literals key }
-    ensures { FoundIn (lent nodes children numbers names strings text) first key (old order) literals result.place result.equal }
+    ensures { FoundIn (lent nodes children numbers names strings text) first key order.now literals result.place result.equal }
 {
     let mut low: usize = 0;
     let mut high = literals;
@@ -98,7 +97,7 @@ fn add_field<'a>(
     sizes: Sizes,
 ) -> Sizes
     requires { AddAsks (given nodes children numbers names strings text) first field order.old sizes.literals sizes.total }
-    ensures { FieldAdded (lent nodes children numbers names strings text) first field (old order) sizes.total (new order) result.literals result.total }
+    ensures { FieldAdded (lent nodes children numbers names strings text) first field order.old sizes.total order.new result.literals result.total }
 {
     let total = sizes.total;
     let literals = sizes.literals;
@@ -139,7 +138,7 @@ pub fn order_fields<'a>(
     order: &mut [u8; 256],
 ) -> u32
     requires { OrderAsks (given nodes children numbers names strings text) first count }
-    ensures { Arranged (lent nodes children numbers names strings text) first count (old order) (new order) result }
+    ensures { Arranged (lent nodes children numbers names strings text) first count order.old order.new result }
 {
     let mut sizes = Sizes {
         literals: 0,

@@ -1,5 +1,4 @@
 // The walk over the names of a checked table's pattern, as written.
-ghost use Rattle.base.specs.Lent.{old};
 ghost use Rattle.table.specs.Lent.{given, lent};
 ghost use Rattle.std.specs.Prelude.{◌≡◌, cond};
 ghost use Rattle.table.specs.Decode.{expr};
@@ -20,7 +19,7 @@ pub(crate) struct Span {
 
 // Where the walk goes on below a node: items, members if `sets`, values, with their keys before them if `keys`.
 pub(crate) fn span_of(nodes: &[u32], node: u32, sets: bool, keys: bool) -> Span
-    ensures { SpanOf (old nodes) sets keys node result.at result.step result.left }
+    ensures { SpanOf nodes.now sets keys node result.at result.step result.left }
 {
     let kind = kind_of(nodes, node);
     let at = first_of(nodes, node) as usize;
@@ -61,7 +60,7 @@ pub(crate) fn span_of(nodes: &[u32], node: u32, sets: bool, keys: bool) -> Span
 
 fn marked_node(flags: &[u8; 128], node: u32, name: u32) -> u32
     requires { NameNumber name }
-    ensures { result ≡ cond (marked_in (old flags) name) node 0 }
+    ensures { result ≡ cond (marked_in flags.now name) node 0 }
 {
     if flags[name as usize - 1] == 1 {
         return node;
@@ -84,7 +83,7 @@ pub fn first_name<'a>(
     node: u32,
 ) -> u32
     requires { Walks (given nodes children numbers names strings text) flags.now node }
-    ensures { result ≡ first_node (marked_in (old flags)) (occurrences sets keys (expr (lent nodes children numbers names strings text) node)) }
+    ensures { result ≡ first_node (marked_in flags.now) (occurrences sets keys (expr (lent nodes children numbers names strings text) node)) }
 {
     if kind_of(nodes, node) == node_kind::NAME {
         return marked_node(flags, node, first_of(nodes, node));
@@ -116,7 +115,7 @@ fn first_name_children<'a>(
     left: usize,
 ) -> u32
     requires { WalksChildren (given nodes children numbers names strings text) flags.now parent at step left }
-    ensures { result ≡ first_node (marked_in (old flags)) (occurrences_below sets keys (lent nodes children numbers names strings text) at step left) }
+    ensures { result ≡ first_node (marked_in flags.now) (occurrences_below sets keys (lent nodes children numbers names strings text) at step left) }
 {
     let mut place = at;
     let mut more = left;

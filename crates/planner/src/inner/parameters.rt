@@ -1,5 +1,4 @@
 // The validation of the names of a checked table's pattern (utils.rs).
-ghost use Rattle.base.specs.Lent.{old};
 ghost use Rattle.table.specs.Lent.{given, lent};
 ghost use Rattle.std.specs.Prelude.{◌≡◌};
 ghost use Rattle.planner.specs.code.Post.{GoodRoot};
@@ -22,7 +21,7 @@ pub fn validate_pattern_bindings<'a>(
     root: u32,
 ) -> u32
     requires { GoodRoot (given nodes children numbers names strings text) root }
-    ensures { result ≡ first_defined (lent nodes children numbers names strings text) scope (old binders) root }
+    ensures { result ≡ first_defined (lent nodes children numbers names strings text) scope binders.now root }
 {
     let flags = name_flags(
         names,

@@ -1,5 +1,4 @@
 // The second pass: a plan's entries in plan order (plans.rs, destructuring.rs).
-ghost use Rattle.base.specs.Lent.{old};
 ghost use Rattle.table.specs.Lent.{given, lent};
 ghost use Rattle.std.specs.Prelude.{◌≡◌, ◌-◌, length};
 ghost use Rattle.table.specs.Decode.{expr};
@@ -18,7 +17,7 @@ use table::reading::{child_at, count_of, first_of, kind_of};
 // `_` is ignored, a binder binds, any other name is compared.
 fn name_kind(states: &[u8; 128], binders: &[u32; 128], node: u32, name: u32) -> u32
     requires { NameNumber name }
-    ensures { result ≡ name_entry_kind (old states) (old binders) node name }
+    ensures { result ≡ name_entry_kind states.now binders.now node name }
 {
     let at = name as usize - 1;
     if states[at] == 2 {
@@ -60,8 +59,8 @@ pub(crate) fn lay_out<'a>(
 ) -> usize
     requires asks { LayAsks (given nodes children numbers names strings text) states.now binders.now node (below key position) at }
     requires room { StepRoom steps.old (lay_steps binders.now (given nodes children numbers names strings text) node (below key position)) }
-    ensures laid { WroteIn plan at (lay_out (old binders) (expr (lent nodes children numbers names strings text) node) (below key position)) result }
-    ensures counted { Counts steps (lay_steps (old binders) (lent nodes children numbers names strings text) node (below key position)) }
+    ensures laid { WroteIn plan at (lay_out binders.now (expr (lent nodes children numbers names strings text) node) (below key position)) result }
+    ensures counted { Counts steps (lay_steps binders.now (lent nodes children numbers names strings text) node (below key position)) }
 {
     *steps += 1;
     let kind = kind_of(nodes, node);
@@ -121,8 +120,8 @@ fn lay_items<'a>(
 ) -> usize
     requires asks { LayItemsAsks (given nodes children numbers names strings text) states.now binders.now parent from left 1 at }
     requires room { StepRoom steps.old (length (lay_out_items binders.now (given nodes children numbers names strings text) from left 1)) }
-    ensures laid { WroteIn plan at (lay_out_items (old binders) (lent nodes children numbers names strings text) from left 1) result }
-    ensures counted { Counts steps (length (lay_out_items (old binders) (lent nodes children numbers names strings text) from left 1)) }
+    ensures laid { WroteIn plan at (lay_out_items binders.now (lent nodes children numbers names strings text) from left 1) result }
+    ensures counted { Counts steps (length (lay_out_items binders.now (lent nodes children numbers names strings text) from left 1)) }
 {
     let mut place = from;
     let mut more = left;
@@ -161,8 +160,8 @@ fn lay_object<'a>(
 ) -> usize
     requires asks { LayObjectAsks (given nodes children numbers names strings text) states.now binders.now node (below key position) at }
     requires room { StepRoom steps.old (lay_steps binders.now (given nodes children numbers names strings text) node (below key position) - 1) }
-    ensures laid { WroteIn plan at (lay_out (old binders) (expr (lent nodes children numbers names strings text) node) (below key position)) result }
-    ensures counted { Counts steps (lay_steps (old binders) (lent nodes children numbers names strings text) node (below key position) - 1) }
+    ensures laid { WroteIn plan at (lay_out binders.now (expr (lent nodes children numbers names strings text) node) (below key position)) result }
+    ensures counted { Counts steps (lay_steps binders.now (lent nodes children numbers names strings text) node (below key position) - 1) }
 {
     let first = first_of(nodes, node) as usize;
     let count = count_of(nodes, node) as usize;
@@ -211,8 +210,8 @@ fn lay_fields<'a>(
 ) -> usize
     requires asks { LayOrderedAsks (given nodes children numbers names strings text) states.now binders.now parent first order.now total at }
     requires room { StepRoom steps.old (length (lay_out_ordered binders.now (given nodes children numbers names strings text) first order.now 0 total)) }
-    ensures laid { WroteIn plan at (lay_out_ordered (old binders) (lent nodes children numbers names strings text) first (old order) 0 total) result }
-    ensures counted { Counts steps (length (lay_out_ordered (old binders) (lent nodes children numbers names strings text) first (old order) 0 total)) }
+    ensures laid { WroteIn plan at (lay_out_ordered binders.now (lent nodes children numbers names strings text) first order.now 0 total) result }
+    ensures counted { Counts steps (length (lay_out_ordered binders.now (lent nodes children numbers names strings text) first order.now 0 total)) }
 {
     let mut q: usize = 0;
     let mut here = at;

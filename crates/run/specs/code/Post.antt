@@ -4,7 +4,7 @@ use Rattle.base.specs.Refusal.{Refusal, passed}
 use Rattle.scope.specs.declared.Scope.{Scope}
 use Rattle.scope.specs.declared.ScopingMode.{ScopingMode}
 use Rattle.scope.specs.Scope.{is_unbound, known}
-use Rattle.base.specs.Lent.{Slices, old, new}
+use Rattle.base.specs.Lent.{Slices, MutSlices, old, new}
 use Rattle.table.specs.Tables.{Tables, name_count}
 use Rattle.table.specs.Expr.{Expr}
 use Rattle.table.specs.Decode.{expr}
@@ -67,12 +67,12 @@ module _ (T : Tables) (s : Scope) (mode : ScopingMode) (pattern value : ℕ) (va
     pub refuses : (a : RunAnswer) → r ≡ Refused a → TurnedBack a
 
 -- The same of what is lent, at entry and at exit: what the values came to, a plan carried out, what is turned back.
-abbrev pub ValuesCameIn : Slices → Tables → Scope → ScopingMode → List ℕ → ℕ → List ℕ → ℕ → RunAnswer → Type 0
+abbrev pub ValuesCameIn : MutSlices → Tables → Scope → ScopingMode → List ℕ → ℕ → List ℕ → ℕ → RunAnswer → Type 0
 ValuesCameIn values T s mode scratch count binders value r = ValuesCame T s mode scratch count binders value (old values) (new values) r
 
-abbrev pub CarriedIn : Slices → Slices → Tables → Scope → ScopingMode → ℕ → ℕ → RunAnswer → Type 0
+abbrev pub CarriedIn : MutSlices → MutSlices → Tables → Scope → ScopingMode → ℕ → ℕ → RunAnswer → Type 0
 CarriedIn values plan T s mode pattern value r =
     Ran (planned_name (known s mode) (expr T pattern)) (carried_out (entries (plan_of T s mode pattern) top) (ran T s mode pattern value (old values))) (old values) (old plan) (new values) (new plan) r
 
 abbrev pub CheckToldIn : Slices → Tables → Scope → ScopingMode → ℕ → ℕ → RunCheck → Type 0
-CheckToldIn values T s mode pattern value r = CheckTold T s mode pattern value (old values) r
+CheckToldIn values T s mode pattern value r = CheckTold T s mode pattern value values.entry.now r

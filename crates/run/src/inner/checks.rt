@@ -1,5 +1,4 @@
 // What a run turns back before it plans: a pattern that is not simple, a node that is no value.
-ghost use Rattle.base.specs.Lent.{old};
 ghost use Rattle.table.specs.Lent.{given, lent};
 ghost use Rattle.std.specs.Prelude.{◌/◌, ◌≤◌, ◌≡◌, ◌&&◌, length};
 ghost use Rattle.table.specs.Decode.{expr};
@@ -31,7 +30,7 @@ pub fn is_simple<'a>(
 // Is a number that of a value's node, by the marks?
 fn is_value(nodes: &[u32], marks: &[u8; 512], node: u32) -> bool
     requires { length nodes.now / 5 ≤ 512 }
-    ensures { result ≡ marked_node (old nodes) (old marks) node }
+    ensures { result ≡ marked_node nodes.now marks.now node }
 {
     if is_node(nodes, node) {
         return marks[node as usize - 1] == 1;
@@ -42,7 +41,7 @@ fn is_value(nodes: &[u32], marks: &[u8; 512], node: u32) -> bool
 // A listed node is 0 or that of a value.
 fn is_listed_value(nodes: &[u32], marks: &[u8; 512], node: u32) -> bool
     requires { length nodes.now / 5 ≤ 512 }
-    ensures { result ≡ marked_if_listed (old nodes) (old marks) node }
+    ensures { result ≡ marked_if_listed nodes.now marks.now node }
 {
     if node == 0 {
         return true;
@@ -52,7 +51,7 @@ fn is_listed_value(nodes: &[u32], marks: &[u8; 512], node: u32) -> bool
 
 pub fn values_listed(nodes: &[u32], names: &[u32], marks: &[u8; 512], values: &[u32]) -> bool
     requires { ValuesAsks nodes.now names.now values.now }
-    ensures { result ≡ all_marked (old nodes) (old names) (old marks) (old values) }
+    ensures { result ≡ all_marked nodes.now names.now marks.now values.now }
 {
     let count = names.len() / 2;
     let mut i: usize = 0;
@@ -77,7 +76,7 @@ pub(crate) fn all_values<'a>(
     values: &[u32],
 ) -> bool
     requires { AllAsks (given nodes children numbers names strings text) value values.now }
-    ensures { let T = lent nodes children numbers names strings text in result ≡ (is_value (expr T value) && values_listed T (old values)) }
+    ensures { let T = lent nodes children numbers names strings text in result ≡ (is_value (expr T value) && values_listed T values.now) }
 {
     let marks = mark_nodes(nodes, children, numbers, names, strings, text, false);
     if !is_value(nodes, &marks, value) {

@@ -1,5 +1,4 @@
 // The values of names by their numbers: at the start, and after a match.
-ghost use Rattle.base.specs.Lent.{old, new};
 ghost use Rattle.table.specs.Lent.{given, lent};
 ghost use Rattle.std.specs.Prelude.{◌/◌, ◌≡◌, [], cond, eqb, length};
 ghost use Rattle.scope.specs.Scope.{is_unbound, known};
@@ -15,7 +14,7 @@ use table::NameClass;
 use table::reading::name_class;
 
 pub fn is_wildcard(names: &[u32], text: &[u8], name: u32) -> bool
-    ensures { result ≡ is_wildcard (tables [] [] [] (old names) [] (old text)) name }
+    ensures { result ≡ is_wildcard (tables [] [] [] names.now [] text.now) name }
 {
     let class = name_class(names, text, name);
     match class {
@@ -50,7 +49,7 @@ fn start_value(scope: Scope, scoping: ScopingMode, name: u32, listed: u32) -> u3
 
 pub fn start_list(names: &[u32], scope: Scope, scoping: ScopingMode, values: &[u32]) -> [u32; 128]
     requires { ListAsks names.now values.now }
-    ensures { StartOf (length (old names) / 2) scope scoping (old values) result }
+    ensures { StartOf (length names.now / 2) scope scoping values.now result }
 {
     let mut list = [0u32; 128];
     let count = names.len() / 2;
@@ -74,7 +73,7 @@ fn new_value(binder: u32, old: u32, new: u32) -> u32
 // The names with a binder are set.
 pub(crate) fn set_names(names: &[u32], binders: &[u32; 128], list: &[u32; 128], values: &mut [u32])
     requires { ListAsks names.now values.old }
-    ensures { NamesSet (length (old names) / 2) (old binders) (old list) (old values) (new values) }
+    ensures { NamesSet (length names.now / 2) binders.now list.now values.old values.new }
 {
     let count = names.len() / 2;
     let mut i: usize = 0;
@@ -107,7 +106,7 @@ fn all_have_values(
     values: &[u32],
 ) -> bool
     requires { ListAsks names.now values.now }
-    ensures { result ≡ all_have_values (length (old names) / 2) (is_unbound scope scoping) (old met) (old values) }
+    ensures { result ≡ all_have_values (length names.now / 2) (is_unbound scope scoping) met.now values.now }
 {
     let count = names.len() / 2;
     let mut i: usize = 0;
@@ -134,7 +133,7 @@ pub fn known_listed<'a>(
     values: &[u32],
 ) -> bool
     requires { KnownAsks (given nodes children numbers names strings text) scope pattern values.now }
-    ensures { let T = lent nodes children numbers names strings text in result ≡ known_listed T (known scope scoping) (expr T pattern) (old values) }
+    ensures { let T = lent nodes children numbers names strings text in result ≡ known_listed T (known scope scoping) (expr T pattern) values.now }
 {
     let met = names_met(nodes, children, numbers, names, strings, text, pattern);
     all_have_values(names, scope, scoping, &met, values)

@@ -15,7 +15,7 @@ use Rattle.operation.specs.declared.row.Row.{Row}
 use Rattle.operation.specs.Rows.{row_line}
 use Rattle.sheet.specs.declared.space.Tried.{Tried}
 use Rattle.sheet.specs.declared.space.Tried.TheVariants as Tried
-use Rattle.base.specs.Lent.{Slices}
+use Rattle.base.specs.Lent.{MutSlices}
 use Rattle.sheet.specs.Lines.{is_readable, column_number, line_length, number_line_length, lines_ok, column_word_at, number_word}
 use Rattle.sheet.specs.Sheet.{byte_scope_of, nodes_place, mark_word, children_place, numbers_place, names_place, mark_columns_ok, parse}
 use Rattle.sheet.specs.Outcome.{outcome_of_sheet, PlannedInto}
@@ -136,13 +136,13 @@ pub record TriedBy (listing before after : List ℕ) (r : Tried) : Type 0 where
   pub kept : r ≡ Tried.TooLarge → after ≡ before
 
 -- in an output or a plan that is lent
-abbrev pub PrintedIn : Slices → List ℕ → ℕ → Type 0
+abbrev pub PrintedIn : MutSlices → List ℕ → ℕ → Type 0
 PrintedIn out listing r = Printed listing out.entry.now out.exit.now r
 
-abbrev pub TriedIn : Slices → List ℕ → Tried → Type 0
+abbrev pub TriedIn : MutSlices → List ℕ → Tried → Type 0
 TriedIn out listing r = TriedBy listing out.entry.now out.exit.now r
 
-abbrev pub PlannedIn : Slices → List ℕ → Row → Type 0
+abbrev pub PlannedIn : MutSlices → List ℕ → Row → Type 0
 PlannedIn plan sheet r = PlannedInto (outcome_of_sheet (parse sheet)) plan.entry.now plan.exit.now r
 
 -- a refusal that has no place and no counts
@@ -153,7 +153,7 @@ pub record RefusedBy (number : ℕ) (before after : List ℕ) (r : Row) : Type 0
   pub answer : row_line r ≡ line number 0 0 0
   pub buffer : after ≡ zeros before
 
-abbrev pub RefusedIn : Slices → ℕ → Row → Type 0
+abbrev pub RefusedIn : MutSlices → ℕ → Row → Type 0
 RefusedIn plan number r = RefusedBy number plan.entry.now plan.exit.now r
 
 -- arrays that have space for the tables: a name's line has three words

@@ -1,5 +1,4 @@
 // The nodes' depths, from the lowest number up.
-ghost use Rattle.base.specs.Lent.{old};
 ghost use Rattle.std.specs.Prelude.{◌≡◌, ◌/◌, ◌≤◌, max, length};
 ghost use Rattle.table.specs.code.Depths.{deepest, listed_depth, ChildrenAsks, DepthsAsks, DepthsTold};
 
@@ -17,7 +16,7 @@ fn deeper(a: u8, b: u8) -> u8
 // The greatest depth of the children, where the depth of node n stands at n - 1.
 fn deepest_of(children: &[u32], depths: &[u8; 512], first: usize, count: usize) -> u8
     requires { ChildrenAsks children.now first count }
-    ensures { result ≡ deepest (listed_depth (old depths)) (old children) first count }
+    ensures { result ≡ deepest (listed_depth depths.now) children.now first count }
 {
     let mut deep: u8 = 0;
     let mut i: usize = 0;
@@ -32,7 +31,7 @@ fn deepest_of(children: &[u32], depths: &[u8; 512], first: usize, count: usize) 
 // Is the depth of each of the first `total` nodes at most 32? A child's stands before its parent's.
 pub fn depths_ok(nodes: &[u32], children: &[u32], total: usize) -> bool
     requires { DepthsAsks nodes.now children.now × (total ≤ length nodes.now / 5) }
-    ensures { DepthsTold (old nodes) (old children) total result }
+    ensures { DepthsTold nodes.now children.now total result }
 {
     let mut depths = [0u8; 512];
     let mut n: usize = 0;

@@ -1,5 +1,4 @@
 // The table rules that speak of one node.
-ghost use Rattle.base.specs.Lent.{old};
 ghost use Rattle.table.specs.Lent.{lent};
 ghost use Rattle.std.specs.Prelude.{◌≡◌, ◌&&◌, [], ◌+◌, ◌/◌, ◌<◌, eqb, leb, ltb, length};
 ghost use Rattle.table.specs.Tables.{tables, first_word_of, count_of};
@@ -22,7 +21,7 @@ pub fn in_range(start: usize, count: usize, length: usize) -> bool
 // Of node i + 1, as are the others.
 pub fn span_ok(nodes: &[u32], text: &[u8], i: usize) -> bool
     requires { i < length nodes.now / 5 }
-    ensures { result ≡ span_ok (tables (old nodes) [] [] [] [] (old text)) (i + 1) }
+    ensures { result ≡ span_ok (tables nodes.now [] [] [] [] text.now) (i + 1) }
 {
     let start = node_word(nodes, i, 1);
     let end = node_word(nodes, i, 2);
@@ -45,7 +44,7 @@ fn one_word(first: usize, limit: usize, count: usize) -> bool
 // Is a name node's own text its name's bytes?
 pub fn name_text_ok(nodes: &[u32], names: &[u32], text: &[u8], i: usize) -> bool
     requires { i < length nodes.now / 5 }
-    ensures { result ≡ name_text_ok (tables (old nodes) [] [] (old names) [] (old text)) (i + 1) }
+    ensures { result ≡ name_text_ok (tables nodes.now [] [] names.now [] text.now) (i + 1) }
 {
     let start = node_word(nodes, i, 1) as usize;
     let own = bytes_between(text, start, node_word(nodes, i, 2) as usize);
@@ -55,7 +54,7 @@ pub fn name_text_ok(nodes: &[u32], names: &[u32], text: &[u8], i: usize) -> bool
 
 fn name_words_ok(nodes: &[u32], names: &[u32], text: &[u8], i: usize) -> bool
     requires { i < length nodes.now / 5 }
-    ensures { result ≡ words_ok (tables (old nodes) [] [] (old names) [] (old text)) (i + 1) 6 (first_word_of (old nodes) (i + 1)) (count_of (old nodes) (i + 1)) }
+    ensures { result ≡ words_ok (tables nodes.now [] [] names.now [] text.now) (i + 1) 6 (first_word_of nodes.now (i + 1)) (count_of nodes.now (i + 1)) }
 {
     let name = node_word(nodes, i, 3);
     if name < 1 {
@@ -103,7 +102,7 @@ pub(crate) fn words_ok<'a>(
 
 pub fn children_below(nodes: &[u32], children: &[u32], n: usize) -> bool
     requires { n < length nodes.now / 5 }
-    ensures { result ≡ children_below (tables (old nodes) (old children) [] [] [] []) (n + 1) }
+    ensures { result ≡ children_below (tables nodes.now children.now [] [] [] []) (n + 1) }
 {
     let first = node_word(nodes, n, 3) as usize;
     let count = width_at(nodes, n);

@@ -1,7 +1,7 @@
 -- Records that are copied to pairs of words.
 use Rattle.std.specs.Prelude.{ℕ, ◌*◌, ◌≤◌, ◌≡◌, List, get_or, take}
 use Rattle.table.specs.Tables.{Tables, tables}
-use Rattle.base.specs.Lent.{Slices, old}
+use Rattle.base.specs.Lent.{Slices}
 use Rattle.teluddru.specs.declared.Name.{Name}
 use Rattle.teluddru.specs.declared.records.NameWords.{NameWords}
 use Rattle.teluddru.specs.Records.{name_words}
@@ -24,4 +24,4 @@ pub record Copied (records : List Name) (names : NameWords) : Type 0 where
 
 -- the tables that a function is lent, the names in words
 abbrev pub lent_words : Slices → Slices → Slices → NameWords → Slices → Slices → Tables
-lent_words nodes children numbers names strings text = tables (old nodes) (old children) (old numbers) (held names) (old strings) (old text)
+lent_words nodes children numbers names strings text = tables nodes.entry.now children.entry.now numbers.entry.now (held names) strings.entry.now text.entry.now

@@ -1,6 +1,5 @@
 // A body's planning call over names in pairs of words.
 ghost use Rattle.std.specs.Prelude.{◌≤◌};
-ghost use Rattle.base.specs.Lent.{old};
 ghost use Rattle.body.specs.Body.{body_outcome, BodyAnsweredIn};
 ghost use Rattle.teluddru.specs.code.Copying.{lent_words};
 
@@ -20,7 +19,7 @@ pub(crate) fn body_words<'a>(
     plan: &mut [u32],
 ) -> BodyPlanned
     requires { names.count ≤ 129 }
-    ensures { BodyAnsweredIn plan scope (body_outcome (lent_words nodes children numbers names strings text) scope (old lines) (old plan)) result }
+    ensures { BodyAnsweredIn plan scope (body_outcome (lent_words nodes children numbers names strings text) scope lines.now plan.old) result }
 {
     let all = &names.words[..];
     let end = names.count * 2;

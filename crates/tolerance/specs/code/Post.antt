@@ -1,7 +1,7 @@
 -- What the functions on classes ask of their caller and say. Arrays are read by node or label itself: place 0 is not used.
 use Rattle.std.specs.Prelude.{ℕ, ◌+◌, ◌-◌, ◌*◌, ◌/◌, ◌≤◌, ◌<◌, ◌≡◌, Bool, true, false, cond, ◌&&◌, List, eqb, length, get_or}
 use Rattle.std.proofs.Math.Option.{Option, none, some}
-use Rattle.base.specs.Lent.{Slices, old, new}
+use Rattle.base.specs.Lent.{MutSlices, old, new}
 use Rattle.base.specs.Lists.{all_from}
 use Rattle.scope.specs.declared.Scope.{Scope}
 use Rattle.scope.specs.declared.ScopingMode.{ScopingMode}
@@ -159,10 +159,10 @@ abbrev pub meets_under : Tables → Bool → ℕ → ℕ → Held → Option Hel
 meets_under T pattern a b h = meets_fields pattern (fields_of T a) (value_fields_of (fields_of T b)) h
 
 -- the same of what is lent, at entry and at exit
-abbrev pub EquatedIn : Slices → Slices → Slices → Conditions → Bool → Type 0
+abbrev pub EquatedIn : MutSlices → MutSlices → MutSlices → Conditions → Bool → Type 0
 EquatedIn labels lows highs q r = Equated q (old labels) (old lows) (old highs) (new labels) (new lows) (new highs) r
 
-abbrev pub MetIn : Slices → Slices → Slices → Slices → Tables → (Held → Option Held) → Bool → Type 0
+abbrev pub MetIn : MutSlices → MutSlices → MutSlices → MutSlices → Tables → (Held → Option Held) → Bool → Type 0
 MetIn list labels lows highs T f r = Met T (f (held_in T (old list) (old labels) (old lows) (old highs))) (new list) (new labels) (new lows) (new highs) r
 
 -- the ranges at the start, by node
@@ -250,7 +250,7 @@ pub record Decided (T : Tables) (lows highs : List ℕ) (pattern value : ℕ) (b
       → (r ≡ answer_named (decision T s mode pattern value values lows highs))
       × (r ≡ Always → (walked (is_unbound s mode) (listed_known T values) (expr T pattern) (value_of (expr T value))).end ≡ matched (env_of T after))
 
-abbrev pub DecidedIn : Slices → Tables → List ℕ → List ℕ → ℕ → ℕ → ToleranceAnswer → Type 0
+abbrev pub DecidedIn : MutSlices → Tables → List ℕ → List ℕ → ℕ → ℕ → ToleranceAnswer → Type 0
 DecidedIn list T lows highs pattern value r = Decided T lows highs pattern value (old list) (new list) r
 
 pub record ToJudge (T : Tables) (s : Scope) (mode : ScopingMode) (pattern value : ℕ) (values lows highs list buffer : List ℕ) : Type 0 where

@@ -1,5 +1,4 @@
 // Which nodes are simple patterns, and which are values. Children have lower numbers than their parents, so one pass over the nodes is enough.
-ghost use Rattle.base.specs.Lent.{old};
 ghost use Rattle.table.specs.Lent.{given, lent};
 ghost use Rattle.std.specs.Prelude.{◌≡◌};
 ghost use Rattle.table.specs.code.Sound.{WellFormed};
@@ -23,7 +22,7 @@ fn mark_of(admitted: bool) -> u8
 // Are `left` items from child entry `at` on marked?
 fn items_marked(children: &[u32], marks: &[u8; 512], at: usize, left: usize) -> bool
     requires { EntriesAsks children.now at 1 left }
-    ensures { result ≡ items_marked (old children) (old marks) at left }
+    ensures { result ≡ items_marked children.now marks.now at left }
 {
     let mut place = at;
     let mut more = left;
@@ -41,7 +40,7 @@ fn items_marked(children: &[u32], marks: &[u8; 512], at: usize, left: usize) -> 
 // Have `left` fields literal keys, and are their values marked?
 fn fields_marked(nodes: &[u32], children: &[u32], marks: &[u8; 512], at: usize, left: usize) -> bool
     requires { EntriesAsks children.now at 2 left }
-    ensures { result ≡ fields_marked (old nodes) (old children) (old marks) at left }
+    ensures { result ≡ fields_marked nodes.now children.now marks.now at left }
 {
     let mut place = at;
     let mut more = left;
