@@ -18,7 +18,7 @@ use scope::{Scope, ScopingMode};
 use table::reading::{child_at, count_of, first_of};
 
 // The place of the next entry, or the first refusal.
-#[derive(Drop)]
+#[derive(Clone, Copy)]
 pub(crate) enum Flattened {
     Next { at: usize },
     Refused(PlanAnswer),

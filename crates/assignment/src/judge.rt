@@ -11,7 +11,7 @@ use table::node_kind;
 use table::reading::kind_of;
 
 // How two sides may be taken: as they are, item by item, field by field, or not at all.
-#[derive(Drop)]
+#[derive(Clone, Copy)]
 pub(crate) enum Pairing {
     Whole,
     Items,
@@ -20,7 +20,7 @@ pub(crate) enum Pairing {
 }
 
 // What becomes of two sides: the left one binds to the right or the other way round, or they are compared, taken apart or refused.
-#[derive(Drop)]
+#[derive(Clone, Copy)]
 pub(crate) enum Judgement {
     Compare,
     BindLeft,
@@ -31,7 +31,7 @@ pub(crate) enum Judgement {
 }
 
 // A judgement, and how many entries the left side's plan has.
-#[derive(Drop)]
+#[derive(Clone, Copy)]
 pub(crate) struct JudgedSides {
     pub way: Judgement,
     pub count: usize,

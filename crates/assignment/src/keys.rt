@@ -11,14 +11,14 @@ use table::node_kind;
 use table::reading::{child_at, compare_literals, count_of, first_of, kind_of};
 
 // The left object's keys are the right's, `total` of them, or a refusal.
-#[derive(Drop)]
+#[derive(Clone, Copy)]
 pub(crate) enum ObjectPairs {
     Matched { total: usize },
     Refused(PlanAnswer),
 }
 
 // A left and a right node.
-#[derive(Drop)]
+#[derive(Clone, Copy)]
 pub(crate) struct NodePair {
     pub left: u32,
     pub right: u32,

@@ -1,4 +1,6 @@
 // Assignments over planned patterns (assignment.rs).
+#![tactic(auto)]
+
 pub mod assignment;
 mod entries;
 mod flatten;
@@ -6,7 +8,7 @@ mod judge;
 mod keys;
 mod preview;
 
-#[derive(Drop)]
+#[derive(Clone, Copy)]
 pub enum AssignOp {
     ColEq,
     Eq,

@@ -10,14 +10,14 @@ use planner::entry_kind;
 use planner::inner::destructuring::create_destructuring_plan_with_tracking;
 
 // A side's plan: how many entries it has, and whether one of them binds.
-#[derive(Drop)]
+#[derive(Clone, Copy)]
 pub(crate) struct Preview {
     pub count: usize,
     pub binds: bool,
 }
 
 // Which of two sides binds, and how many entries the left one's plan has.
-#[derive(Drop)]
+#[derive(Clone, Copy)]
 pub(crate) struct Sides {
     pub left: bool,
     pub right: bool,

@@ -1,4 +1,6 @@
 // A whole rule body: its lines planned in turn from one scope, and its names looked for.
+#![tactic(auto)]
+
 mod binding;
 pub mod lines;
 mod ready;
@@ -20,7 +22,7 @@ use planner::context::name_states;
 use scope::{Scope, ScopingMode};
 
 // A line is counted from 1.
-#[derive(Drop)]
+#[derive(Clone, Copy)]
 pub enum BodyAnswer {
     Accepted {
         form: u32,
@@ -39,14 +41,14 @@ pub enum BodyAnswer {
 }
 
 // The answer beside the scope afterwards.
-#[derive(Drop)]
+#[derive(Clone, Copy)]
 pub struct BodyPlanned {
     pub answer: BodyAnswer,
     pub scope: Scope,
 }
 
 // What a body has come to with a line, and whether the line is planned.
-#[derive(Drop)]
+#[derive(Clone, Copy)]
 struct LineStep {
     pub planned: bool,
     pub answer: BodyAnswer,

@@ -75,7 +75,7 @@ fn keep_marks(marks: &mut [u8], number: u64, scope: Scope)
 }
 
 // The numbers of a body's answer, and its line.
-#[derive(Drop)]
+#[derive(Clone, Copy)]
 struct BodyRow {
     pub row: Row,
     pub line: u32,

@@ -38,7 +38,7 @@ fn example_row(answer: ExampleAnswer) -> Row
 }
 
 // A side as a C host gives it: what the conversion of its marks answered, its numbers as an operation, and its pattern.
-#[derive(Drop)]
+#[derive(Clone, Copy)]
 struct HostSide {
     pub made: ConversionAnswer,
     pub asked: OperationNumbers,

@@ -1,4 +1,6 @@
 // The calls for a C host over lent tables: marks as bytes, all else as numbers, the answer's four numbers in lent words.
+#![tactic(auto)]
+
 mod answer;
 pub mod bodies;
 pub mod examples;

@@ -7,7 +7,7 @@ ghost use Rattle.checks.specs.code.Joins.{is_match, is_settled, end_after, NoFie
 use crate::{LiteralStructureCheck, Reading, is_mismatch};
 
 // What an object's fields come to so far; fields at places from `end` on no longer count.
-#[derive(Drop)]
+#[derive(Clone, Copy)]
 pub(crate) struct FieldsSoFar {
     pub check: LiteralStructureCheck,
     pub end: usize,

@@ -1,4 +1,6 @@
 // A pattern held against a literal expression (utils.rs).
+#![tactic(auto)]
+
 ghost use Rattle.std.specs.Prelude.{◌≡◌};
 ghost use Rattle.checks.specs.Joining.{is_mismatch};
 
@@ -8,14 +10,14 @@ mod partners;
 mod texts;
 
 // Present, as in the Rust: the first unknown item ends an array or object as unknown. Careful: what follows it is looked at.
-#[derive(Drop)]
+#[derive(Clone, Copy)]
 pub enum Reading {
     Present,
     Careful,
 }
 
 // Mismatches carry the value node, then the two counts or the pattern object's node.
-#[derive(Drop)]
+#[derive(Clone, Copy)]
 pub enum LiteralStructureCheck {
     Match,
     Unknown,

@@ -18,7 +18,7 @@ use table::reading::{
 };
 
 // A pattern's literal fields and all its fields in order; do the value's literal keys have the same texts?
-#[derive(Drop)]
+#[derive(Clone, Copy)]
 pub struct ComparedKeys {
     pub literals: usize,
     pub total: usize,

@@ -4,7 +4,7 @@ ghost use Rattle.columns.specs.Columns.{after_blanks};
 ghost use Rattle.columns.specs.code.Decimals.{digits_number, read_decimal};
 
 // No number: not a decimal form without leading zeros, or one above 2^64 - 1.
-#[derive(Drop)]
+#[derive(Clone, Copy)]
 pub(crate) enum Decimal {
     Number(u64),
     NoNumber,

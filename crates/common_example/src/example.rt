@@ -7,7 +7,7 @@ use crate::levels::{settle, size_at};
 use crate::writing::write_place;
 use planner::buffer::clear;
 
-#[derive(Drop)]
+#[derive(Clone, Copy)]
 pub(crate) enum Given {
     Found {
         node: u32,

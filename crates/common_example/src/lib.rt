@@ -1,4 +1,6 @@
 // The common example of two patterns, a value that both match: both sides checked, unified, and the value written.
+#![tactic(auto)]
+
 ghost use Rattle.table.specs.Lent.{given, lent};
 ghost use Rattle.std.specs.Prelude.{◌≡◌};
 ghost use Rattle.common_example.specs.Answer.{side_tested};
@@ -25,7 +27,7 @@ pub mod sides;
 mod unifying;
 mod writing;
 
-#[derive(Drop)]
+#[derive(Clone, Copy)]
 pub enum ExampleAnswer {
     Found {
         node: u32,
@@ -42,7 +44,7 @@ pub enum ExampleAnswer {
     ValueTooLarge,
 }
 
-#[derive(Drop)]
+#[derive(Clone, Copy)]
 pub enum Checked {
     Passed,
     Refused(ExampleAnswer),

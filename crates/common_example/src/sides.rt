@@ -15,14 +15,14 @@ use table::{TableAnswer, TableRefusal, check};
 use value::inner::admitted::mark_nodes;
 
 // A pattern's node, with the scope that its names are read in.
-#[derive(Drop)]
+#[derive(Clone, Copy)]
 pub struct ScopedPattern {
     pub scope: Scope,
     pub scoping: ScopingMode,
     pub root: u32,
 }
 
-#[derive(Drop)]
+#[derive(Clone, Copy)]
 pub enum SideAnswer {
     Passed,
     TableRefused(TableRefusal),

@@ -1,4 +1,6 @@
 // Where a run misses: the run of a pattern on a value again, with its first miss kept.
+#![tactic(auto)]
+
 ghost use Rattle.table.specs.Lent.{lent};
 ghost use Rattle.first_miss.specs.Operations.{MissToldIn};
 
@@ -11,7 +13,7 @@ use walking::{Walked, walk};
 mod keys;
 mod walking;
 
-#[derive(Drop)]
+#[derive(Clone, Copy)]
 pub enum Why {
     NameDiffers,
     LiteralDiffers,
@@ -23,7 +25,7 @@ pub enum Why {
 }
 
 // Why, the value's node and the pattern's.
-#[derive(Drop)]
+#[derive(Clone, Copy)]
 pub struct Miss {
     pub why: Why,
     pub value: u32,
@@ -31,7 +33,7 @@ pub struct Miss {
 }
 
 // Refused as a run is; never with 6.
-#[derive(Drop)]
+#[derive(Clone, Copy)]
 pub enum MissAnswer {
     Match,
     NoMatch(Miss),

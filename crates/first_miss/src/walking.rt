@@ -12,7 +12,7 @@ use value::inner::equality::same_value;
 use value::inner::fields::value_under;
 
 // A part that matches, or its first miss.
-#[derive(Drop)]
+#[derive(Clone, Copy)]
 pub enum Walked {
     Matched,
     Missed(Miss),

@@ -1,4 +1,6 @@
 // The flush-sides rule, `[w, w]`, by the three calls of teluddru: planned, its names reported, and run on two values. The example of a caller in Rattle.
+#![tactic(auto)]
+
 mod calls;
 
 ghost use Rattle.std.specs.Prelude.{◌≡◌, ◌<◌, length};

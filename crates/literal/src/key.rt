@@ -7,7 +7,7 @@ use super::{LiteralRef, is_number};
 
 // The rank in the order of keys: 0 null, 1 false, 2 true, 3 a number, 4 a string; 5 for no literal.
 // below and size are a number's, false and 0 for the rest.
-#[derive(Drop)]
+#[derive(Clone, Copy)]
 pub(crate) struct SortKey {
     pub rank: u8,
     pub below: bool,

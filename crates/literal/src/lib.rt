@@ -1,4 +1,6 @@
 // Literals as keys: their order and their text (value/mod.rs and number.rs, as far as keys need them).
+#![tactic(auto)]
+
 mod key;
 pub mod order;
 pub mod text;
@@ -8,7 +10,7 @@ ghost use Rattle.literal.specs.Literal.{is_number};
 
 // A literal by its place in the lent stores: numbers in the number list (two words each: 1 for below
 // zero or 0, then the size), strings in the string store, raw strings in the rule text.
-#[derive(Drop)]
+#[derive(Clone, Copy)]
 pub enum LiteralRef {
     Null,
     False,
@@ -19,7 +21,7 @@ pub enum LiteralRef {
 }
 
 // NoLiteral: a place outside its store, or two words that say no number.
-#[derive(Drop)]
+#[derive(Clone, Copy)]
 pub enum Comparison {
     Less,
     Equal,
@@ -28,7 +30,7 @@ pub enum Comparison {
 }
 
 // Where the text of a key stands: in the lent bytes, or in the first bytes of the caller's array.
-#[derive(Drop)]
+#[derive(Clone, Copy)]
 pub enum KeyText {
     Lent,
     Written { length: usize },

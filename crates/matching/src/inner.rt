@@ -210,7 +210,7 @@ fn match_fields<'a>(
 }
 
 // What a pattern came to, and the values of the names after it; of a miss those at the start.
-#[derive(Drop)]
+#[derive(Clone, Copy)]
 pub struct Matched {
     pub matched: bool,
     pub list: [u32; 128],

@@ -1,3 +1,5 @@
 // Carrying the plan of a pattern out on a value.
+#![tactic(auto)]
+
 pub mod inner;
 mod links;

@@ -17,7 +17,7 @@ pub(crate) fn entry_number(x: u16) -> usize
 }
 
 // The child of entry `at` at position i + 1 is entry number `entries[starts[at] + i]`.
-#[derive(Drop)]
+#[derive(Clone, Copy)]
 pub(crate) struct Links {
     pub starts: [u16; 512],
     pub entries: [u16; 512],

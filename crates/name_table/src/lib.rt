@@ -1,4 +1,6 @@
 // Adding a name to the lent name table.
+#![tactic(auto)]
+
 ghost use Rattle.table.specs.Lent.{lent};
 ghost use Rattle.table.specs.Check.{tested_of};
 ghost use Rattle.std.specs.Prelude.{◌≡◌, ◌≤◌};
@@ -11,7 +13,7 @@ use table::reading::{name_bytes, same_bytes};
 use table::{TableAnswer, TableRefusal, check};
 
 // A name that the table rules don't allow is refused as BreaksRules.
-#[derive(Drop)]
+#[derive(Clone, Copy)]
 pub enum NameAnswer {
     Existing { name: u32 },
     Added { name: u32 },

@@ -1,4 +1,6 @@
 // Adds names and prints, for each case, the refusal or 0, the name's number, 1 where it was added, and the name table afterwards; then adds names until there is no place.
+#![tactic(auto)]
+
 ghost use Rattle.std.specs.Prelude.{◌≤◌};
 
 use libc::STDOUT_FILENO;

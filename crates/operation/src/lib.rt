@@ -1,4 +1,6 @@
 // The planning call over the six operations.
+#![tactic(auto)]
+
 pub mod inner;
 pub mod numbers;
 mod patterns;
@@ -27,7 +29,7 @@ pub const REGO_V0: u32 = 0;
 pub const REGO_V1: u32 = 1;
 
 // What to plan, with its roots, and the reading where a pattern is held against a literal expression; a some-in key of 0 says that there is none.
-#[derive(Drop)]
+#[derive(Clone, Copy)]
 pub enum Operation {
     Pattern {
         scoping: ScopingMode,

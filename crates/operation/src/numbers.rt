@@ -7,7 +7,7 @@ use checks::Reading;
 use scope::ScopingMode;
 
 // The roots: first (left, pattern or value pattern), second (right or collection), some-in key.
-#[derive(Drop)]
+#[derive(Clone, Copy)]
 pub struct OperationNumbers {
     pub number: u32,
     pub scheduler: u32,

@@ -12,7 +12,7 @@ use scope::ScopingMode;
 use table::reading::is_node;
 
 // Patterns of one scoping: the first, and the second if there are two.
-#[derive(Drop)]
+#[derive(Clone, Copy)]
 pub(crate) struct Patterns {
     pub scoping: ScopingMode,
     pub first: u32,

@@ -8,7 +8,7 @@ use planner::PlanAnswer;
 use table::refusal_number;
 
 // 0, form, side and entries; or a refusal's number, place and two counts.
-#[derive(Drop)]
+#[derive(Clone, Copy)]
 pub struct Row {
     pub number: u64,
     pub second: u64,

@@ -1,4 +1,6 @@
 // Pages of a plan for print (document 02, request 1).
+#![tactic(auto)]
+
 mod cells;
 mod lines;
 
@@ -19,7 +21,7 @@ pub const PAGE_BYTES: usize = PAGE_LINES * LINE;
 const PLAN_WORDS: usize = ENTRY_WORDS * 1536;
 
 // How many pages; or a refusal: the sheet's, with its four numbers, or 30.
-#[derive(Drop)]
+#[derive(Clone, Copy)]
 pub enum PageAnswer {
     Pages(usize),
     Refused(Row),

@@ -1,6 +1,8 @@
 // Lays out pages and prints each answer with what it left in the page buffer. Each case on standard input is a line
 // of three columns of six (the bytes of its sheet, those of its buffer, those to show of it) and a name in 40
 // bytes, then the sheet. The buffer is 7s before the call.
+#![tactic(auto)]
+
 ghost use Rattle.std.specs.Prelude.{◌<◌};
 
 use columns::Column;

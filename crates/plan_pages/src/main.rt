@@ -1,4 +1,6 @@
 // Reads a sheet from standard input and prints its plan on pages, or the refusal's line.
+#![tactic(auto)]
+
 use libc::{STDIN_FILENO, STDOUT_FILENO};
 use page::{PAGE_BYTES, PageAnswer, lay_out_pages};
 use sheet::plan_sheet;

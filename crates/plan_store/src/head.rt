@@ -8,7 +8,7 @@ use crate::{CAPACITY, MOST_PACKS, STORE_WORDS};
 use planner::buffer::ENTRY_WORDS;
 
 // How much of the common part is free, or that words are no store that the calls can give.
-#[derive(Drop)]
+#[derive(Clone, Copy)]
 pub(crate) enum Room {
     Common(u32),
     NoStore,

@@ -1,4 +1,6 @@
 // Plans that take values apart (compiler/destructuring_planner).
+#![tactic(auto)]
+
 pub mod buffer;
 pub mod context;
 pub mod destructuring;
@@ -9,7 +11,7 @@ pub mod parameters;
 
 use table::TableRefusal;
 
-#[derive(Drop)]
+#[derive(Clone, Copy)]
 pub enum PlanAnswer {
     Planned {
         form: u32,

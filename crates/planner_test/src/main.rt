@@ -1,4 +1,6 @@
 // Plans the patterns of one table and prints a listing of each, as document 01 lays it out.
+#![tactic(auto)]
+
 ghost use Rattle.std.specs.Prelude.{◌≡◌, ◌<◌, length};
 
 use libc::STDOUT_FILENO;

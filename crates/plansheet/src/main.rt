@@ -1,4 +1,6 @@
 // Reads a sheet from standard input and prints its listing.
+#![tactic(auto)]
+
 use libc::{STDIN_FILENO, STDOUT_FILENO};
 use sheet::plan_sheet;
 

@@ -1,6 +1,8 @@
 // Runs a list of the Rust's answers through the sheet entry and prints how many agree. Each case on
 // standard input is a line of two columns of six, the lengths of a sheet and of its listing, then
 // the bytes of both.
+#![tactic(auto)]
+
 ghost use Rattle.io.specs.Counts.{IsPrefixLen};
 
 use columns::Column;
@@ -63,7 +65,7 @@ fn run_case() -> u64 {
     0
 }
 
-#[derive(Drop)]
+#[derive(Clone, Copy)]
 struct Tally {
     agreed: u64,
     total: u64,

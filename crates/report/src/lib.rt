@@ -1,4 +1,6 @@
 // The report of a pattern's names.
+#![tactic(auto)]
+
 ghost use Rattle.table.specs.Lent.{given, lent};
 ghost use Rattle.std.specs.Prelude.{◌≡◌};
 ghost use Rattle.report.specs.Report.{ReportedIn};
@@ -16,7 +18,7 @@ use table::{TableAnswer, TableRefusal, check};
 pub mod inner;
 mod keys;
 
-#[derive(Drop)]
+#[derive(Clone, Copy)]
 pub enum ReportAnswer {
     Reported,
     TableRefused(TableRefusal),

@@ -1,4 +1,6 @@
 // Run: a pattern's plan, carried out on a value.
+#![tactic(auto)]
+
 ghost use Rattle.table.specs.Lent.{given, lent};
 ghost use Rattle.run.specs.Operations.{RanIn};
 ghost use Rattle.run.specs.code.Post.{RunAsks, MatchValuesAsks, ValuesCameIn, CarriedIn};
@@ -13,7 +15,7 @@ use table::TableRefusal;
 
 pub mod inner;
 
-#[derive(Drop)]
+#[derive(Clone, Copy)]
 pub enum RunAnswer {
     Match,
     NoMatch,

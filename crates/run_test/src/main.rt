@@ -8,6 +8,8 @@
 //
 // List entries past the names hold NO_NODE before a run, and all of them before a report. The plan
 // buffer holds 9s.
+#![tactic(auto)]
+
 ghost use Rattle.std.specs.Prelude.{◌≤◌, ◌≡◌, length};
 
 use libc::{STDIN_FILENO, STDOUT_FILENO};

@@ -10,7 +10,7 @@ pub(crate) const STRINGS: [u8; 26] = *b"abcdefghijklmnopqrstuvwxyz";
 
 // The nodes of a line, and on the stack those that have no parent yet. `opened` has for each open
 // bracket the place on the stack of its first item.
-#[derive(Drop)]
+#[derive(Clone, Copy)]
 pub(crate) struct Parsed {
     pub(crate) nodes: [u32; 320],
     pub(crate) node_words: usize,

@@ -1,7 +1,7 @@
 -- The promises of a scope's calls.
 use Prim.Native.Nat.{ℕ}
 use mathlib.Core.Path.{◌≡◌, refl, sym, ap, ◌∙◌}
-use mathlib.Core.Bool.{Bool, true, false, cond, not, and_true, and-false, or_true, and-eq-true_iff}
+use mathlib.Core.Bool.{Bool, true, false, cond, not, and-true, and-false, or-true, and-eq-true_iff}
 use Rattle.base.specs.Refusal.{name_outside}
 use Rattle.scope.specs.declared.Scope.{Scope}
 use Rattle.scope.specs.declared.ScopingMode.{ScopingMode}
@@ -131,7 +131,7 @@ module _ (u : ℕ) (h : Bool) where
 
   new_unbound : (mode : ScopingMode) (x : ℕ) → is_unbound (new_scope u h) mode x ≡ not (is_underscore (new_scope u h) x)
   unfolding is_unbound
-  new_unbound mode x = simp (new_says x, and-false, by_none mode, and_true)
+  new_unbound mode x = simp (new_says x, and-false, by_none mode, and-true)
 
   new_same : (x : ℕ) → same_scope (new_scope u h) x ≡ false
   unfolding same_scope
@@ -150,7 +150,7 @@ module _ (u : ℕ) (h : Bool) where
 
 shadows : (s : Scope) (x : ℕ) → is_unbound s AllowShadowing x ≡ not (is_underscore s x)
 unfolding is_unbound
-shadows s x = simp (or_true, and_true)
+shadows s x = simp (or-true, and-true)
 
 pub scope_promise : (s : Scope) (x : ℕ) → ScopePromise s x
 unfolding is_unbound same_scope

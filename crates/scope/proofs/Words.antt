@@ -1,7 +1,7 @@
 -- Words that are put together bit by bit, from marks.
 use Prim.Native.Nat.{ℕ, zero, suc, ◌+◌, ◌-◌, ◌*◌, ◌/◌, ◌%◌, ◌^◌, ◌≤◌, ◌<◌}
 use mathlib.Core.Path.{◌≡◌, refl, sym, ap, ap₂, ◌∙◌}
-use mathlib.Core.Bool.{Bool, true, false, ◌&&◌, and_true, and_assoc, and-eq-true_iff}
+use mathlib.Core.Bool.{Bool, true, false, ◌&&◌, and-true, and_assoc, and-eq-true_iff}
 use mathlib.Core.List.{List}
 use native.Mathlib.Omega.{arith}
 use native.Mathlib.Nat.{pow-suc, lt_of_lt_of_le}
@@ -119,7 +119,7 @@ module _ {f : ℕ → ℕ} {from i : ℕ} {none : Bool} (go : Unmarked f from no
   unfolding all_from
   unmarked_told le =
       let a : 64 - i ≡ 0 = omega arith in
-      sym (and_true none) ∙ ap (λ (k : ℕ). none && all_from (λ k. eqb (f k) 0) (from + i) k) (sym a) ∙ go.same
+      sym (and-true none) ∙ ap (λ (k : ℕ). none && all_from (λ k. eqb (f k) 0) (from + i) k) (sym a) ∙ go.same
 
 pub unmarked_ends : (ms : List ℕ) (place : ℕ) {from i : ℕ} {none : Bool} → Unmarked (mark_bit ms place) from none i → 64 ≤ i → none ≡ all_from (unmarked ms place) from 64
 unmarked_ends ms place go le = unmarked_told go le

@@ -1,4 +1,6 @@
 // Scopes (compiler/context.rs, and the impl of VariableBindingContext for ScopeContext in hoist.rs).
+#![tactic(auto)]
+
 ghost use Rattle.std.specs.Prelude.{◌≡◌};
 ghost use Rattle.scope.specs.Says.{marked_unbound, taken};
 ghost use Rattle.scope.specs.Scope.{says, new_scope, child_of, bind_variable, add_unbound_variable, changeable, is_unbound, same_scope, bound_count, named, call_of, Called, asked, question_of};
@@ -12,7 +14,7 @@ pub mod name_set;
 
 // The names with each mark: bound, bound in this scope, unbound, local, global. `underscore` is
 // the number of the name `_`, or 0.
-#[derive(Drop)]
+#[derive(Clone, Copy)]
 pub struct Scope {
     pub bound: NameSet,
     pub here: NameSet,
@@ -25,46 +27,46 @@ pub struct Scope {
 
 // The byte layout, for sheets: the marks of name x stand at marks[x - 1], summed: 1 bound, 2 bound
 // in this scope, 4 unbound, 8 local, 16 global.
-#[derive(Drop)]
+#[derive(Clone, Copy)]
 pub struct ByteScope {
     pub marks: [u8; 128],
     pub underscore: u32,
     pub scheduler: bool,
 }
 
-#[derive(Drop)]
+#[derive(Clone, Copy)]
 pub enum ScopingMode {
     RespectParent,
     AllowShadowing,
 }
 
-#[derive(Drop)]
+#[derive(Clone, Copy)]
 pub enum ScopeAnswer {
     Done,
     NameOutside,
 }
 
 // A scope beside the answer of the call that made it.
-#[derive(Drop)]
+#[derive(Clone, Copy)]
 pub struct Changed {
     pub answer: ScopeAnswer,
     pub scope: Scope,
 }
 
-#[derive(Drop)]
+#[derive(Clone, Copy)]
 pub enum ConversionAnswer {
     Done,
     MarkOutside,
 }
 
 // A scope beside the answer of the conversion that made it.
-#[derive(Drop)]
+#[derive(Clone, Copy)]
 pub struct Converted {
     pub answer: ConversionAnswer,
     pub scope: Scope,
 }
 
-#[derive(Drop)]
+#[derive(Clone, Copy)]
 pub enum Binding {
     Yes,
     No,

@@ -3,7 +3,7 @@ ghost use Rattle.std.specs.Prelude.{◌≡◌, ◌<◌};
 ghost use Rattle.scope.specs.Names.{is_name, bit_of, with_bit, without_bit, contains, with_name, without_name, no_names, size_of};
 
 // A set of names, a bit a name: names 1 to 64 in `low`, 65 to 128 in `high`.
-#[derive(Drop)]
+#[derive(Clone, Copy)]
 pub struct NameSet {
     pub low: u64,
     pub high: u64,

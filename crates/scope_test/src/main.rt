@@ -1,5 +1,7 @@
 // Every mark from 0 to 31, with and without a scheduler, of names at the ends of both words, through a scope's
 // calls and questions, and its bytes after each call.
+#![tactic(auto)]
+
 ghost use Rattle.std.specs.Prelude.{◌≤◌, ◌<◌};
 
 use scope::{Binding, ByteScope, ConversionAnswer, Scope, ScopeAnswer, ScopingMode};

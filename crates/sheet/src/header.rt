@@ -32,7 +32,7 @@ const MOST_STRINGS: usize = 8192;
 const MOST_TEXT: usize = 16384;
 
 // What line 1 says.
-#[derive(Drop)]
+#[derive(Clone, Copy)]
 pub(crate) struct Counts {
     pub nodes: usize,
     pub children: usize,
@@ -43,7 +43,7 @@ pub(crate) struct Counts {
 }
 
 // Where the parts begin, and where the sheet ends.
-#[derive(Drop)]
+#[derive(Clone, Copy)]
 pub(crate) struct Places {
     pub nodes: usize,
     pub children: usize,
@@ -54,7 +54,7 @@ pub(crate) struct Places {
     pub end: usize,
 }
 
-#[derive(Drop)]
+#[derive(Clone, Copy)]
 pub(crate) struct Header {
     pub counts: Counts,
     pub places: Places,
@@ -62,7 +62,7 @@ pub(crate) struct Header {
 }
 
 // A header, or the number of its refusal.
-#[derive(Drop)]
+#[derive(Clone, Copy)]
 pub(crate) enum Heading {
     Good(Header),
     Refused(u64),

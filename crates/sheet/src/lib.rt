@@ -1,4 +1,6 @@
 // Sheets: an operation and its tables as decimal columns, planned and listed (document 01, "Sheet").
+#![tactic(auto)]
+
 mod header;
 mod lines;
 mod listing;

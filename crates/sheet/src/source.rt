@@ -12,7 +12,7 @@ use columns::Column;
 use columns::read::read_column;
 
 // From a place to before another.
-#[derive(Drop)]
+#[derive(Clone, Copy)]
 pub struct Span {
     pub start: usize,
     pub end: usize,

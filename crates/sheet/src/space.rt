@@ -21,7 +21,7 @@ const SMALL_PLAN_WORDS: usize = ENTRY_WORDS * 128;
 const SMALL_NODES: usize = 64;
 
 // What became of a listing in the small space: its bytes, or its plan needs more.
-#[derive(Drop)]
+#[derive(Clone, Copy)]
 enum Tried {
     Listed(usize),
     TooLarge,

@@ -1,4 +1,6 @@
 // Plans of `some key, value in collection` (some_in.rs).
+#![tactic(auto)]
+
 mod collection;
 
 ghost use Rattle.table.specs.Lent.{given, lent};
@@ -18,7 +20,7 @@ use table::reading::is_node;
 use table::{TableAnswer, check};
 
 // A pattern's plan in the buffer: the place after its entries, and the first name that is defined already, or 0.
-#[derive(Drop)]
+#[derive(Clone, Copy)]
 struct ValidatedPlan {
     pub end: usize,
     pub name: u32,

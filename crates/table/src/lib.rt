@@ -1,4 +1,6 @@
 // The node table of a rule: its check and its reading.
+#![tactic(auto)]
+
 ghost use Rattle.table.specs.Lent.{lent};
 ghost use Rattle.std.specs.Prelude.{◌≡◌};
 ghost use Rattle.table.specs.Check.{TableAnswered, table_refused};
@@ -19,7 +21,7 @@ mod nodes;
 pub mod reading;
 pub mod rules;
 
-#[derive(Drop)]
+#[derive(Clone, Copy)]
 pub enum TableRefusal {
     OverLimit,
     BreaksRules,
@@ -27,7 +29,7 @@ pub enum TableRefusal {
     EqualNames,
 }
 
-#[derive(Drop)]
+#[derive(Clone, Copy)]
 pub enum TableAnswer {
     Sound,
     Refused(TableRefusal),
@@ -46,14 +48,14 @@ pub fn refusal_number(refused: TableRefusal) -> u32
 }
 
 // A key that is a literal, or one that is computed.
-#[derive(Drop)]
+#[derive(Clone, Copy)]
 pub enum Key {
     Literal(LiteralRef),
     Computed,
 }
 
 // What a name is by its bytes: `_`; `input` or `data`; any other.
-#[derive(Drop)]
+#[derive(Clone, Copy)]
 pub enum NameClass {
     Underscore,
     InputOrData,

@@ -1,7 +1,7 @@
 -- That numbers do not repeat, said of each by those before it.
 use Prim.Native.Nat.{ℕ, zero, suc, ◌+◌, ◌≤◌}
 use mathlib.Core.Path.{◌≡◌, refl, sym, ap, ◌∙◌}
-use mathlib.Core.Bool.{Bool, true, false, not, ◌&&◌, ◌||◌, and-false, and_true, and_assoc}
+use mathlib.Core.Bool.{Bool, true, false, not, ◌&&◌, ◌||◌, and-false, and-true, and_assoc}
 use mathlib.Core.List.{List, [], ◌∷◌, ◌++◌, append_assoc, append-nil}
 use native.Mathlib.Omega.{arith}
 use borrow.Author.Tests.{eqb-true, eqb-false, eq-eqb, ne_eqb}
@@ -58,7 +58,7 @@ entries_differ children = ap no_repeat (sym (take-length children)) ∙ entries_
 -- the places of a node behind those of the nodes before it
 places_behind : (at k : ℕ) (xs : List ℕ) → no_repeat (xs ++ places_from at k) ≡ (no_repeat xs && all_from (λ (p : ℕ). not (elem p xs)) at k)
 unfolding places_from all_from
-places_behind at zero xs = ap no_repeat (append-nil xs) ∙ sym (and_true (no_repeat xs))
+places_behind at zero xs = ap no_repeat (append-nil xs) ∙ sym (and-true (no_repeat xs))
 places_behind at (suc k) xs =
     ap no_repeat (sym (append_assoc xs (at ∷ []) (places_from (at + 1) k)))
     ∙ (places_behind (at + 1) k (xs ++ (at ∷ []))

@@ -1,7 +1,7 @@
 -- The first fault is the check's refusal.
 use Prim.Native.Nat.{ℕ, zero, suc, ◌+◌}
 use mathlib.Core.Path.{◌≡◌, refl, sym, ap, ◌∙◌}
-use mathlib.Core.Bool.{Bool, true, false, cond, ◌&&◌, and_true, and_assoc, and_comm}
+use mathlib.Core.Bool.{Bool, true, false, cond, ◌&&◌, and-true, and_assoc, and_comm}
 use mathlib.Core.List.{List, [], ◌∷◌}
 use mathlib.Core.Option as Option
 use lib.ListN.{length, take}
@@ -12,7 +12,7 @@ use Rattle.scope.specs.Scope.{new_scope}
 use Rattle.table.specs.Tables.{Tables, node_count, number_count, name_count}
 use Rattle.table.specs.Rules.{within_limits, whole_records, name_ok_at, number_ok, entry_ok, scope_ok, follows_rules, shallow, names_differ}
 use Rattle.table.specs.Check.{checked}
-use Rattle.table.proofs.tests.Bools.{and_true as both}
+use Rattle.table.proofs.tests.Bools.{and-true as both}
 use Rattle.table_fault.specs.Rules.{Rule, of_all, of_each, kind_ok_at, span_ok_at, unused_ok_at, range_ok_at, text_ok_at, below_ok_at, new_entry_at, new_places_at, mark_ok_at, rules}
 use Rattle.table_fault.specs.Fault.{Fault, first_broken, broken_or, fault_from, fault_of}
 use Rattle.table_fault.specs.Promise.{fault_tested, checked_with_marks, is_kept, all_kept}
@@ -77,7 +77,7 @@ module _ (T : Tables) (marks : List ℕ) where
 
   before_depth : all_kept (take 21 (rules T marks)) ≡ (within_limits T && ((whole_records T && places) && marks_ok))
   unfolding all_kept rules within_limits whole_records
-  before_depth = simp (all_kept_lem, each_kept, and_assoc, and_true)
+  before_depth = simp (all_kept_lem, each_kept, and_assoc, and-true)
 
   module _ (s : Scope) (none : s.underscore ≡ 0) where
     scope_kept : scope_ok T s ≡ true
@@ -88,7 +88,7 @@ module _ (T : Tables) (marks : List ℕ) where
     unfolding follows_rules
     rules_apart =
         rw (nodes_apart T (node_count T), entries_differ T.children, places_differ T.nodes (node_count T), scope_kept, and_comm (whole_records T && places) marks_ok)
-        (simp (and_assoc, and_true))
+        (simp (and_assoc, and-true))
 
     pub fault_checked : fault_tested (fault_of T marks) ≡ checked_with_marks T marks s
     unfolding fault_of checked

@@ -1,14 +1,14 @@
 -- Tests of the numbers of a range.
 use Prim.Native.Nat.{ℕ, zero, suc, ◌+◌, ◌-◌, ◌≤◌}
 use mathlib.Core.Path.{◌≡◌, refl, sym}
-use mathlib.Core.Bool.{Bool, ◌&&◌, and_true, and_assoc}
+use mathlib.Core.Bool.{Bool, ◌&&◌, and-true, and_assoc}
 use native.Mathlib.Omega.{arith}
 use Rattle.base.specs.Lists.{all_from}
 
 -- one number more, at the end
 pub all_snoc : (p : ℕ → Bool) (i k : ℕ) → all_from p i (suc k) ≡ (all_from p i k && p (i + k))
 unfolding all_from
-all_snoc p i zero = let e : i + 0 ≡ i = omega arith in rw e (and_true (p i))
+all_snoc p i zero = let e : i + 0 ≡ i = omega arith in rw e (and-true (p i))
 all_snoc p i (suc k) =
     let e : i + 1 + k ≡ i + suc k = omega arith in
     rw (all_snoc p (i + 1) k, e) (sym (and_assoc (p i) (all_from p (i + 1) k) (p (i + suc k))))
@@ -30,4 +30,4 @@ all_last p k = let e : 0 + k ≡ k = omega arith in rw e at (all_snoc p 0 k)
 -- one test alone
 pub all_one : (b : Bool) (i : ℕ) → all_from (λ (place : ℕ). b) i 1 ≡ b
 unfolding all_from
-all_one b i = and_true b
+all_one b i = and-true b

@@ -1,7 +1,7 @@
 -- A node's words, taken apart: the kind, the unused words, the range and a name's text are `words_ok`.
 use Prim.Native.Nat.{ℕ, ◌+◌, ◌*◌, ◌≤◌}
 use mathlib.Core.Path.{◌≡◌, refl, sym, ap, ◌∙◌}
-use mathlib.Core.Bool.{Bool, true, false, cond, ◌&&◌, and_true, and-false, and_assoc, and_comm}
+use mathlib.Core.Bool.{Bool, true, false, cond, ◌&&◌, and-true, and-false, and_assoc, and_comm}
 use native.Mathlib.Omega.{arith}
 use borrow.Author.Tests.{leb-true, ne_eqb, eqb-true, eqb-false}
 use lib.Dec.{eqb, leb, ltb}
@@ -59,16 +59,16 @@ module _ (T : Tables) (n first count : ℕ) where
   unfolding words_ok unused_zero range_ok
   words_apart kind =
       next kind 0 (omega arith) (λ e. unlisted kind (λ k low high q. omega arith))
-      (λ b₁. next kind 1 b₁ (λ e. rw e (sym (and_true (inside first count T.strings))))
-      (λ b₂. next kind 2 b₂ (λ e. rw e (sym (and_true (inside first count T.text))))
-      (λ b₃. next kind 3 b₃ (λ e. rw (e, and_true (ltb first (number_count T))) (and_comm (ltb first (number_count T)) (eqb count 0)))
-      (λ b₄. next kind 4 b₄ (λ e. rw (e, and_true (leb first 1)) (and_comm (leb first 1) (eqb count 0)))
-      (λ b₅. next kind 5 b₅ (λ e. rw e (sym (and_true (eqb first 0 && eqb count 0))))
+      (λ b₁. next kind 1 b₁ (λ e. rw e (sym (and-true (inside first count T.strings))))
+      (λ b₂. next kind 2 b₂ (λ e. rw e (sym (and-true (inside first count T.text))))
+      (λ b₃. next kind 3 b₃ (λ e. rw (e, and-true (ltb first (number_count T))) (and_comm (ltb first (number_count T)) (eqb count 0)))
+      (λ b₄. next kind 4 b₄ (λ e. rw (e, and-true (leb first 1)) (and_comm (leb first 1) (eqb count 0)))
+      (λ b₅. next kind 5 b₅ (λ e. rw e (sym (and-true (eqb first 0 && eqb count 0))))
       (λ b₆. next kind 6 b₆ (λ e. rw e (named (leb 1 first) (leb first (name_count T)) (eqb count 0) (name_text_ok T n)))
-      (λ b₇. next kind 7 b₇ (λ e. rw e (sym (and_true (inside first count T.children))))
-      (λ b₈. next kind 8 b₈ (λ e. rw e (sym (and_true (inside first count T.children))))
-      (λ b₉. next kind 9 b₉ (λ e. rw e (sym (and_true (inside first (count * 2) T.children))))
-      (λ b₁₀. next kind 10 b₁₀ (λ e. rw e (sym (and_true (eqb first 0 && eqb count 0))))
+      (λ b₇. next kind 7 b₇ (λ e. rw e (sym (and-true (inside first count T.children))))
+      (λ b₈. next kind 8 b₈ (λ e. rw e (sym (and-true (inside first count T.children))))
+      (λ b₉. next kind 9 b₉ (λ e. rw e (sym (and-true (inside first (count * 2) T.children))))
+      (λ b₁₀. next kind 10 b₁₀ (λ e. rw e (sym (and-true (eqb first 0 && eqb count 0))))
       (λ b₁₁. unlisted kind (λ k low high q. omega arith))))))))))))
 
 -- a node's tests, in the list's order

@@ -1,4 +1,6 @@
 // Which rule of the tables is broken, and where.
+#![tactic(auto)]
+
 ghost use Rattle.table.specs.Lent.{given, lent};
 ghost use Rattle.table.specs.Check.{table_refused};
 ghost use Rattle.std.specs.Prelude.{◌≡◌};
@@ -16,7 +18,7 @@ mod repeats;
 pub mod rule;
 
 // `rule` is one of module `rule`; the place is that of a node, child entry, number or name, from 1, or 0 for the tables as a whole.
-#[derive(Drop)]
+#[derive(Clone, Copy)]
 pub enum FaultAnswer {
     RulesKept,
     Broken {
@@ -26,7 +28,7 @@ pub enum FaultAnswer {
     },
 }
 
-#[derive(Drop)]
+#[derive(Clone, Copy)]
 enum BrokenPlace {
     Nowhere,
     At { place: u32 },

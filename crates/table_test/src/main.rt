@@ -1,4 +1,6 @@
 // Runs the table check on a sound table, on copies that break one rule each, at the limits and past them.
+#![tactic(auto)]
+
 ghost use Rattle.std.specs.Prelude.{◌≤◌};
 
 use libc::STDOUT_FILENO;

@@ -1,4 +1,6 @@
 // The library's calls for a caller in Rattle: names are a lent table of records.
+#![tactic(auto)]
+
 mod records;
 mod words;
 
@@ -33,7 +35,7 @@ use scope::{Scope, ScopingMode};
 use tolerance::ToleranceAnswer;
 
 // A range of the rule text.
-#[derive(Drop)]
+#[derive(Clone, Copy)]
 pub struct Name {
     pub start: u32,
     pub length: u32,

@@ -9,7 +9,7 @@ use crate::Name;
 use name_table::NameAnswer;
 
 // The first `count` pairs of the words are names.
-#[derive(Drop)]
+#[derive(Clone, Copy)]
 pub(crate) struct NameWords {
     pub words: [u32; 258],
     pub count: usize,

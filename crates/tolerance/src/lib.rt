@@ -1,4 +1,6 @@
 // A run on values whose numbers have a tolerance.
+#![tactic(auto)]
+
 ghost use Rattle.table.specs.Lent.{given, lent};
 ghost use Rattle.std.specs.Prelude.{◌≡◌};
 ghost use Rattle.tolerance.specs.Operations.{JudgedIn};
@@ -19,7 +21,7 @@ mod names;
 mod ranges;
 
 // All choices match, some do, none does; else a refusal: 32, or one that a run gives.
-#[derive(Drop)]
+#[derive(Clone, Copy)]
 pub enum ToleranceAnswer {
     Always,
     Sometimes,

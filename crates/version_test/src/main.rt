@@ -1,4 +1,6 @@
 // Plans for versions 0, 1 and 2 of Rego, and in both readings, and prints, for each case, the answer's four numbers and the first word of the plan buffer.
+#![tactic(auto)]
+
 ghost use Rattle.std.specs.Prelude.{◌≡◌, ◌<◌, length};
 
 use libc::STDOUT_FILENO;

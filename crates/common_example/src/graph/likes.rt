@@ -11,7 +11,7 @@ use table::reading::compare_literals;
 use value::inner::fields::same_literals;
 
 // The lowest node of a literal, and how many literals are in order.
-#[derive(Drop)]
+#[derive(Clone, Copy)]
 struct Added {
     pub like: u32,
     pub count: usize,

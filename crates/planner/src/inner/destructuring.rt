@@ -15,7 +15,7 @@ use table::node_kind;
 use table::reading::{child_at, first_of, kind_of};
 
 // The place after a plan's entries, and how often the two passes went into a node.
-#[derive(Drop)]
+#[derive(Clone, Copy)]
 pub struct Progress {
     pub next: usize,
     pub steps: usize,

@@ -13,14 +13,14 @@ use table::Key;
 use table::reading::{child_at, compare_literal_to_node, extract_literal_key};
 
 // How many of the fields in order have literal keys, and how many there are.
-#[derive(Drop)]
+#[derive(Clone, Copy)]
 struct Sizes {
     pub literals: usize,
     pub total: usize,
 }
 
 // A place among the literal fields: one of an equal key, or the one before which a new key goes.
-#[derive(Drop)]
+#[derive(Clone, Copy)]
 pub struct Found {
     pub place: usize,
     pub equal: bool,

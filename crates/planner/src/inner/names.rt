@@ -10,7 +10,7 @@ use table::node_kind;
 use table::reading::{child_at, count_of, first_of, kind_of};
 
 // Child entries at `at`, `at + step` and so on, `left` of them.
-#[derive(Drop)]
+#[derive(Clone, Copy)]
 pub(crate) struct Span {
     pub at: usize,
     pub step: usize,

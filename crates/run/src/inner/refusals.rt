@@ -9,7 +9,7 @@ use scope::{Scope, ScopingMode};
 use table::reading::is_node;
 use table::{TableAnswer, check};
 
-#[derive(Drop)]
+#[derive(Clone, Copy)]
 pub enum RunCheck {
     Passed,
     Refused(RunAnswer),

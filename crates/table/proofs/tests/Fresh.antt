@@ -1,7 +1,7 @@
 -- Numbers are all new to marks of none exactly where they do not repeat.
 use Prim.Native.Nat.{ℕ, zero, suc, ◌+◌, ◌-◌, ◌/◌, ◌≤◌, ◌<◌}
 use mathlib.Core.Path.{◌≡◌, refl, sym, ◌∙◌}
-use mathlib.Core.Bool.{Bool, true, false, not, ◌&&◌, ◌||◌, and-false, and_true, and_assoc, false≢true}
+use mathlib.Core.Bool.{Bool, true, false, not, ◌&&◌, ◌||◌, and-false, and-true, and_assoc, false≢true}
 use mathlib.Core.List.{List, [], ◌∷◌, ◌++◌}
 use native.Mathlib.Omega.{arith}
 use native.Mathlib.Numerals.{add-one}
@@ -36,7 +36,7 @@ unmarked (x ∷ xs) marks = eqb (get_or marks x 0) 0 && unmarked xs marks
 
 -- in another order
 swapped : (a b c d : Bool) → (a && (b && (c && d))) ≡ ((d && b) && (a && c))
-swapped true true c true = and_true c
+swapped true true c true = and-true c
 swapped true true c false = and-false c
 swapped true false c true = refl
 swapped true false c false = refl
@@ -58,7 +58,7 @@ module _ (marks : List ℕ) (x : ℕ) (lt : x < length marks) where
           rw (here, e) (sym (and-false (eqb (get_or marks y 0) 0)))
       go false e =
           let same = get_or-set_other marks x y 1 0 (λ q. eqb-false x y e (sym q)) in
-          rw (same, e) (sym (and_true (eqb (get_or marks y 0) 0)))
+          rw (same, e) (sym (and-true (eqb (get_or marks y 0) 0)))
 
   unmarked_on : (ys : List ℕ) → unmarked ys (set marks x 1) ≡ (unmarked ys marks && not (elem x ys))
   unfolding unmarked elem
@@ -89,7 +89,7 @@ none_marked (x ∷ xs) k = rw (zeros_at k x) (none_marked xs k)
 fresh_start : (k : ℕ) (xs : List ℕ) → Below k xs → fresh_all xs (replicate k 0) ≡ no_repeat xs
 fresh_start k xs b =
     let long = length-replicate {A = ℕ} k 0 in
-    fresh_new xs (replicate k 0) (rw long b) ∙ rw (none_marked xs k) (and_true (no_repeat xs))
+    fresh_new xs (replicate k 0) (rw long b) ∙ rw (none_marked xs k) (and-true (no_repeat xs))
 
 fresh_append : (xs ys marks : List ℕ) → fresh_all (xs ++ ys) marks ≡ (fresh_all xs marks && fresh_all ys (mark_all xs marks))
 unfolding fresh_all mark_all

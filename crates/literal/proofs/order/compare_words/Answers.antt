@@ -1,0 +1,10 @@
+use Rattle.literal.proofs.Chunks.{word_on, word_differs}
+use Prim.Native.Nat.{◌-◌}
+use borrow.Author.Rules.{rules}
+use Rattle.literal.proofs.order.compare_words.Goals as goal
+
+pub returns-then-x-y : goal.returns-then-x-y
+returns-then-x-y c = search (word_differs, rules)
+
+pub loop-i-preserved : goal.loop-i-preserved
+loop-i-preserved c = search (word_on, rules)

@@ -1,0 +1,15 @@
+use Rattle.scope.proofs.Cases.{same_outside, same_underscore, same_yes, same_no}
+use borrow.Author.Rules.{rules}
+use Rattle.scope.proofs.Scope.has_same_scope_binding.Goals as goal
+
+pub returns-then-not-is_name : goal.returns-then-not-is_name
+returns-then-not-is_name c = search (same_outside, rules)
+
+pub returns-then-name-underscore : goal.returns-then-name-underscore
+returns-then-name-underscore c = search (same_underscore, rules)
+
+pub returns-then-contains : goal.returns-then-contains
+returns-then-contains c = search (same_yes, rules)
+
+pub returns : goal.returns
+returns c = search (same_no, rules)
