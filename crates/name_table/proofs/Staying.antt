@@ -125,7 +125,7 @@ module _ (T : Tables) (used start size : ℕ) (s : Scope) (ok : checked T s ≡ 
             le-leb s.underscore (length (T.names ++ new) / 2) (omega arith),
             bytes_kept T.names new used long T.text s.underscore (omega arith),
             a.1,
-            Bool.or_true,
+            Bool.or-true,
           )
 
   rules_stay : allowed T.text start size ≡ true → follows_rules (with_names T (T.names ++ new)) s ≡ true

@@ -99,7 +99,7 @@ module _ (nodes ch nums names strings text : List ℕ) (ask : NodesAsks (tables 
 
           pub nodes_below : {e : Bool} → not d ≡ false → e ≡ all_from (children_below_at (tables nodes ch [] [] [] [])) 0 (length nodes / 5) → e ≡ nodes_ok (tables nodes ch nums names strings text)
           unfolding nodes_ok children_below
-          nodes_below {e} v is = rw (two_passes (tables nodes ch nums names strings text), told_yes heads t, told_yes once u, told_yes apart v) (is ∙ sym (Bool.and_true _))
+          nodes_below {e} v is = rw (two_passes (tables nodes ch nums names strings text), told_yes heads t, told_yes once u, told_yes apart v) (is ∙ sym (Bool.and-true _))
 
 -- the rules
 in_parts : (T : Tables) (s : Scope) → follows_rules T s ≡ (lists_ok T && (nodes_ok T && scope_ok T s))

@@ -1,0 +1,17 @@
+use Rattle.table.proofs.tests.NameOrder.{naming_start, naming_fails, naming_on}
+use Rattle.table.proofs.tests.Clauses.{names_end}
+use Prim.Native.Nat.{◌-◌}
+use borrow.Author.Rules.{rules}
+use Rattle.table.proofs.names.names_differ.Goals as goal
+
+pub loop-i-init : goal.loop-i-init
+loop-i-init c = search (naming_start, rules)
+
+pub returns-then-place-gt127 : goal.returns-then-place-gt127
+returns-then-place-gt127 c = search (naming_fails, rules)
+
+pub loop-i-preserved : goal.loop-i-preserved
+loop-i-preserved c = search (naming_on, rules)
+
+pub returns : goal.returns
+returns c = search (names_end, rules)

@@ -1,0 +1,12 @@
+use Prim.Native.Nat.{◌-◌, ◌/◌}
+use lib.ListN.{length}
+use Rattle.table.specs.Tables.{tables}
+use Rattle.table.specs.code.Passes.{head_ok_at}
+use Rattle.table.proofs.tests.Scan.{Scan}
+use Rattle.table.proofs.nodes.heads_ok.Given as goal
+
+abbrev pub invariant-loop-i : goal.invariant-loop-i
+invariant-loop-i l = Scan (head_ok_at (tables l.nodes l.children l.numbers l.names l.strings l.text)) 0 (length l.nodes / 5) l.i
+
+abbrev pub decreases-loop-i : goal.decreases-loop-i
+decreases-loop-i l = l.total - l.i
