@@ -1,7 +1,6 @@
 -- What a contract says of a slice or an array of numbers that it is lent.
 use Rattle.std.specs.Prelude.{ℕ, List}
-use denote.Bor.{Bor}
-use denote.MutBor.{MutBor}
+use Rattle.std.specs.Borrow.{Bor, MutBor}
 use denote.Triple.Both.{Both}
 
 -- to read: as a `requires` names it; and as an `ensures` does, at entry and at exit

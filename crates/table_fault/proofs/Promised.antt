@@ -12,7 +12,7 @@ use Rattle.scope.specs.Scope.{new_scope}
 use Rattle.table.specs.Tables.{Tables, node_count, number_count, name_count}
 use Rattle.table.specs.Rules.{within_limits, whole_records, name_ok_at, number_ok, entry_ok, scope_ok, follows_rules, shallow, names_differ}
 use Rattle.table.specs.Check.{checked}
-use Rattle.table.proofs.tests.Bools.{and-true as both}
+use Rattle.table.proofs.tests.Bools.{and_true as both}
 use Rattle.table_fault.specs.Rules.{Rule, of_all, of_each, kind_ok_at, span_ok_at, unused_ok_at, range_ok_at, text_ok_at, below_ok_at, new_entry_at, new_places_at, mark_ok_at, rules}
 use Rattle.table_fault.specs.Fault.{Fault, first_broken, broken_or, fault_from, fault_of}
 use Rattle.table_fault.specs.Promise.{fault_tested, checked_with_marks, is_kept, all_kept}

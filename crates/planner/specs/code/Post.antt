@@ -2,7 +2,7 @@
 use Rattle.std.specs.Prelude.{ℕ, ◌+◌, ◌-◌, ◌*◌, ◌^◌, ◌≤◌, ◌<◌, ◌≡◌, List, [], ◌++◌, eqb, length, get_or, take, drop, replicate}
 use Rattle.std.proofs.lemmas.List.Edits.{sets}
 use Rattle.table.specs.Tables.{Tables, kind_of, child_at}
-use Rattle.std.specs.Borrow.{Bor}
+use Rattle.std.specs.Borrow.{MutBor}
 use denote.Triple.Both.{Both}
 use Rattle.base.specs.Lent.{MutSlices}
 use Rattle.scope.specs.declared.Scope.{Scope}
@@ -40,7 +40,7 @@ pub record WalksChildren (T : Tables) (states : List ℕ) (parent at step left :
 pub record StepRoom (steps more : ℕ) : Type 0 where
   pub room : steps + more ≤ 2 ^ 41
 
-abbrev pub Counts : Both (Bor ℕ) (Bor ℕ) → ℕ → Type 0
+abbrev pub Counts : Both (MutBor ℕ) (MutBor ℕ) → ℕ → Type 0
 Counts steps more = steps.exit.now ≡ steps.entry.now + more
 
 -- space for the plan of any pattern

@@ -1,0 +1,14 @@
+use Prim.Native.Nat.{◌-◌}
+use Rattle.planner.proofs.buffer.Filling.{filling_next, filling_ends, word_out}
+use Rattle.planner.proofs.buffer.Copies.{clearing_start}
+use borrow.Author.Rules.{rules}
+use Rattle.planner.proofs.buffer.clear_after.Goals as goal
+
+pub loop-i-init : goal.loop-i-init
+loop-i-init c = search (clearing_start, rules)
+
+pub loop-i-preserved : goal.loop-i-preserved
+loop-i-preserved c = search (filling_next, word_out, rules)
+
+pub returns : goal.returns
+returns c = search (filling_ends, rules)

@@ -1,0 +1,16 @@
+use Prim.Native.Nat.{◌-◌, ◌*◌}
+use Rattle.table.specs.Tables.{tables}
+use Rattle.planner.proofs.laws.Names.{Looking}
+use Rattle.planner.proofs.inner.names.+first_name_first_name_children.Given as goal
+
+abbrev pub decreases-first_name : goal.decreases-first_name
+decreases-first_name l = 2 * l.node
+
+abbrev pub decreases-first_name_children : goal.decreases-first_name_children
+decreases-first_name_children l = 2 * l.parent - 1
+
+abbrev pub invariant-first_name_children-loop-more : goal.invariant-first_name_children-loop-more
+invariant-first_name_children-loop-more l = Looking l.sets l.keys (tables l.nodes l.children l.numbers l.names l.strings l.text) l.flags l.parent l.at l.step l.left l.place l.more
+
+abbrev pub decreases-first_name_children-loop-more : goal.decreases-first_name_children-loop-more
+decreases-first_name_children-loop-more l = l.more
