@@ -26,12 +26,12 @@ def decls(t):
     t=re.sub(r'(?m)^ *--.*\n','',t)
     blocks=[];cur=[]
     for l in t.split('\n'):
-        if l and not l[0].isspace():
+        if l and not l[0].isspace() and l[0] not in '})':
             if cur: blocks.append('\n'.join(cur).rstrip())
             cur=[l]
         else: cur.append(l)
     if cur: blocks.append('\n'.join(cur).rstrip())
-    return [b for b in blocks if b.strip()]
+    return [re.sub(r'\{\s+','{',re.sub(r',?\s*\n\}','}',re.sub(r',\n\s+',', ',b))) if b.startswith('use ') else b for b in blocks if b.strip()]
 def subst(body,args,vars_,cyc=None):
     """old positional variables of an invariant or measure -> l.x"""
     m={}
@@ -57,7 +57,7 @@ def repath(term,info):
         if not m or (m[1] in walk): break
         walk.add(m[1]); term=term[:m.start()]+term[m.end():]
     def rep(m):
-        st=m[3]
+        st='first_of'+m[3][len('first_word_of'):] if m[3].startswith('first_word_of') else m[3]
         if m[1] not in walk: return m[0]
         k=st
         cands=steps.get(k) or steps.get(k.replace('-','_')) 
@@ -173,6 +173,7 @@ def emit(g,term,unf,clauses,pre,cycle):
         ps=flat_parts(core,len(clauses))
         if len(ps)==len(clauses):
             return [one(f'{g}-clause-{cl}',q) for cl,q in zip(clauses,ps) if q!='search rules' or unf]
+        if core=='search rules' and not unf: return []
         return [one(g,core)]
     if '-requires' in g and tuple_parts(core):
         fn=g.split('-requires')[0]

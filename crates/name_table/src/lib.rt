@@ -2,6 +2,7 @@
 #![tactic(auto)]
 
 ghost use Rattle.table.specs.Lent.{lent};
+ghost use Rattle.table.specs.Tables.{tables};
 ghost use Rattle.table.specs.Check.{tested_of};
 ghost use Rattle.std.specs.Prelude.{◌≡◌, ◌≤◌};
 ghost use Rattle.name_table.specs.Adding.{has_names, checked_in_use, allowed, number_from, at_end, add_outcome};
@@ -121,7 +122,7 @@ pub fn add_name<'a>(
     start: u32,
     size: u32,
 ) -> NameAnswer
-    ensures { NameAddedIn names (add_outcome (lent nodes children numbers names strings text) used start size) used start size result }
+    ensures { NameAddedIn names (add_outcome (tables nodes.now children.now numbers.now names.old strings.now text.now) used start size) used start size result }
 {
     let checked = check_in_use(nodes, children, numbers, names, strings, text, used);
     if let TableAnswer::Refused(refused) = checked {
