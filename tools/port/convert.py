@@ -37,12 +37,12 @@ def subst(body,args,vars_,cyc=None):
     m={}
     for a in args:
         base=a.rstrip("₀")
-        if a.endswith('₀'): m[a]='l.initial.'+base
-        else: m[a]='l.'+a
+        if a.endswith('₀'): m[a]='l.initial.'+base.replace('-','_')
+        else: m[a]='l.'+a.replace('-','_')
     def rep(mm):
         w=mm[0]
         return m.get(w,w)
-    return re.sub(r"(?<![\w.'₀₁₂₃-])[A-Za-z_][\w']*[₀]?(?![\w'₀-])",rep,body)
+    return re.sub(r"(?<![\w.'₀₁₂₃-])[A-Za-z_][\w'-]*[₀]?(?![\w'₀-])",rep,body)
 def repath(term,info):
     """c.before..STEP -> c.NEW, by the places of names.json; lets that only walk back go"""
     steps={}
@@ -78,6 +78,7 @@ FNS={}
 ENS={}
 def clause_names(term,info,cycle):
     """X.ensures.0 -> X.ensures.NAME; c.requires.1.0 -> c.requires.NAME"""
+    term=term.replace('c.enum_told-1.given.1','c.in_default.is')
     # a let of a call's ensures is written out where a part of it is used
     for m in list(re.finditer(r'let (\w+) = (c\.[\w-]+\.ensures|c\.requires(?:\.1)?) in\s+',term)):
         if re.search(r'(?<![\w.])'+m[1]+r'\.\d',term):
@@ -92,11 +93,12 @@ def clause_names(term,info,cycle):
     pre=info.get('pre') or {}
     fl=pre.get('fields') or []
     if cycle:
-        term=re.sub(r'c\.requires\.1\.(\d)',lambda m:'c.requires.'+(fl[int(m[1])] if int(m[1])<len(fl) else m[1]),term)
+        term=re.sub(r'c\.requires\.0(?!\d)','c.decreases',term)
         term=re.sub(r'c\.requires\.1(?!\.?\d)','c.requires',term)
-        term=re.sub(r'c\.requires\.0(?!\.?\d)','c.decreases',term)
+        if len(fl)>1: term=re.sub(r'c\.requires\.1\.(\d)',lambda m:'c.requires.'+(fl[int(m[1])] if int(m[1])<len(fl) else m[1]),term)
+        else: term=re.sub(r'c\.requires\.1\.(\d)',r'c.requires.\1',term)
     else:
-        term=re.sub(r'c\.requires\.(\d)',lambda m:'c.requires.'+(fl[int(m[1])] if int(m[1])<len(fl) else m[1]),term)
+        if len(fl)>1: term=re.sub(r'c\.requires\.(\d)',lambda m:'c.requires.'+(fl[int(m[1])] if int(m[1])<len(fl) else m[1]),term)
     return term
 def load_fns():
     for f in glob.glob('crates/*/src/**/*.rt',recursive=True):

@@ -1,0 +1,10 @@
+use Prim.Native.Nat.{◌-◌}
+use Rattle.table.specs.Tables.{tables}
+use Rattle.assignment.proofs.keys.KeySearch.{Searching}
+use Rattle.assignment.proofs.keys.find_value.Given as goal
+
+abbrev pub invariant-loop-low : goal.invariant-loop-low
+invariant-loop-low l = Searching (tables l.nodes l.children l.numbers l.names l.strings l.text) l.object l.order l.total l.key l.first l.low l.high
+
+abbrev pub decreases-loop-low : goal.decreases-loop-low
+decreases-loop-low l = l.high - l.low

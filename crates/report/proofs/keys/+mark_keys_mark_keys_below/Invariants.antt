@@ -1,0 +1,16 @@
+use Prim.Native.Nat.{◌-◌, ◌*◌}
+use Rattle.table.specs.Tables.{tables}
+use Rattle.report.proofs.KeyNames.{MarkingBelow}
+use Rattle.report.proofs.keys.+mark_keys_mark_keys_below.Given as goal
+
+abbrev pub decreases-mark_keys : goal.decreases-mark_keys
+decreases-mark_keys l = 2 * l.node
+
+abbrev pub decreases-mark_keys_below : goal.decreases-mark_keys_below
+decreases-mark_keys_below l = 2 * l.parent - 1
+
+abbrev pub invariant-mark_keys_below-loop-more : goal.invariant-mark_keys_below-loop-more
+invariant-mark_keys_below-loop-more l = MarkingBelow (tables l.nodes l.children l.numbers l.names l.strings l.text) l.states l.parent l.at l.step l.left l.initial.met l.place l.more l.met
+
+abbrev pub decreases-mark_keys_below-loop-more : goal.decreases-mark_keys_below-loop-more
+decreases-mark_keys_below-loop-more l = l.more
