@@ -1,0 +1,18 @@
+use Rattle.run.proofs.Refusing.{table_refused_lem, pattern_outside, value_outside, list_short, ask_checked}
+use borrow.Author.Rules.{rules}
+use Rattle.run.proofs.inner.refusals.check_run.Goals as goal
+
+pub returns-in-Refused : goal.returns-in-Refused
+returns-in-Refused c = search (table_refused_lem, rules)
+
+pub returns-then-not-is_node : goal.returns-then-not-is_node
+returns-then-not-is_node c = search (pattern_outside, rules)
+
+pub returns-then-not-is_node-2 : goal.returns-then-not-is_node-2
+returns-then-not-is_node-2 c = search (value_outside, rules)
+
+pub returns-then-values-names : goal.returns-then-values-names
+returns-then-values-names c = search (list_short, rules)
+
+pub check_inside-requires : goal.check_inside-requires
+check_inside-requires c = ask_checked _ _ _ _ _ c.check-checked.ensures c.in_default.is c.is_node.ensures c.if-not-is_node.false-raw c.is_node-2.ensures c.if-not-is_node-2.false-raw c.if-values-names.false
