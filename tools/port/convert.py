@@ -60,7 +60,7 @@ def repath(term,info):
         st='first_of'+m[3][len('first_word_of'):] if m[3].startswith('first_word_of') else m[3]
         if m[1] not in walk: return m[0]
         k=st
-        cands=steps.get(k) or steps.get(k.replace('-','_')) 
+        cands=steps.get(k) or steps.get(k.replace('-','_')) or steps.get(re.sub(r'_lem(?=\d*$)','',k.replace('-','_')))
         if cands is None and m[2]=='' and m[1]=='c': return m[0]
         if cands is None: 
             return 'c.'+st+(m[4] or '')
@@ -78,7 +78,7 @@ FNS={}
 ENS={}
 def clause_names(term,info,cycle):
     """X.ensures.0 -> X.ensures.NAME; c.requires.1.0 -> c.requires.NAME"""
-    term=term.replace('c.enum_told-1.given.1','c.in_default.is')
+    term=re.sub(r'c\.[\w-]+\.given\.1','c.in_default.is',term) if 'enum_told-1' in term else term
     # a let of a call's ensures is written out where a part of it is used
     for m in list(re.finditer(r'let (\w+) = (c\.[\w-]+\.ensures|c\.requires(?:\.1)?) in\s+',term)):
         if re.search(r'(?<![\w.])'+m[1]+r'\.\d',term):

@@ -5,7 +5,7 @@ use mathlib.Core.Bool.{Bool, true, false, cond, false≢true}
 use mathlib.Core.List.{List, [], ◌∷◌}
 use Rattle.scope.specs.declared.Scope.{Scope}
 use Rattle.parties.specs.Parties.{Shared, PartyCall, add_name, Seen, seen, scope_after_call, shared_after, Party, house, shop, State, party_scope, sees, leaves, Event, finally, is_by, OwnCall, own_calls, observed}
-use Rattle.parties.specs.Contracts.{ByContract}
+use Rattle.parties.specs.CallContracts.{ByContract}
 use Rattle.parties.specs.Promise.{PartiesPromise}
 
 unfoldable seen_alone : Scope → List OwnCall → List Seen

@@ -1,0 +1,9 @@
+use Rattle.body.proofs.SideCases.{cond_is, cond_other}
+use borrow.Author.Rules.{rules}
+use Rattle.body.proofs.ready.states_from.Goals as goal
+
+pub returns-then-kind-eq-PAIR : goal.returns-then-kind-eq-PAIR
+returns-then-kind-eq-PAIR c = search (cond_is, rules)
+
+pub returns-else-kind-eq-PAIR : goal.returns-else-kind-eq-PAIR
+returns-else-kind-eq-PAIR c = search (cond_other, rules)

@@ -1,0 +1,30 @@
+use Rattle.common_example.proofs.loops.sizes.SizeLoops.{summing_start, link_low, size_low, link_fits, summed, summing_none, summing_on, summing_ends}
+use borrow.Author.Rules.{rules}
+use Rattle.common_example.proofs.levels.sum_sizes.Goals as goal
+
+pub loop-left-init : goal.loop-left-init
+loop-left-init c = search (summing_start, rules)
+
+pub offset_bounds-links-link : goal.offset_bounds-links-link
+offset_bounds-links-link c = search (link_low, rules)
+
+pub bounds-links-link : goal.bounds-links-link
+bounds-links-link c = search (link_low, rules)
+
+pub size_at-size-requires : goal.size_at-size-requires
+size_at-size-requires c = search (size_low, rules)
+
+pub returns-then-size-eq0 : goal.returns-then-size-eq0
+returns-then-size-eq0 c = search (summing_none, rules)
+
+pub capped-total-requires : goal.capped-total-requires
+capped-total-requires c = search (summed, rules)
+
+pub overflow_add-link : goal.overflow_add-link
+overflow_add-link c = search (link_fits, rules)
+
+pub loop-left-preserved : goal.loop-left-preserved
+loop-left-preserved c = search (summing_on, rules)
+
+pub returns : goal.returns
+returns c = search (summing_ends, rules)

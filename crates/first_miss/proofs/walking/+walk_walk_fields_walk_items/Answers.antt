@@ -1,0 +1,83 @@
+use Prim.Native.Nat.{◌-◌}
+use Rattle.first_miss.proofs.nodes.WalkNodes.{ask_literal, came_literal, ask_name, array_misses, ask_items, came_array, ask_object, object_misses, ask_fields, came_object, parts_fall}
+use Rattle.first_miss.proofs.nodes.WalkParts.{items_start, items_left_fits, items_right_fits, items_ask, items_fall, items_fail, items_on, items_end, fields_start, fields_object, fields_twice, fields_place, fields_value, fields_fall, fields_ask, fields_fail, fields_on, fields_end}
+use borrow.Author.Rules.{rules}
+use Rattle.first_miss.proofs.walking.+walk_walk_fields_walk_items.Goals as goal
+
+pub walk-walk_literal-requires : goal.walk-walk_literal-requires
+walk-walk_literal-requires t c = search (ask_literal, rules)
+
+pub walk-returns-then-kind-le-LAST_LITERAL : goal.walk-returns-then-kind-le-LAST_LITERAL
+walk-returns-then-kind-le-LAST_LITERAL t c = search (came_literal, rules)
+
+pub walk-walk_name-requires : goal.walk-walk_name-requires
+walk-walk_name-requires t c = search (ask_name, rules)
+
+pub walk-returns-in-Missed : goal.walk-returns-in-Missed
+walk-returns-in-Missed t c = search (array_misses, rules)
+
+pub walk-walk_items-requires : goal.walk-walk_items-requires
+walk-walk_items-requires t c = (search (parts_fall, rules), search (ask_items, rules))
+
+pub walk-returns-then-kind-eq-ARRAY : goal.walk-returns-then-kind-eq-ARRAY
+walk-returns-then-kind-eq-ARRAY t c = search (came_array, rules)
+
+pub walk-walk_object-object-requires : goal.walk-walk_object-object-requires
+walk-walk_object-object-requires t c = search (ask_object, rules)
+
+pub walk-returns-in-Missed-object : goal.walk-returns-in-Missed-object
+walk-returns-in-Missed-object t c = search (object_misses, rules)
+
+pub walk-walk_fields-requires : goal.walk-walk_fields-requires
+walk-walk_fields-requires t c = (search (parts_fall, rules), search (ask_fields, rules))
+
+pub walk-returns : goal.walk-returns
+walk-returns t c = search (came_object, rules)
+
+pub walk_fields-loop-i-init : goal.walk_fields-loop-i-init
+walk_fields-loop-i-init t c = search (fields_start, rules)
+
+pub walk_fields-overflow_mul-place : goal.walk_fields-overflow_mul-place
+walk_fields-overflow_mul-place t c = search (fields_twice, rules)
+
+pub walk_fields-overflow_add-place : goal.walk_fields-overflow_add-place
+walk_fields-overflow_add-place t c = search (fields_place, rules)
+
+pub walk_fields-overflow_add-place-in-loop-i : goal.walk_fields-overflow_add-place-in-loop-i
+walk_fields-overflow_add-place-in-loop-i t c = search (fields_value, rules)
+
+pub walk_fields-value_under-part-requires : goal.walk_fields-value_under-part-requires
+walk_fields-value_under-part-requires t c = search (fields_object, rules)
+
+pub walk_fields-walk-walked-requires : goal.walk_fields-walk-walked-requires
+walk_fields-walk-walked-requires t c = (fields_fall c.loop-i.invariant c.loop-i-test.true c.child_at-value.ensures c.decreases, fields_ask c.loop-i.invariant c.loop-i-test.true c.child_at-key.ensures c.child_at-value.ensures c.value_under-part.ensures)
+
+pub walk_fields-returns-in-Missed : goal.walk_fields-returns-in-Missed
+walk_fields-returns-in-Missed t c = search (fields_fail, rules)
+
+pub walk_fields-loop-i-preserved : goal.walk_fields-loop-i-preserved
+walk_fields-loop-i-preserved t c = fields_on c.loop-i.invariant c.loop-i-test.true c.child_at-key.ensures c.child_at-value.ensures c.value_under-part.ensures c.walk-walked.ensures c.in_default.is
+
+pub walk_fields-returns : goal.walk_fields-returns
+walk_fields-returns t c = search (fields_end, rules)
+
+pub walk_items-loop-i-init : goal.walk_items-loop-i-init
+walk_items-loop-i-init t c = search (items_start, rules)
+
+pub walk_items-overflow_add-at : goal.walk_items-overflow_add-at
+walk_items-overflow_add-at t c = search (items_left_fits, rules)
+
+pub walk_items-overflow_add-from : goal.walk_items-overflow_add-from
+walk_items-overflow_add-from t c = search (items_right_fits, rules)
+
+pub walk_items-walk-walked-requires : goal.walk_items-walk-walked-requires
+walk_items-walk-walked-requires t c = (items_fall c.loop-i.invariant c.loop-i-test.true c.child_at-item.ensures c.child_at-part.ensures c.decreases, items_ask c.loop-i.invariant c.loop-i-test.true c.child_at-item.ensures c.child_at-part.ensures)
+
+pub walk_items-returns-in-Missed : goal.walk_items-returns-in-Missed
+walk_items-returns-in-Missed t c = search (items_fail c.loop-i.invariant c.loop-i-test.true c.child_at-item.ensures c.child_at-part.ensures c.walk-walked.ensures, rules)
+
+pub walk_items-loop-i-preserved : goal.walk_items-loop-i-preserved
+walk_items-loop-i-preserved t c = items_on c.loop-i.invariant c.loop-i-test.true c.child_at-item.ensures c.child_at-part.ensures c.walk-walked.ensures c.in_default.is
+
+pub walk_items-returns : goal.walk_items-returns
+walk_items-returns t c = search (items_end, rules)

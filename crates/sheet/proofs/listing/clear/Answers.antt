@@ -1,0 +1,13 @@
+use Prim.Native.Nat.{◌-◌}
+use Rattle.planner.proofs.buffer.Filling.{filling_begin, filling_next, zeros_end}
+use borrow.Author.Rules.{rules}
+use Rattle.sheet.proofs.listing.clear.Goals as goal
+
+pub loop-i-init : goal.loop-i-init
+loop-i-init c = search (filling_begin, rules)
+
+pub loop-i-preserved : goal.loop-i-preserved
+loop-i-preserved c = search (filling_next, rules)
+
+pub returns : goal.returns
+returns c = search (zeros_end, rules)

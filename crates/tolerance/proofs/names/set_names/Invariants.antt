@@ -1,0 +1,9 @@
+use Rattle.tolerance.proofs.nodes.Beginning.{Setting}
+use Prim.Native.Nat.{◌-◌}
+use Rattle.tolerance.proofs.names.set_names.Given as goal
+
+abbrev pub invariant-loop-i : goal.invariant-loop-i
+invariant-loop-i l = Setting l.names l.list l.initial.values l.count l.i l.values
+
+abbrev pub decreases-loop-i : goal.decreases-loop-i
+decreases-loop-i l = l.count - l.i
