@@ -2,9 +2,6 @@ use Rattle.common_example.proofs.loops.classes.MeetLoops.{literals_met_lem, arra
 use borrow.Author.Rules.{rules}
 use Rattle.common_example.proofs.classes.meet_heads.Goals as goal
 
-returns-3 : tie.Need-returns-3
-returns-3 c = search rules
-
 pub returns-then-kind-eq1 : goal.returns-then-kind-eq1
 returns-then-kind-eq1 c = search (literals_met_lem, rules)
 

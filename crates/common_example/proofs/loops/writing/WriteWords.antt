@@ -197,8 +197,8 @@ module _ (nodes heads links classes sizes : List ℕ) where
             length-append (part_nodes links sizes (step_by (kind_at heads q)) nodes each (link_by (kind_at heads q) (start_at heads q)) (count_at heads q) e)
             (node_entry (parent_kind (kind_at heads q)) (e + part_entries links sizes (step_by (kind_at heads q)) (link_by (kind_at heads q) (start_at heads q)) (count_at heads q)) (count_at heads q)) ∙ omega (arith, g, h)
 
-    head_children : (each : ℕ → ℕ → List ℕ) → ((p b : ℕ) → F p → length (each p b) ≡ get_or sizes p 0 - 1) → ((p : ℕ) → F p → 1 ≤ get_or sizes p 0) → (b : ℕ) → length (head_children heads links sizes each q b) ≡ size - 1
-    head_children each ok one b = go (leb (kind_at heads q) 1) refl
+    head_children_lem : (each : ℕ → ℕ → List ℕ) → ((p b : ℕ) → F p → length (each p b) ≡ get_or sizes p 0 - 1) → ((p : ℕ) → F p → 1 ≤ get_or sizes p 0) → (b : ℕ) → length (head_children heads links sizes each q b) ≡ size - 1
+    head_children_lem each ok one b = go (leb (kind_at heads q) 1) refl
       where
         go : (c : Bool) → leb (kind_at heads q) 1 ≡ c → length (cond c [] (parent_children heads links sizes each (kind_at heads q) (link_by (kind_at heads q) (start_at heads q)) (count_at heads q) b)) ≡ size - 1
         go true w = let h = f.leaf (leb-true (kind_at heads q) 1 w) in omega (arith, h)
@@ -221,4 +221,4 @@ module _ (nodes heads links classes sizes : List ℕ) where
   pub fit_children : (r p b : ℕ) → Fit heads links classes sizes r p → length (place_children heads links classes sizes r p b) ≡ get_or sizes p 0 - 1
   unfolding Fit place_children
   fit_children zero p b f = absurd f
-  fit_children (suc r) p b f = head_children (Fit heads links classes sizes r) (get_or sizes p 0) (class_in classes p) f (place_children heads links classes sizes r) (λ p' b' f'. fit_children r p' b' f') (fit_one r) b
+  fit_children (suc r) p b f = head_children_lem (Fit heads links classes sizes r) (get_or sizes p 0) (class_in classes p) f (place_children heads links classes sizes r) (λ p' b' f'. fit_children r p' b' f') (fit_one r) b
