@@ -438,7 +438,7 @@ def convert(crate,names):
             return re.sub(r'c(?:\.before)*\.loop\.invariant','c.'+loops[0]+'.invariant',x) if len(loops)==1 else x
         answers=[(g,vs,clause_names(repath(term,info),info,False),unf) for g,vs,term,unf in answers]
         hand=[(g,b) for g,b in hand if re.search(r'\.before|κs|AMBIG',repath(b,info))]
-        local=[n for n in order if n not in lead and n!=specname and n not in args]
+        local=[n for n in order if n not in lead and n!=specname and n not in args and 'tie.Need-' not in defs[n]['sig']]
         if local: log.append((pf,'local '+','.join(local)))
         def fileof(items,head,suffix):
             pass

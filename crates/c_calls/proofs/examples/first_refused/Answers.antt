@@ -1,0 +1,9 @@
+use Rattle.c_calls.proofs.Exampled.{first_unlisted, first_listed}
+use borrow.Author.Rules.{rules}
+use Rattle.c_calls.proofs.examples.first_refused.Goals as goal
+
+pub returns-then-not-are_listed : goal.returns-then-not-are_listed
+returns-then-not-are_listed c = search (first_unlisted, rules)
+
+pub returns : goal.returns
+returns c = search (first_listed, rules)

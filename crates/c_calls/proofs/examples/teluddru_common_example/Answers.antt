@@ -1,0 +1,12 @@
+use Rattle.c_calls.proofs.Exampled.{example_refused, example_fits, example_done}
+use borrow.Author.Rules.{rules}
+use Rattle.c_calls.proofs.examples.teluddru_common_example.Goals as goal
+
+pub returns-then-before-ne0 : goal.returns-then-before-ne0
+returns-then-before-ne0 c = search (example_refused, rules)
+
+pub tell-requires : goal.tell-requires
+tell-requires c = search (example_fits, rules)
+
+pub returns : goal.returns
+returns c = search (example_done, rules)

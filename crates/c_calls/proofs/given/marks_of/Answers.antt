@@ -1,0 +1,14 @@
+use Prim.Native.Nat.{◌-◌}
+use Rattle.base.proofs.Filling.{filling_start, filling_on}
+use Rattle.c_calls.proofs.Scopes.{marks_end}
+use borrow.Author.Rules.{rules}
+use Rattle.c_calls.proofs.given.marks_of.Goals as goal
+
+pub loop-i-init : goal.loop-i-init
+loop-i-init c = search (filling_start, rules)
+
+pub loop-i-preserved : goal.loop-i-preserved
+loop-i-preserved c = search (filling_on, rules)
+
+pub returns : goal.returns
+returns c = search (marks_end, rules)
