@@ -178,7 +178,9 @@ pub body_fits : (T : Tables) (s : Scope) (words : List ℕ) {before after : List
 body_fits T s words {before} d is = subst ShortLine (sym (ap (λ (l : BodyLine). l.numbers) (is ∙ d.answer))) (body_short T s words before)
 
 pub number_fits : {n : ℕ} {row : Row} → n ≤ 37 → row_line row ≡ line n 0 0 0 → ShortLine (row_line row)
-number_fits le e = rw e (record { one = omega arith; two = omega arith; three = omega arith; four = omega arith })
+number_fits {n} le e =
+    let few : ShortLine (line n 0 0 0) = record { one = omega arith; two = omega arith; three = omega arith; four = omega arith } in
+    subst ShortLine (sym e) few
 
 -- the numbers of what comes first
 words_small : (scheduler : ℕ) (words : List ℕ) {n : ℕ} → line n 0 0 0 ≡ tested_line (words_first scheduler words) → n ≤ 37

@@ -206,7 +206,7 @@ module _ (T : Tables) {marks₁ marks₂ : List ℕ} {scheduler₁ scoping₁ pa
     module _ {out kids out' kids' : List ℕ} {x : ExampleAnswer} (was : Gives T (marked_outcome T (pattern_side h₁.pattern values₁) (conversion_of h₂.made) (pattern_side h₂.pattern values₂)) out kids out' kids' x)
         {row : Row} (is : row_line row ≡ example_line (example_result x)) where
       pub example_fits : ShortLine (row_line row)
-      example_fits = rw is (answer_short T (marked_outcome T (pattern_side h₁.pattern values₁) (conversion_of h₂.made) (pattern_side h₂.pattern values₂)) out kids few_nodes x was.answer)
+      example_fits = subst ShortLine (sym is) (answer_short T (marked_outcome T (pattern_side h₁.pattern values₁) (conversion_of h₂.made) (pattern_side h₂.pattern values₂)) out kids few_nodes x was.answer)
 
       pub example_done : {words words' : List ℕ} {r : ℕ} → Told (row_line row) words words' r → ExampleCalled T (example_call T g₁ g₂) out kids words out' kids' words' r
       example_done {words} {words'} {r} d =

@@ -1,6 +1,6 @@
 // Adding a name to the lent name table.
 ghost use Rattle.std.specs.Prelude.{◌≡◌};
-ghost use Rattle.table.specs.Lent.{lent};
+ghost use Rattle.table.specs.Tables.{tables};
 ghost use Rattle.operation.specs.Rows.{row_line};
 ghost use Rattle.name_table.specs.Answer.{name_line};
 ghost use Rattle.c_calls.specs.NameCall.{NameCalledIn};
@@ -35,7 +35,7 @@ pub extern "C" fn teluddru_add_name<'a>(
     size: u32,
     answer: &mut [u32],
 ) -> u32
-    ensures { let T = lent nodes children numbers names strings text in NameCalledIn names answer T used start size result }
+    ensures { let T = tables nodes.now children.now numbers.now names.old strings.now text.now in NameCalledIn names answer T used start size result }
 {
     let added = add_name(
         nodes, children, numbers, names, strings, text, used, start, size,

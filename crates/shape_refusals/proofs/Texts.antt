@@ -1,6 +1,6 @@
 -- Lists of differing keys that have the same keys have the same texts, sorted.
 use Prim.Native.Nat.{ℕ}
-use mathlib.Core.Path.{◌≡◌, refl, sym, ap, ◌∙◌}
+use mathlib.Core.Path.{subst, ◌≡◌, refl, sym, ap, ◌∙◌}
 use mathlib.Core.Bool.{Bool, true, false, cond, ◌||◌, not, false≢true}
 use mathlib.Core.List.{List, [], ◌∷◌, map}
 use lib.Dec.{T, T_not, not_T}
@@ -73,7 +73,7 @@ insert_swap t u (v ∷ vs) = go (after t v) refl (after u v) refl (insert_swap t
     fronts : after t v ≡ false → after u v ≡ false → (c : Bool) → after t u ≡ c → (d : Bool) → after u t ≡ d → insert_text t (u ∷ (v ∷ vs)) ≡ insert_text u (t ∷ (v ∷ vs))
     fronts a b true p d q = insert_behind t u (v ∷ vs) p ∙ (ap (λ (l : List (List ℕ)). u ∷ l) (insert_front t v vs a) ∙ sym (insert_front u t (v ∷ vs) (after_flip t u p)))
     fronts a b false p true q = insert_front t u (v ∷ vs) p ∙ sym (insert_behind u t (v ∷ vs) q ∙ ap (λ (l : List (List ℕ)). t ∷ l) (insert_front u v vs b))
-    fronts a b false p false q = let e = after_neither t u p q in rw e
+    fronts a b false p false q = let e = after_neither t u p q in subst (λ (x : List ℕ). insert_text x (u ∷ (v ∷ vs)) ≡ insert_text u (x ∷ (v ∷ vs))) (sym e) refl
 
     go : (c : Bool) → after t v ≡ c → (d : Bool) → after u v ≡ d → insert_text t (insert_text u vs) ≡ insert_text u (insert_text t vs)
         → insert_text t (insert_text u (v ∷ vs)) ≡ insert_text u (insert_text t (v ∷ vs))
