@@ -4,7 +4,6 @@ use mathlib.Core.Path.{◌≡◌, refl, sym, ap, ◌∙◌}
 use mathlib.Core.Bool.{Bool, true, false}
 use mathlib.Core.List.{List, [], ◌∷◌, map}
 use mathlib.Core.Option.{Option}
-use mathlib.Core.Option as Option
 use native.Mathlib.Omega.{arith}
 use borrow.Author.Tests.{leb-true, leb-false}
 use lib.Dec.{leb}
@@ -17,7 +16,6 @@ use Rattle.literal.specs.Order.{Order, less, same, more, key_order}
 use Rattle.literal.proofs.Orders.{key_order_lem}
 use Rattle.table.specs.Names.{is_same}
 use Rattle.table.specs.declared.Key.{Key}
-use Rattle.table.specs.declared.Key.TheVariants as Key
 use Rattle.table.specs.declared.Key.TheVariants.{Computed}
 use Rattle.table.proofs.tests.Bytes.{node_refers}
 use Rattle.table.specs.Tables.{Tables, kind_of, first_word_of, count_of, width, child_at}

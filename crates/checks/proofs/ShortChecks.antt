@@ -2,7 +2,6 @@
 use mathlib.Core.Bool.{Bool, true, false, cond}
 use mathlib.Core.List.{List, [], ◌∷◌, ◌++◌, map}
 use mathlib.Core.Option.{Option}
-use mathlib.Core.Option as Option
 use native.Mathlib.Omega.{arith}
 use lib.Dec.{eqb}
 use Rattle.literal.specs.Literal.{Literal}

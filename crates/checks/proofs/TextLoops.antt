@@ -4,7 +4,6 @@ use mathlib.Core.Path.{◌≡◌, refl, sym, ap, subst, ◌∙◌}
 use mathlib.Core.Bool.{Bool, true, false, ◌&&◌}
 use mathlib.Core.List.{List, []}
 use mathlib.Core.Option.{Option}
-use mathlib.Core.Option as Option
 use native.Mathlib.Omega.{arith}
 use borrow.Author.Tests.{leb-true, leb-false, eq-eqb, ne_eqb}
 use lib.Dec.{leb}
@@ -19,7 +18,6 @@ use Rattle.literal.specs.Text.{key_text, texts_compared}
 use Rattle.literal.specs.Reading.{literal_of}
 use Rattle.literal.specs.declared.LiteralRef.{LiteralRef}
 use Rattle.table.specs.declared.Key.{Key}
-use Rattle.table.specs.declared.Key.TheVariants as Key
 use Rattle.table.specs.declared.Key.TheVariants.{Computed}
 use Rattle.table.proofs.tests.Bytes.{node_refers}
 use Rattle.table.specs.Tables.{Tables, tables, kind_of, child_at}

@@ -1,7 +1,6 @@
 -- A pattern held against a literal expression, in either reading (document 01, "Checks"; utils.rs, check_literal_structure; request 10 of document 02).
 use Rattle.std.specs.Prelude.{ℕ, Bool, true, false, cond, ◌&&◌, List, [], ◌∷◌, ◌++◌, map, eqb}
 use Rattle.std.proofs.Math.Option.{Option}
-use Rattle.std.proofs.Math.Option as Option
 use Rattle.literal.specs.Literal.{Literal}
 use Rattle.literal.specs.Order.{Order, less, same, more, bytes_order}
 use Rattle.literal.specs.Text.{key_text}

@@ -13,9 +13,7 @@ use Rattle.literal.specs.Text.{digit, digits, decimal, signed}
 use Rattle.literal.proofs.Decimals.{digits_one, digits_more, few_or_more, length_more, digits_length, decimal_form}
 use Rattle.literal.proofs.Numbers.{number_bounds, and_true}
 use Rattle.columns.specs.declared.Column.{Column}
-use Rattle.columns.specs.declared.Column.TheVariants as Column
 use Rattle.columns.specs.declared.SignedColumn.{SignedColumn}
-use Rattle.columns.specs.declared.SignedColumn.TheVariants as SignedColumn
 use Rattle.columns.specs.Columns.{after_blanks, is_digit, all_digits, is_decimal, decimal_number, read_column, signed_number, read_signed, justified, write_column, write_signed}
 use Rattle.columns.specs.Laws.{below_word, twenty_end, ReadBack}
 use Rattle.columns.proofs.write.Writing.{justified_long}

@@ -3,9 +3,7 @@ use Rattle.std.specs.Prelude.{ℕ, ◌+◌, ◌-◌, ◌^◌, Bool, true, cond, 
 use Rattle.base.specs.Lists.{part}
 use Rattle.literal.specs.Text.{decimal, value, signed}
 use Rattle.columns.specs.declared.Column.{Column}
-use Rattle.columns.specs.declared.Column.TheVariants as Column
 use Rattle.columns.specs.declared.SignedColumn.{SignedColumn}
-use Rattle.columns.specs.declared.SignedColumn.TheVariants as SignedColumn
 
 -- the bytes after the blanks in front
 unfoldable pub after_blanks : List ℕ → List ℕ

@@ -1,7 +1,6 @@
 -- What an object holds under a key.
 use Rattle.std.specs.Prelude.{Bool, true, false, List, [], ◌∷◌}
 use Rattle.std.proofs.Math.Option.{Option}
-use Rattle.std.proofs.Math.Option as Option
 use Rattle.literal.specs.Literal.{Literal}
 use Rattle.literal.specs.Order.{key_order}
 use Rattle.table.specs.Names.{is_same}

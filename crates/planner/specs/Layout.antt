@@ -2,7 +2,6 @@
 -- an object's literal fields in key order, then its computed ones as written.
 use Rattle.std.specs.Prelude.{ℕ, ◌+◌, Bool, false, cond, ◌||◌, List, [], ◌∷◌, ◌++◌, map, eqb, length}
 use Rattle.std.proofs.Math.Option.{Option}
-use Rattle.std.proofs.Math.Option as Option
 use Rattle.literal.specs.Literal.{Literal}
 use Rattle.literal.specs.Order.{Order, less, same, more, key_order}
 use Rattle.table.specs.Expr.{Expr, literal, name, wildcard, array, set, object, other, node_of}

@@ -1,7 +1,6 @@
 -- Simple patterns: names, underscores, literals, arrays, and objects with literal keys, all different. Demand 3 speaks of these.
 use Rattle.std.specs.Prelude.{ℕ, Bool, true, false, ◌&&◌, ◌||◌, not, List, [], ◌∷◌}
 use Rattle.std.proofs.Math.Option.{Option}
-use Rattle.std.proofs.Math.Option as Option
 use Rattle.literal.specs.Literal.{Literal}
 use Rattle.literal.specs.Order.{key_order}
 use Rattle.table.specs.Names.{is_same}

@@ -9,7 +9,6 @@ use Rattle.scope.specs.declared.ScopingMode.TheVariants.{RespectParent, AllowSha
 use Rattle.scope.specs.declared.ScopeAnswer.{ScopeAnswer}
 use Rattle.scope.specs.declared.ScopeAnswer.TheVariants.{Done, NameOutside}
 use Rattle.scope.specs.declared.Binding.{Binding}
-use Rattle.scope.specs.declared.Binding.TheVariants as Binding
 use Rattle.scope.specs.Names.{is_name, contains, no_names, count_from, size_of}
 use Rattle.scope.specs.Says.{Says, nothing, bind, add_unbound, in_child, unbound_under, bound_here, by_scoping}
 use Rattle.scope.specs.Scope.{says, is_underscore, is_unbound, same_scope, bound_count, changeable, bound_at, unbound_at, bind_variable, add_unbound_variable, child_of, new_scope, call_of, Question, replied, turned_back_lem, asked, question_of}

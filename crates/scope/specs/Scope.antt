@@ -7,7 +7,6 @@ use Rattle.scope.specs.declared.Changed.{Changed}
 use Rattle.scope.specs.declared.ScopeAnswer.{ScopeAnswer}
 use Rattle.scope.specs.declared.ScopeAnswer.TheVariants.{Done, NameOutside}
 use Rattle.scope.specs.declared.Binding.{Binding}
-use Rattle.scope.specs.declared.Binding.TheVariants as Binding
 unfoldable pub use Rattle.scope.specs.Names.{is_name}
 use Rattle.scope.specs.Names.{contains, with_name, without_name, no_names, size_of}
 use Rattle.scope.specs.Says.{Says, unbound_under, bound_here}

@@ -1,13 +1,11 @@
 -- The expression that a node of the tables says.
 use Rattle.std.specs.Prelude.{ℕ, zero, suc, ◌+◌, Bool, cond, List, eqb}
 use Rattle.std.proofs.Math.Option.{Option}
-use Rattle.std.proofs.Math.Option as Option
 use Rattle.literal.specs.Literal.{Literal}
 use Rattle.literal.specs.Reading.{literal_of}
 use Rattle.literal.specs.declared.LiteralRef.{LiteralRef}
 use Rattle.literal.specs.declared.LiteralRef.TheVariants.{Null, False, True, Number, String, RawString}
 use Rattle.table.specs.declared.Key.{Key}
-use Rattle.table.specs.declared.Key.TheVariants as Key
 use Rattle.table.specs.Tables.{Tables, kind_of, first_word_of, count_of, child_at, name_bytes}
 use Rattle.table.specs.Names.{same_bytes, underscore_bytes}
 use Rattle.table.specs.Expr.{Expr, literal, name, wildcard, array, set, object, other, Exprs, none, item, Fields, done, field}

@@ -1,12 +1,7 @@
--- The laws, and what the walks by hand share.
-pub mod Cells
-pub mod Locals
-pub mod Params
+-- The laws of the calls over records.
 pub mod Copying
 pub mod Limits
 pub mod AllNames
-pub mod LocalArray
 pub mod Trials
-pub mod Passing
 pub mod Demand
 pub mod AddedNames

@@ -4,15 +4,11 @@ use Rattle.name_table.specs.declared.NameAnswer.{NameAnswer}
 use Rattle.name_table.specs.Adding.{AddOutcome}
 use Rattle.name_table.specs.Answer.{NameAdded}
 use Rattle.teluddru.specs.declared.Name.{Name}
-use Rattle.teluddru.specs.Records.{name_words, Records, records_in}
-
--- what the records say at exit
-abbrev pub records_out : Records → List Name
-records_out names = names.exit.now
+use Rattle.teluddru.specs.Records.{name_words}
 
 -- The answer, and every record at exit: their words are those that adding the name leaves of the words at entry.
-abbrev pub NameAddedTo : Records → AddOutcome → ℕ → ℕ → ℕ → NameAnswer → Type 0
-NameAddedTo names o used start size r = NameAdded o used start size (name_words (records_in names)) (name_words (records_out names)) r
+abbrev pub NameAddedTo : List Name → List Name → AddOutcome → ℕ → ℕ → ℕ → NameAnswer → Type 0
+NameAddedTo before after o used start size r = NameAdded o used start size (name_words before) (name_words after) r
 
 -- the words settle the records
 pub record RecordLaws : Type 0 where

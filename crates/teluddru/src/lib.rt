@@ -10,7 +10,8 @@ ghost use Rattle.name_table.specs.Adding.{add_outcome};
 ghost use Rattle.planner.specs.Operations.{AnsweredIn};
 ghost use Rattle.report.specs.Report.{ReportedIn};
 ghost use Rattle.run.specs.Operations.{RanIn};
-ghost use Rattle.teluddru.specs.Records.{lent_records};
+ghost use Rattle.table.specs.Tables.{tables};
+ghost use Rattle.teluddru.specs.Records.{name_words, lent_records};
 ghost use Rattle.teluddru.specs.Adding.{NameAddedTo};
 ghost use Rattle.operation.specs.Version.{version_outcome};
 ghost use Rattle.tolerance.specs.Operations.{JudgedIn};
@@ -82,7 +83,7 @@ pub fn add_name<'a>(
     start: u32,
     length: u32,
 ) -> NameAnswer
-    ensures { NameAddedTo names (add_outcome (lent_records nodes children numbers names strings text) used start length) used start length result }
+    ensures { NameAddedTo names.old names.new (add_outcome (tables nodes.now children.now numbers.now (name_words names.old) strings.now text.now) used start length) used start length result }
 {
     let words = copy_names(names);
     let answer = add_words(

@@ -1,7 +1,5 @@
-// Names from records to pairs of words, and a new name into the records. A function that takes the records is proved by hand.
+// Names from records to pairs of words, and a new name into the records.
 ghost use Rattle.std.specs.Prelude.{◌≡◌, ◌+◌, ◌*◌, ◌<◌, min, length, set};
-ghost use Rattle.teluddru.specs.Records.{records_in};
-ghost use Rattle.teluddru.specs.Adding.{records_out};
 ghost use Rattle.teluddru.specs.code.Copying.{name_at, Copied};
 ghost use Rattle.teluddru.specs.code.Placing.{a_name, place_of};
 
@@ -17,7 +15,7 @@ pub(crate) struct NameWords {
 
 fn name_at(names: &[Name], i: usize) -> Name
     requires { i < length names.now }
-    ensures { result ≡ name_at (records_in names) i }
+    ensures { result ≡ name_at names.now i }
 {
     names[i]
 }
@@ -40,7 +38,7 @@ fn put_pair(words: &mut [u32; 258], i: usize, start: u32, length: u32)
 
 // Start and length of each record that is copied.
 pub(crate) fn copy_names(names: &[Name]) -> NameWords
-    ensures { Copied (records_in names) result }
+    ensures { Copied names.now result }
 {
     let mut words = [0u32; 258];
     let count = copied_count(names.len());
@@ -72,7 +70,7 @@ pub(crate) fn name_of(start: u32, length: u32) -> Name
 
 // Writes a record, if there is one at the place.
 pub(crate) fn put_name(names: &mut [Name], place: usize, name: Name)
-    ensures { records_out names ≡ set (records_in names) place name }
+    ensures { names.new ≡ set names.old place name }
 {
     if place < names.len() {
         names[place] = name;

@@ -1,7 +1,6 @@
 -- The texts of key nodes: sorted in arrays, and held against each other.
 use Rattle.std.specs.Prelude.{ℕ, zero, suc, ◌+◌, ◌≤◌, ◌≡◌, Bool, true, false, ◌&&◌, List, [], map, eqb, length, get_or, take, drop}
 use Rattle.std.proofs.Math.Option.{Option, some}
-use Rattle.std.proofs.Math.Option as Option
 use Rattle.base.specs.Lent.{Slice}
 use Rattle.base.specs.code.Search.{Between}
 use Rattle.literal.specs.Literal.{Literal}

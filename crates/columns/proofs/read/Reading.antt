@@ -15,7 +15,6 @@ use Rattle.literal.proofs.Numbers.{and_true}
 use Rattle.columns.specs.declared.decimal.Decimal.{Decimal}
 use Rattle.columns.specs.declared.decimal.Decimal.TheVariants.{Number, NoNumber}
 use Rattle.columns.specs.declared.SignedColumn.{SignedColumn}
-use Rattle.columns.specs.declared.SignedColumn.TheVariants as SignedColumn
 use Rattle.columns.specs.Columns.{after_blanks, is_digit, all_digits, is_decimal, column_bytes, signed_number, after_sign, read_signed, signed_column_at}
 use Rattle.columns.specs.code.Decimals.{digits_number, read_decimal}
 

@@ -15,7 +15,6 @@ use Rattle.literal.proofs.Numbers.{and_true}
 use Rattle.columns.specs.declared.decimal.Decimal.{Decimal}
 use Rattle.columns.specs.declared.decimal.Decimal.TheVariants.{Number, NoNumber}
 use Rattle.columns.specs.declared.Column.{Column}
-use Rattle.columns.specs.declared.Column.TheVariants as Column
 use Rattle.columns.specs.Columns.{after_blanks, is_digit, all_digits, is_decimal, decimal_number, read_column, six_column, column_bytes, column_at}
 use Rattle.columns.specs.code.Decimals.{read_decimal, are_blank, column_word}
 use Rattle.columns.proofs.read.Reading.{Skipping, skip_on, rest_whole, read_as, read_not, column_there, blanks_few, decimal_below}

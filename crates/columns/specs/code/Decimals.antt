@@ -2,7 +2,6 @@
 use Rattle.std.specs.Prelude.{ℕ, ◌^◌, Bool, cond, ◌&&◌, List, eqb, ltb}
 use Rattle.literal.specs.Text.{value}
 use Rattle.columns.specs.declared.Column.{Column}
-use Rattle.columns.specs.declared.Column.TheVariants as Column
 use Rattle.columns.specs.declared.decimal.Decimal.{Decimal}
 use Rattle.columns.specs.declared.decimal.Decimal.TheVariants.{Number, NoNumber}
 use Rattle.columns.specs.Columns.{all_digits, is_decimal}

@@ -5,7 +5,6 @@ use mathlib.Core.Bool.{Bool, true, false}
 use mathlib.Core.List.{List, [], ◌∷◌, ◌++◌}
 use mathlib.Core.Logic.{inl, inr}
 use mathlib.Core.Option.{Option}
-use mathlib.Core.Option as Option
 use native.Mathlib.Omega.{arith}
 use lib.ListN.{length, get_or, take, drop, set, take-append-drop}
 use lib.Seq.{take_at, drop-drop, drop-set-lt}
@@ -26,7 +25,6 @@ use Rattle.literal.specs.declared.Comparison.TheVariants.{Less, Equal}
 use Rattle.literal.specs.contracts.Comparison.{the_type}
 use Rattle.literal.proofs.Orders.{key_order_lem}
 use Rattle.table.specs.declared.Key.{Key}
-use Rattle.table.specs.declared.Key.TheVariants as Key
 use Rattle.table.specs.declared.Key.TheVariants.{Computed}
 use Rattle.table.specs.Tables.{Tables, kind_of, child_at}
 use Rattle.table.specs.Decode.{literal_node, referred, ref_of}

@@ -10,7 +10,6 @@ use Rattle.scope.specs.Scope.{is_unbound}
 use Rattle.table.specs.Tables.{Tables, name_bytes, first_word_of}
 use Rattle.table.specs.Names.{class_of, same_bytes, underscore_bytes, input_bytes, data_bytes}
 use Rattle.table.specs.Expr.{Expr, literal, name, wildcard, array, object, other, Exprs, none, item, Fields, done, field}
-use Rattle.table.specs.Expr as Expr
 use Rattle.table.specs.Decode.{expr}
 use Rattle.table.specs.code.Sound.{Node, WellFormed}
 use Rattle.planner.specs.Names.{state_by, states_of}

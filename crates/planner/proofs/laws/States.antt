@@ -12,7 +12,6 @@ use Rattle.base.specs.Lists.{tabulate}
 use Rattle.scope.specs.declared.Scope.{Scope}
 use Rattle.scope.specs.declared.ScopingMode.{ScopingMode}
 use Rattle.scope.specs.declared.Binding.{Binding}
-use Rattle.scope.specs.declared.Binding.TheVariants as Binding
 use Rattle.scope.specs.Scope.{is_name, is_unbound, asked, question_of}
 use Rattle.scope.proofs.Laws.{says_yes, says_no, says_outside}
 use Rattle.table.specs.declared.NameClass.{NameClass}

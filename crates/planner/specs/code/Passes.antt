@@ -4,7 +4,6 @@ use Rattle.std.proofs.Math.Option.{Option}
 use Rattle.literal.specs.Literal.{Literal}
 use Rattle.table.specs.Tables.{Tables, child_at}
 use Rattle.table.specs.Decode.{expr, items, literal_at}
-use Rattle.table.specs.Expr as Expr
 use Rattle.table.specs.Expr.{Expr, literal, name, wildcard, array, object, other, Exprs, none, item, Fields, done, field, node_of, count}
 use Rattle.planner.specs.Steps.{written_steps}
 use Rattle.planner.specs.Layout.{Entry, Place, below, entry, literal_key, FieldOrder, no_fields, add_field, in_order, concat}

@@ -14,7 +14,6 @@ use Rattle.literal.specs.declared.Comparison.{Comparison}
 use Rattle.literal.specs.declared.Comparison.TheVariants.{Less, Equal, Greater, NoLiteral}
 use Rattle.literal.proofs.Orders.{bytes_order_lem}
 use Rattle.table.specs.declared.Key.{Key}
-use Rattle.table.specs.declared.Key.TheVariants as Key
 use Rattle.table.specs.declared.Key.TheVariants.{Computed}
 use Rattle.table.specs.declared.NameClass.TheVariants.{Underscore, InputOrData, Ordinary}
 use Rattle.table.specs.Tables.{name_bytes}

@@ -1,4 +1,3 @@
-use Prim.Native.Nat.{◌-◌}
 use Rattle.table_fault.proofs.Walking.{few_fits, looking_start, looking_small, looking_ask, looking_on, looking_fails, looking_ends}
 use borrow.Author.Rules.{rules}
 use Rattle.table_fault.proofs.first_broken.Goals as goal

@@ -1,4 +1,3 @@
-use Prim.Native.Nat.{◌-◌}
 use Rattle.table_fault.proofs.Walking.{walking_start, walking_reach, walking_on, walking_broken, walking_ends}
 use borrow.Author.Rules.{rules}
 use Rattle.table_fault.proofs.table_fault.Goals as goal

@@ -1,4 +1,3 @@
-use Prim.Native.Nat.{◌-◌}
 use Rattle.checks.proofs.ObjectFields.{marks_start, marks_on, marks_fail, marks_end}
 use borrow.Author.Rules.{rules}
 use Rattle.checks.proofs.partners.all_marked.Goals as goal

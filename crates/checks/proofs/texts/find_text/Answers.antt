@@ -1,4 +1,3 @@
-use Prim.Native.Nat.{◌-◌}
 use Rattle.checks.proofs.TextLoops.{seeking_start, seeking_up, seeking_down, seeking_ends}
 use borrow.Author.Rules.{rules}
 use Rattle.checks.proofs.texts.find_text.Goals as goal

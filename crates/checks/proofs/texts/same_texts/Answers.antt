@@ -1,4 +1,3 @@
-use Prim.Native.Nat.{◌-◌}
 use Rattle.checks.proofs.TextLoops.{sizes_differ, agreeing_start, agreeing_on, agreeing_less, agreeing_greater, agreeing_none, agreeing_ends}
 use borrow.Author.Rules.{rules}
 use Rattle.checks.proofs.texts.same_texts.Goals as goal

@@ -1,4 +1,3 @@
-use Prim.Native.Nat.{◌-◌}
 use Rattle.columns.proofs.read.Reading.{skip_start, skip_on, skip_stops, skip_ends}
 use borrow.Author.Rules.{rules}
 use Rattle.columns.proofs.decimal.after_blanks.Goals as goal

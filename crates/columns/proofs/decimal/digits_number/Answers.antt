@@ -1,4 +1,3 @@
-use Prim.Native.Nat.{◌-◌}
 use Rattle.columns.proofs.read.Reading.{reading_start, reading_low, reading_high, reading_past, reading_large, reading_on, reading_ends}
 use borrow.Author.Rules.{rules}
 use Rattle.columns.proofs.decimal.digits_number.Goals as goal

@@ -1,4 +1,3 @@
-use Prim.Native.Nat.{◌-◌}
 use Rattle.columns.proofs.read.Reading.{skip_start}
 use Rattle.columns.proofs.read.Six.{fours_on, fours_rest}
 use borrow.Author.Rules.{rules}

@@ -1,5 +1,4 @@
 use Rattle.literal.proofs.Chunks.{byte_on, byte_differs, bytes_ended}
-use Prim.Native.Nat.{◌-◌}
 use borrow.Author.Rules.{rules}
 use Rattle.literal.proofs.order.compare_rest.Goals as goal
 

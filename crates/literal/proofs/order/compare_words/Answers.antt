@@ -1,5 +1,4 @@
 use Rattle.literal.proofs.Chunks.{word_on, word_differs}
-use Prim.Native.Nat.{◌-◌}
 use borrow.Author.Rules.{rules}
 use Rattle.literal.proofs.order.compare_words.Goals as goal
 

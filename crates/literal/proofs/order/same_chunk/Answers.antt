@@ -1,5 +1,4 @@
 use Rattle.literal.proofs.Chunks.{alike_start, alike_on, alike_ends}
-use Prim.Native.Nat.{◌-◌}
 use borrow.Author.Rules.{rules}
 use Rattle.literal.proofs.order.same_chunk.Goals as goal
 

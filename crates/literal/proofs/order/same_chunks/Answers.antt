@@ -1,5 +1,4 @@
 use Rattle.literal.proofs.Chunks.{prefix_start, chunk_on}
-use Prim.Native.Nat.{◌-◌}
 use borrow.Author.Rules.{rules}
 use Rattle.literal.proofs.order.same_chunks.Goals as goal
 

@@ -1,4 +1,3 @@
-use Prim.Native.Nat.{◌-◌}
 use Rattle.literal.proofs.Texts.{copying_start, copying_on, copied}
 use borrow.Author.Rules.{rules}
 use Rattle.literal.proofs.text.write_word.Goals as goal

@@ -1,4 +1,3 @@
-use Prim.Native.Nat.{◌-◌}
 use Rattle.planner.proofs.buffer.Filling.{filling_next, filling_ends, word_out}
 use Rattle.planner.proofs.buffer.Copies.{clearing_start}
 use borrow.Author.Rules.{rules}

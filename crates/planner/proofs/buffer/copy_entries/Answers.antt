@@ -1,4 +1,3 @@
-use Prim.Native.Nat.{◌-◌}
 use Rattle.planner.proofs.buffer.Copies.{copying_start, copying_full, copying_on, copying_ends}
 use borrow.Author.Rules.{rules}
 use Rattle.planner.proofs.buffer.copy_entries.Goals as goal

@@ -1,4 +1,3 @@
-use Prim.Native.Nat.{◌-◌}
 use Rattle.planner.proofs.laws.States.{flagging_start, flagging_on, flags_stop, flags_end}
 use borrow.Author.Rules.{rules}
 use Rattle.planner.proofs.context.name_flags.Goals as goal

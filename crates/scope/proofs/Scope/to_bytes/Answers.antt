@@ -1,4 +1,3 @@
-use Prim.Native.Nat.{◌-◌}
 use Rattle.base.proofs.Filling.{filling_start, filling_on}
 use Rattle.scope.proofs.Cases.{bytes_done}
 use borrow.Author.Rules.{rules}

@@ -1,4 +1,3 @@
-use Prim.Native.Nat.{◌-◌}
 use Rattle.scope.specs.Bytes.{marks_ok}
 use Rattle.scope.proofs.Small.{small_start, small_on, small_ends}
 use borrow.Author.Rules.{rules}

@@ -1,4 +1,3 @@
-use Prim.Native.Nat.{◌-◌}
 use Rattle.scope.proofs.Words.{unmarked_start, unmarked_on, unmarked_ends}
 use borrow.Author.Rules.{rules}
 use Rattle.scope.proofs.bytes.none_marked.Goals as goal

@@ -1,4 +1,3 @@
-use Prim.Native.Nat.{◌-◌}
 use Rattle.table.proofs.tests.Fresh.{distinct_start, distinct_on, distinct_fails, distinct_ends, entry_low, entry_fits}
 use borrow.Author.Rules.{rules}
 use Rattle.table.proofs.distinct.distinct_entries.Goals as goal

@@ -1,4 +1,3 @@
-use Prim.Native.Nat.{◌-◌}
 use Rattle.table.proofs.tests.Fresh.{marking_start, marking_on, marking_fails, marking_ends, place_low, place_fits}
 use borrow.Author.Rules.{rules}
 use Rattle.table.proofs.distinct.mark_places.Goals as goal

@@ -1,4 +1,3 @@
-use Prim.Native.Nat.{◌-◌}
 use Rattle.table.proofs.tests.Fresh.{apart_start, apart_on, apart_fails, apart_ends, ask_places}
 use borrow.Author.Rules.{rules}
 use Rattle.table.proofs.distinct.places_apart.Goals as goal

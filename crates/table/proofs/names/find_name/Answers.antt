@@ -1,5 +1,4 @@
 use Rattle.table.proofs.tests.NameOrder.{finding_start, finding_down, finding_up, finding_same, finding_none, finding_ends}
-use Prim.Native.Nat.{◌-◌}
 use borrow.Author.Rules.{rules}
 use Rattle.table.proofs.names.find_name.Goals as goal
 

@@ -1,6 +1,5 @@
 use Rattle.table.proofs.tests.NameOrder.{naming_start, naming_fails, naming_on}
 use Rattle.table.proofs.tests.Clauses.{names_end}
-use Prim.Native.Nat.{◌-◌}
 use borrow.Author.Rules.{rules}
 use Rattle.table.proofs.names.names_differ.Goals as goal
 

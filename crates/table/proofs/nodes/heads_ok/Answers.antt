@@ -1,4 +1,3 @@
-use Prim.Native.Nat.{◌-◌}
 use Rattle.table.proofs.tests.Scan.{scan_start, scan_ends}
 use Rattle.table.proofs.tests.Clauses.{head_span, head_words_lem, head_on}
 use borrow.Author.Rules.{rules}

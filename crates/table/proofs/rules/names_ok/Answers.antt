@@ -1,4 +1,3 @@
-use Prim.Native.Nat.{◌-◌}
 use Rattle.table.proofs.tests.Scan.{scan_start, scan_ends, all_on, all_fails}
 use borrow.Author.Rules.{rules}
 use Rattle.table.proofs.rules.names_ok.Goals as goal

@@ -1,4 +1,3 @@
-use Prim.Native.Nat.{◌-◌}
 use Rattle.table_fault.proofs.Earlier.{unused_start, ask_overlap, unused_on, unused_fails, unused_ends}
 use borrow.Author.Rules.{rules}
 use Rattle.table_fault.proofs.repeats.has_new_places.Goals as goal

@@ -1,4 +1,3 @@
-use Prim.Native.Nat.{◌-◌}
 use Rattle.table_fault.proofs.Earlier.{unmet_start, unmet_room, unmet_on, unmet_fails, unmet_ends}
 use borrow.Author.Rules.{rules}
 use Rattle.table_fault.proofs.repeats.is_new_entry.Goals as goal

@@ -1,4 +1,3 @@
-use Prim.Native.Nat.{◌-◌}
 use Rattle.table_fault.proofs.Earlier.{differing_start, differing_on, differing_fails, differing_ends}
 use borrow.Author.Rules.{rules}
 use Rattle.table_fault.proofs.repeats.is_new_name.Goals as goal

@@ -1,4 +1,3 @@
-use Prim.Native.Nat.{◌-◌}
 use native.Mathlib.Omega.{arith}
 use Rattle.planner.proofs.destructuring.Walking.{ask_name, child_falls}
 use Rattle.planner.proofs.destructuring.FirstPass.{decided_name, decided_below, decide_fits, counted_name, below_room, counted_below, counting_child, counting_children, counted_children, deciding_start, deciding_child, deciding_below, deciding_on, deciding_fits, deciding_ends}

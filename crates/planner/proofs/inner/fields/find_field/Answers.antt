@@ -1,4 +1,3 @@
-use Prim.Native.Nat.{◌-◌}
 use Rattle.planner.proofs.fields.FieldLoops.{finding_start, finding_equal, finding_down, finding_up, finding_ends}
 use borrow.Author.Rules.{rules}
 use Rattle.planner.proofs.inner.fields.find_field.Goals as goal

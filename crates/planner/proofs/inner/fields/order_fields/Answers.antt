@@ -1,4 +1,3 @@
-use Prim.Native.Nat.{◌-◌}
 use Rattle.planner.proofs.fields.FieldLoops.{arranging_start, arranging_next, arranging_on, arranging_ends}
 use borrow.Author.Rules.{rules}
 use Rattle.planner.proofs.inner.fields.order_fields.Goals as goal

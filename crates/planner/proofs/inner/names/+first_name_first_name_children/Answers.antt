@@ -1,4 +1,3 @@
-use Prim.Native.Nat.{◌-◌}
 use native.Mathlib.Omega.{arith}
 use Rattle.planner.proofs.destructuring.Walking.{ask_name, child_falls}
 use Rattle.planner.proofs.laws.Names.{found_name, span_asks, span_found, looking_start, looking_child, looking_below, looking_on, looking_found, looking_fits, looking_ends}

@@ -1,4 +1,3 @@
-use Prim.Native.Nat.{◌-◌}
 use Rattle.planner.proofs.destructuring.SecondPass.{next_fits, lay_fits, object_room, object_counted, name_counted, items_room, array_counted, plain_counted, item_room, item_counted, items_counted, fields_counting, field_room, field_counted, fields_counted, object_next_fits, ask_object, ask_name, laid_name, ask_items, laid_array, laid_plain, laying_start, laying_child, laying_below, laying_on, laying_long, laying_fits, laying_position, laying_ends, ordering_start, ordering_long, ordering_place, ordering_key, ordering_next, ordering_position, ordering_value, ordering_child, ordering_below, ordering_on, ordering_ends, object_falls, items_fall, fields_fall, child_falls}
 use Rattle.planner.proofs.destructuring.Counting.{counting_start}
 use Rattle.planner.proofs.fields.Objects.{ask_order, ask_ordered, laid_object, fields_room, fields_taken}

@@ -1,4 +1,3 @@
-use Prim.Native.Nat.{◌-◌}
 use Rattle.table.proofs.trees.Deepest.{deepening_start, deepening_on, deepening_ends, child_low, child_high}
 use borrow.Author.Rules.{rules}
 use Rattle.table.proofs.inner.depth.deepest_of.Goals as goal

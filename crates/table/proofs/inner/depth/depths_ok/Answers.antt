@@ -1,4 +1,3 @@
-use Prim.Native.Nat.{◌-◌}
 use Rattle.table.proofs.trees.Deepest.{deep_start, deep_on, deep_fails, deep_ends, ask_children}
 use borrow.Author.Rules.{rules}
 use Rattle.table.proofs.inner.depth.depths_ok.Goals as goal

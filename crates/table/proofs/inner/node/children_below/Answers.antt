@@ -1,4 +1,3 @@
-use Prim.Native.Nat.{◌-◌}
 use Rattle.table.proofs.tests.Scan.{scan_start}
 use Rattle.table.proofs.tests.Clauses.{below_not, children_fail, children_on, children_end}
 use borrow.Author.Rules.{rules}
