@@ -11,7 +11,7 @@ use lib.Dec.{eqb, leb}
 use lib.ListN.{get_or, set, replicate}
 use lib.Seq.{ext_get_or}
 use Rattle.table.specs.Tables.{Tables, tables, kind_of, first_word_of, count_of, node_count, child_at, is_node}
-use Rattle.table.specs.Expr.{Expr, literal, name, wildcard}
+use Rattle.table.specs.Expr.{Expr, name, wildcard}
 use Rattle.table.specs.Decode.{expr, items, fields, is_wildcard, fields_of}
 use Rattle.table.specs.code.Sound.{Node, WellFormed}
 use Rattle.table.proofs.tests.Bools.{and_true, told_no, told_yes}

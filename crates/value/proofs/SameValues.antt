@@ -4,7 +4,6 @@ use mathlib.Core.Path.{◌≡◌, refl, sym, ap, ap₂, ◌∙◌}
 use mathlib.Core.List.{List}
 use mathlib.Core.Bool.{Bool, true, false, cond, ◌&&◌, ◌||◌, not, false≢true, and-false}
 use mathlib.Core.Option.{Option}
-use mathlib.Core.Option as Option
 use native.Mathlib.Omega.{arith}
 use mir.Val.{Fits}
 use mir.Syntax.{w64}
@@ -13,7 +12,7 @@ use lib.Dec.{T as True, eqb}
 use Rattle.literal.specs.Literal.{Literal}
 use Rattle.table.specs.Tables.{Tables, kind_of, first_word_of, count_of, child_at}
 use Rattle.table.specs.Decode.{expr, items, fields, is_wildcard, literal_at, fields_of}
-use Rattle.table.specs.Expr.{Expr, literal, name, wildcard, array, object, other}
+use Rattle.table.specs.Expr.{Expr, literal, name, wildcard, array, object}
 use Rattle.table.specs.code.Sound.{WellFormed}
 use Rattle.table.proofs.trees.Trees.{expr_literal, expr_name, expr_array, expr_object, child_node, width_array, width_object}
 use Rattle.planner.specs.Layout.{literal_key}

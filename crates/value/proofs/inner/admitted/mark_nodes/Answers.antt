@@ -1,4 +1,3 @@
-use Prim.Native.Nat.{◌-◌}
 use Rattle.value.proofs.Marking.{nodes_start, node_asks, node_room, nodes_on, nodes_end}
 use borrow.Author.Rules.{rules}
 use Rattle.value.proofs.inner.admitted.mark_nodes.Goals as goal

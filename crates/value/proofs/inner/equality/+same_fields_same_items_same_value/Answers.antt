@@ -1,4 +1,3 @@
-use Prim.Native.Nat.{◌-◌}
 use Rattle.value.proofs.SameValues.{same_literal, kinds_differ, counts_differ, ask_items, same_array, ask_fields, same_object, pairing_start, pairing_left_fits, pairing_right_fits, pairing_ask, pairing_below, pairing_fails, pairing_on, pairing_ends, by_key_start, by_key_object, by_key_twice, by_key_place, by_key_value, by_key_missing, by_key_ask, by_key_below, by_key_fails, by_key_on, by_key_ends, child_falls, parts_fall}
 use borrow.Author.Rules.{rules}
 use Rattle.value.proofs.inner.equality.+same_fields_same_items_same_value.Goals as goal

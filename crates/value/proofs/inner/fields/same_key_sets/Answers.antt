@@ -1,4 +1,3 @@
-use Prim.Native.Nat.{◌-◌}
 use Rattle.value.proofs.Under.{sizes_differ, covering_start, covering_twice, covering_place, covering_object, covering_fails, covering_on, covering_ends}
 use borrow.Author.Rules.{rules}
 use Rattle.value.proofs.inner.fields.same_key_sets.Goals as goal
