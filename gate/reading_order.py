@@ -17,12 +17,14 @@ THEOREMS = "The theorems are stated beside them"
 # A file; a name that is said to stand in one is none.
 NAMED = re.compile(r"`([\w/]+)`(?! in `)")
 STATED = re.compile(r"`(\w+)` in `([\w/]+)`")
-# A module of a crate's specs/ or proofs/, as another crate names it and as its own files do.
-MODULE = re.compile(r"Rattle·(\w+)(?:·specs|·proofs)?\.(specs|proofs)\.([\w.-]+)")
+# A module of a crate's specs/ or proofs/; the library's crates have no files here.
+MODULE = re.compile(r"Rattle\.(\w+)\.(specs|proofs)\.([\w.-]+)")
 # Of `extern "C"` the quoted text is blanks by then.
 FUNCTION = re.compile(r"^ *(pub(?:\(crate\))? )?(?:extern +)?fn (\w+)", re.MULTILINE)
 # specs/Lib.antt and specs/code.antt only list modules.
 LISTS = ("Lib", "code")
+# What Rattle makes of src/: enums and structs, and the contracts of functions.
+MADE = ("declared", "contracts")
 
 
 def in_order(text):
@@ -52,9 +54,11 @@ def cited(root, text):
     files = []
     for crate, folder, name in MODULE.findall(text):
         parts = [part for part in name.split(".") if part]
+        if not (root / "crates" / crate).is_dir():
+            continue
         if folder == "proofs":
             files.append(f"{crate}/proofs/{'/'.join(parts)}")
-        elif parts[0] != "declared":
+        elif parts[0] not in MADE:
             files.append(file_of(root, f"{crate}/specs", parts))
     return files
 

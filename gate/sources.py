@@ -12,8 +12,8 @@ USE = re.compile(
 QUOTED = re.compile(r""""(?:[^"\\\n]|\\.)*"|b'(?:[^'\\]|\\.)'""")
 COMMENT = {".antt": re.compile(r"--.*"), ".rt": re.compile(r"//.*")}
 # A name may have any character but these; what stands behind a point is a member of what is before it.
-WORD = re.compile(r"(?<!\.)(?:\[\]|[^\s(){}\[\],;.⌜⌝]+)")
-CLAUSE = re.compile(r"^ *(?:requires|ensures)(?: \w+)? (?={)", re.MULTILINE)
+WORD = re.compile(r"(?<!\.)(?:\[\]|[^\s(){}\[\],;.⌜⌝⟦⟧]+)")
+CLAUSE = re.compile(r"^ *(?:requires|ensures)\*?(?: \w+)? (?={)", re.MULTILINE)
 
 
 class Import(NamedTuple):
@@ -57,11 +57,11 @@ def words(text):
 
 
 def says(said, name):
-    """Is a name among the words? An operator `_+_` is `+` between two others, and may have one beside it: `_+`."""
+    """Is a name among the words? An operator `◌+◌` is `+` between two others, and may have one beside it: `◌+`."""
     if name in said:
         return True
-    parts = [part for part in name.split("_") if part]
-    return "_" in name and all(said & {part, "_" + part, part + "_"} for part in parts)
+    parts = [part for part in name.split("◌") if part]
+    return "◌" in name and all(said & {part, "◌" + part, part + "◌"} for part in parts)
 
 
 def clause_end(text, at):

@@ -1,6 +1,8 @@
 #!/usr/bin/env python3
 """Names that a file under crates/ brings in and never says; --fix takes them out, then run `rt fmt`.
 
+`rt tidy` takes out what no proof uses too, but only in a crate that proves, and it refuses nothing.
+
 A search by words: a name counts as said wherever the file has a word of that spelling, a
 comment, a quoted text and a member behind a point aside. So each that is named can go, and one
 that shares its spelling with a parameter may stay.
@@ -63,7 +65,9 @@ def fix(file, lines):
 
 
 def sources(root):
-    return [file for file in sorted(root.glob("crates/**/*")) if file.suffix in (".antt", ".rt")]
+    """The sources of the crates, without what `rt` keeps in their out/."""
+    found = [file for part in ("src", "specs", "proofs") for file in root.glob(f"crates/*/{part}/**/*")]
+    return sorted(file for file in found if file.suffix in (".antt", ".rt"))
 
 
 def main(root, fixes=False):

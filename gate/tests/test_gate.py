@@ -9,7 +9,8 @@ import tempfile
 import unittest
 
 SCRIPT = pathlib.Path(__file__).resolve().parent.parent.parent / "test"
-GREEN = "echo proving; echo '3 passed, 0 failed'"
+OK = "rt: ok; handles allowed: none; must-fail edits: 2 refused; done in this run: 1 of the 3 proofs"
+GREEN = f"[ \"$*\" = ci ] || exit 2; echo proving; echo '{OK}'; echo '3 passed, 0 failed'"
 RED = "echo '2 passed, 1 failed'; exit 1"
 # The comparisons by running, with how many cases each, and the libraries that they are given.
 COMPARISONS = {"compare": 20000, "bodies": 5000, "store": 5000, "parties": 5000}
@@ -122,6 +123,13 @@ class Gate(unittest.TestCase):
         self.command("../bin/rt", RED)
         status, lines = self.gate()
         self.assertEqual((status, lines), (1, ["2 passed, 1 failed", "2 passed, 1 failed"]))
+
+    def test_bad_edit(self):
+        for bad in ("2 refused, 1 bad", "2 refused, 1 of them only by a limit, 12 bad"):
+            self.command("../bin/rt", GREEN.replace("2 refused", bad))
+            status, lines = self.gate()
+            self.assertEqual((status, lines[-1]), (1, "3 passed, 1 failed"))
+            self.assertNotIn("mistakes read", lines)
 
     def test_crate_that_is_not_listed(self):
         self.write("crates/d/src/lib.rt", "")

@@ -7,33 +7,40 @@ import unittest
 import mistakes
 
 EDIT = "mistake: swapped in keys::order, same: the other way round\nfile: src/keys.rt\nold: a\nnew: b\n"
-FACT = "/x/proofs/keys/order/Proof.antt:8:11: error: `order-spec`: `search`: no proof of `Post` was found\n"
-CYCLE = "/x/proofs/keys/+first+order+second/Proof.antt:8:11: error: `order-returns`: `search`: no proof of `Post`\n"
-OTHER = "/x/proofs/keys/order/Proof.antt:8:11: error: `asks`: the two types differ only where one has `i` and the other `k`\n"
-OMEGA = "/x/proofs/keys/order/Proof.antt:8:11: error: `asks`: `omega`: the goal does not follow from what it read\n"
-LONG = "/x/proofs/keys/order/Proof.antt:8:11: error: `returns`: give the call less to do\n"
+FACT = "./proofs/keys/order/Answers.antt:8:11: error: `returns-then-a`: `search`: no proof of `Post` was found\n"
+CYCLE = "./proofs/keys/+both/Answers.antt:8:11: error: `order-returns`: `search`: no proof of `Post`\n"
+OTHER = "./proofs/keys/order/Answers.antt:8:11: error: `asks`: the two types differ only where one has `i` and the other `k`\n"
+OMEGA = "./proofs/keys/order/Answers.antt:8:11: error: `asks`: `omega`: the goal does not follow from what it read\n"
+GRIND = "./proofs/keys/order/Answers.antt:8:11: error: `asks`: `grind`: the goal does not follow. The hypotheses hold\n"
+LONG = "./proofs/keys/order/Answers.antt:8:11: error: `returns`: give the call less to do\n"
 BROKE_OFF = LONG + "  `search` broke off: more steps\n  Ways. What the searches had come to: `search`: no proof of `Post`\n"
-SHAPE = "/x/proofs/keys/order/Proof.antt:9:1: error: `order-spec`: `mul` is not a name\n"
-OTHERS = "/x/proofs/keys/+order+order_all/Proof.antt:8:11: error: `order-all-returns`: `search`: no proof of `Post`\n"
-REQUIRES = "/x/proofs/keys/order/Proof.antt:8:11: error: `same-requires-2`: `search`: no proof of `Asks` was found\n"
-FOLLOWS = "/x/proofs/keys/order/Proof.antt:9:1: error: `order-spec`: `close` was not admitted (it has holes), so ..\n"
-CALLS = "fn c::keys::order: not proved; it calls `c::same`, which is not proved\n"
-AUTOMATIC = "fn c::same: no proof: expected `same-spec` in /x/proofs/same/Proof.antt; `search` does not close `returns`\n"
+SHAPE = "./proofs/keys/order/Invariants.antt:9:1: error: `invariant-loop-i`: `mul` is not a name\n"
+OTHERS = "./proofs/keys/+both/Answers.antt:8:11: error: `order_all-returns`: `search`: no proof of `Post`\n"
+REQUIRES = "./proofs/keys/order/Answers.antt:8:11: error: `same-requires-in-Some`: `search`: no proof of `Asks` was found\n"
+FOLLOWS = "./proofs/keys/order/Answers.antt:9:1: error: `returns`: `close` was not admitted (it has holes), so ..\n"
+RENAMED = (
+    "./proofs/keys/order/Answers.antt:6:26: error: `returns-then-a-eq5`: `goal.returns-then-a-eq5`:"
+    " module `Rattle.c.proofs.keys.order.Goals` has no `returns-then-a-eq5` that can be named from here\n"
+)
+OPEN = "open c::keys::order: returns-then-a-eq6\n"
+NOT_PROVED = "fn c::keys::order: not proved\n"
+CALLS = "fn c::keys::order: no proof: it calls `c::same`, which is not proved\n"
+AUTOMATIC = "fn c::same: no proof: expected answers in ./proofs/same/Answers.antt; `search` did not prove `returns`\n"
 
 
 class Mistakes(unittest.TestCase):
     def test_names_and_functions(self):
         self.assertEqual(mistakes.mistakes(EDIT), [("swapped", [("keys::order", ""), ("same", "")], False)])
-        at_need = EDIT.replace("order,", "order at returns-2,")
-        self.assertEqual(mistakes.mistakes(at_need)[0][1][0], ("keys::order", "returns-2"))
+        at_goal = EDIT.replace("order,", "order at returns-then-a,")
+        self.assertEqual(mistakes.mistakes(at_goal)[0][1][0], ("keys::order", "returns-then-a"))
         said = EDIT.replace("round\n", "round (false: that they are in order)\n")
         self.assertTrue(mistakes.mistakes(said)[0][2])
 
     def test_refused_for_a_fact(self):
-        for error in (FACT, CYCLE, OTHER, OMEGA, BROKE_OFF):
-            log = error + "fn c::keys::order: not proved\n"
-            self.assertIsNone(mistakes.fault(log, "c", "keys::order"))
+        for error in (FACT, CYCLE, OTHER, OMEGA, GRIND, BROKE_OFF, OPEN):
+            self.assertIsNone(mistakes.fault(error + NOT_PROVED, "c", "keys::order"))
         self.assertIsNone(mistakes.fault(AUTOMATIC, "c", "same"))
+        self.assertIsNone(mistakes.fault(AUTOMATIC, "c", "same", "returns"))
 
     def test_refused_by_itself_and_for_a_call(self):
         self.assertIsNone(mistakes.fault(FACT + FOLLOWS + CALLS, "c", "keys::order"))
@@ -46,28 +53,29 @@ class Mistakes(unittest.TestCase):
         self.assertIsNone(mistakes.fault(OTHERS + "fn c::keys::order_all: not proved\n", "c", "keys::order_all"))
         self.assertIn("proved", mistakes.fault("fn c::same: proved\n", "c", "same"))
         self.assertIn("nothing", mistakes.fault("", "c", "same"))
+        self.assertIn("tell", mistakes.fault("fn c::same: could not tell\n", "c", "same"))
 
     def test_two_mistakes_in_one_function(self):
         def listed(one, other):
             return [("one", [("keys::order", one)], False), ("other", [("keys::order", other)], False)]
 
-        for needs in (("", ""), ("", "asks"), ("asks", "asks")):
-            self.assertEqual(mistakes.not_apart(listed(*needs)), ["keys::order"])
+        for goals in (("", ""), ("", "asks"), ("asks", "asks")):
+            self.assertEqual(mistakes.not_apart(listed(*goals)), ["keys::order"])
         self.assertEqual(mistakes.not_apart(listed("asks", "returns")), [])
 
-    def test_refused_at_a_need(self):
-        log = OTHER + "fn c::keys::order: not proved\n"
+    def test_refused_at_a_goal(self):
+        log = OTHER + NOT_PROVED
         self.assertIsNone(mistakes.fault(log, "c", "keys::order", "asks"))
         self.assertIn("at returns", mistakes.fault(log, "c", "keys::order", "returns"))
-        log = CYCLE + "fn c::keys::order: not proved\n"
-        self.assertIsNone(mistakes.fault(log, "c", "keys::order", "returns"))
+        for error in (CYCLE, "open c::keys::order: returns\n", "open c::keys::order: order-returns\n"):
+            self.assertIsNone(mistakes.fault(error + NOT_PROVED, "c", "keys::order", "returns"))
 
     def test_refused_at_what_a_call_requires(self):
-        log = REQUIRES + "fn c::keys::order: not proved\n"
-        for need in ("", "same-requires-2"):
-            self.assertIsNotNone(mistakes.fault(log, "c", "keys::order", need))
-            self.assertIsNone(mistakes.fault(log, "c", "keys::order", need, says_false=True))
-        self.assertIn("which requirement", mistakes.fault(log, "c", "keys::order", "same-requires-2"))
+        log = REQUIRES + NOT_PROVED
+        for goal in ("", "same-requires-in-Some"):
+            self.assertIsNotNone(mistakes.fault(log, "c", "keys::order", goal))
+            self.assertIsNone(mistakes.fault(log, "c", "keys::order", goal, says_false=True))
+        self.assertIn("which requirement", mistakes.fault(log, "c", "keys::order", "same-requires-in-Some"))
         self.assertIsNone(mistakes.fault(REQUIRES + FACT + log, "c", "keys::order"))
         unclosed = AUTOMATIC.replace("returns", "order-requires")
         self.assertIsNotNone(mistakes.fault(unclosed, "c", "same"))
@@ -77,22 +85,28 @@ class Mistakes(unittest.TestCase):
 
     def test_refused_for_its_shape(self):
         for shape, says in ((SHAPE, "not a name"), (LONG, "less to do")):
-            log = shape + FACT + "fn c::keys::order: not proved\n"
+            log = shape + FACT + NOT_PROVED
             self.assertIn(says, mistakes.fault(log, "c", "keys::order"))
+
+    def test_goal_that_the_edit_renames(self):
+        self.assertIsNone(mistakes.fault(RENAMED + FACT + NOT_PROVED, "c", "keys::order"))
+        for log in (RENAMED + NOT_PROVED, RENAMED + NOT_PROVED + OPEN):
+            self.assertIn("renames", mistakes.fault(log, "c", "keys::order"))
 
     def test_whole_repository(self):
         with tempfile.TemporaryDirectory() as folder:
             root = pathlib.Path(folder)
             (root / "crates/c/must-fail").mkdir(parents=True)
-            self.assertEqual(mistakes.main(root), 1)
+            self.assertEqual(mistakes.main(root, "--logs"), 1)
             edit = root / "crates/c/must-fail/first.edit"
             edit.write_text(EDIT)
             self.assertEqual(len(mistakes.faults(root, edit)[0]), 2)
             (root / "target/must-fail/c/first").mkdir(parents=True)
             log = root / "target/must-fail/c/first/.log"
-            log.write_text(FACT + "fn c::keys::order: not proved\n" + AUTOMATIC)
+            log.write_text(FACT + NOT_PROVED + AUTOMATIC)
             self.assertEqual(mistakes.faults(root, edit), ([], 1))
-            self.assertEqual(mistakes.main(root), 0)
+            self.assertEqual(mistakes.main(root, "--logs"), 0)
+            self.assertEqual(mistakes.main(root, "--logs", "d"), 1)
 
 
 if __name__ == "__main__":

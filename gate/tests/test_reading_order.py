@@ -30,44 +30,44 @@ FILES = {
     "crates/a/specs/Lib.antt": "pub mod First\npub mod code\n",
     "crates/a/specs/code.antt": "pub mod Post\n",
     "crates/a/specs/code/Post.antt": "pub hidden : T\n",
-    "crates/a/specs/First.antt": "use mathlib.Core.List.{List}\npub first : List\n",
-    "crates/a/specs/Second.antt": "use Rattle·a·specs.specs.First.{f}\nuse Rattle·a·specs.specs.declared.E.{E}\n",
-    "crates/a/specs/Third.antt": "use Rattle·a·specs.specs.Second.{second}\n",
-    "crates/a/specs/Laws.antt": "use Rattle·a·specs.specs.Third.{third}\n",
-    "crates/b/specs/Top.antt": "use Rattle·a.specs.Third as Third\npub record TopLaws : Type 0 where\n",
-    "crates/b/specs/Promise.antt": "use Rattle·a.specs.Laws.{law}\n",
+    "crates/a/specs/First.antt": "use Rattle.std.specs.Prelude.{List}\npub first : List\n",
+    "crates/a/specs/Second.antt": "use Rattle.a.specs.First.{f}\nuse Rattle.a.specs.declared.E.{E}\n",
+    "crates/a/specs/Third.antt": "use Rattle.a.specs.Second.{second}\n",
+    "crates/a/specs/Laws.antt": "use Rattle.a.specs.Third.{third}\n",
+    "crates/b/specs/Top.antt": "use Rattle.a.specs.Third as Third\npub record TopLaws : Type 0 where\n",
+    "crates/b/specs/Promise.antt": "use Rattle.a.specs.Laws.{law}\n",
     "crates/b/src/lib.rt": """\
-ghost use mathlib.Core.Path.{_≡_};
-ghost use Rattle·a.specs.First.{first};
-ghost use Rattle·a.specs.code.Post.{hidden};
+ghost use Rattle.std.specs.Prelude.{◌≡◌};
+ghost use Rattle.a.specs.First.{first};
+ghost use Rattle.a.specs.code.Post.{hidden};
 
 fn helper() -> u32
-    ensures { λ r. ⌜ hidden r ⌝ }
+    ensures { hidden result }
 {
     1
 }
 
 pub extern "C" fn call(x: u32) -> u32
-    ensures { λ r. ⌜ r ≡ first x ⌝ }
+    ensures { result ≡ first x }
 {
     helper()
 }
 
 pub(crate) fn shared() -> u32
-    ensures { λ r. ⌜ hidden r ⌝ }
+    ensures { hidden result }
 {
     1
 }
 
 impl S {
     pub fn ask(self) -> u32
-        ensures known { λ r. ⌜ r ≡ first self ⌝ }
+        ensures known { result ≡ first self }
     {
         2
     }
 }
 """,
-    "crates/b/src/inner.rt": "ghost use Rattle·a.specs.code.Post.{h};\n\npub fn f()\n    requires { ⌜ h ⌝ }\n{\n}\n",
+    "crates/b/src/inner.rt": "ghost use Rattle.a.specs.code.Post.{h};\n\npub fn f()\n    requires { h }\n{\n}\n",
 }
 
 
@@ -106,7 +106,7 @@ class ReadingOrder(unittest.TestCase):
         self.assertEqual(self.faults(), ["a/specs/Third: it uses a/specs/Second, which is not above it"])
 
     def test_a_path_without_an_import(self):
-        self.edit("crates/a/specs/First.antt", ": List", ": Rattle·b.specs.Top.top")
+        self.edit("crates/a/specs/First.antt", ": List", ": Rattle.b.specs.Top.top")
         self.assertEqual(self.faults(), ["a/specs/First: it uses b/specs/Top, which is not above it"])
         self.edit("crates/a/specs/First.antt", ": Rattle", ": List -- Rattle")
         self.assertEqual(self.faults(), [])
@@ -148,7 +148,7 @@ class ReadingOrder(unittest.TestCase):
 
     def test_contract_with_an_alias_and_with_a_path(self):
         self.edit("crates/b/src/lib.rt", "Post.{hidden}", "Post as Post")
-        for said in ("Post.hidden x", "Rattle·a.specs.code.Post.hidden x"):
+        for said in ("Post.hidden x", "Rattle.a.specs.code.Post.hidden x"):
             before = (self.root / "crates/b/src/lib.rt").read_text()
             self.edit("crates/b/src/lib.rt", "first x", said)
             self.assertEqual(self.faults(), ["crates/b/src/lib.rt: the contract of call cites a/specs/code/Post"])

@@ -44,11 +44,11 @@ class UnusedImports(unittest.TestCase):
         self.assertEqual(self.names(PROOF, "use a.B as Q\nuse Q.{y}\nx = y\n"), [])
 
     def test_operator(self):
-        for body in ("a + b", "_+_ a b", "(_+ 1)", "(1 +_)"):
-            self.assertEqual(self.names(PROOF, f"use a.B.{{_+_}}\nx = {body}\n"), [])
-        self.assertEqual(self.names(PROOF, "use a.B.{_+_}\nx = a-+b\n"), ["_+_"])
-        self.assertEqual(self.names(PROOF, "use a.B.{[], _∷_}\nx = (a ∷ [])\n"), [])
-        self.assertEqual(self.names(PROOF, "use a.B.{if_then_else_}\nx = if a then b\n"), ["if_then_else_"])
+        for body in ("a + b", "◌+◌ a b", "(◌+ 1)", "(1 +◌)"):
+            self.assertEqual(self.names(PROOF, f"use a.B.{{◌+◌}}\nx = {body}\n"), [])
+        self.assertEqual(self.names(PROOF, "use a.B.{◌+◌}\nx = a-+b\n"), ["◌+◌"])
+        self.assertEqual(self.names(PROOF, "use a.B.{[], ◌∷◌}\nx = (a ∷ [])\n"), [])
+        self.assertEqual(self.names(PROOF, "use a.B.{if◌then◌else◌}\nx = if a then b\n"), ["if◌then◌else◌"])
 
     def test_comment_quoted_text_and_member_are_no_use(self):
         for body in ("y -- one", '"one"', "t .one", "t.one"):
@@ -59,11 +59,20 @@ class UnusedImports(unittest.TestCase):
 
     def test_source(self):
         uses = "ghost use a.B.{one, two};\nuse m::f;\nuse m::g;\n"
-        contract = uses + "\nfn h()\n    ensures { λ r. ⌜ one ⌝ }\n{\n    f() // g\n}\n"
+        contract = uses + "\nfn h()\n    ensures { result ≡ one }\n{\n    f() // g\n}\n"
         self.assertEqual(self.names(SOURCE, contract), ["two", "g"])
         # What only the code says is no use in a contract, nor the other way round.
         self.assertEqual(self.names(SOURCE, contract.replace("f()", "two(g())")), ["two", "f"])
-        self.assertEqual(self.names(SOURCE, contract.replace("one ⌝", "one f g ⌝")), ["two", "g"])
+        self.assertEqual(self.names(SOURCE, contract.replace("one }", "one f g }")), ["two", "g"])
+
+    def test_named_clauses(self):
+        uses = "ghost use a.B.{one, two, three};\n"
+        contract = uses + "\nfn h(x: &u8)\n    requires low { one x.now }\n    ensures* high {\n        two\n    }\n{\n}\n"
+        self.assertEqual(self.names(SOURCE, contract), ["three"])
+
+    def test_what_rt_keeps_is_no_source(self):
+        self.names("crates/c/out/rlib/c.rlib/lang/antt/P.antt", "use a.B.{one}\nx = two\n")
+        self.assertEqual(self.run_main(), (0, ["every import is used"]))
 
     def test_said_with_its_line(self):
         self.names(PROOF, "use a.B.{one}\nuse a.C.{two}\nx = one\n")
@@ -76,10 +85,10 @@ class UnusedImports(unittest.TestCase):
     def test_fix(self):
         text = "-- one\nuse a.A.{one}\nuse a.B.{two, three as four, five}\nuse a.C as Q\nuse Q.{six}\nx = two five\n"
         self.names(PROOF, text)
-        self.names(SOURCE, "ghost use a.B.{one, two};\nuse m::f;\n\nfn h()\n    ensures { λ r. ⌜ two ⌝ }\n{\n}\n")
+        self.names(SOURCE, "ghost use a.B.{one, two};\nuse m::f;\n\nfn h()\n    ensures { result ≡ two }\n{\n}\n")
         self.assertEqual(self.run_main(True)[0], 0)
         self.assertEqual((self.root / PROOF).read_text(), "-- one\nuse a.B.{two, five}\nx = two five\n")
-        fixed = "ghost use a.B.{two};\n\nfn h()\n    ensures { λ r. ⌜ two ⌝ }\n{\n}\n"
+        fixed = "ghost use a.B.{two};\n\nfn h()\n    ensures { result ≡ two }\n{\n}\n"
         self.assertEqual((self.root / SOURCE).read_text(), fixed)
         self.assertEqual(self.run_main(), (0, ["every import is used"]))
 
