@@ -21,7 +21,7 @@ from rules.tables.library import Library
 
 ROOT = Path(__file__).resolve().parents[2]
 COMMAND = ROOT / "tools" / "plan_rule"
-PLANSHEET = ROOT / "target" / "bin" / "plansheet"
+PLANSHEET = ROOT / "crates" / "plansheet" / "out" / "plansheet"
 NAMED = os.environ.get("TELUDDRU_SHARED")
 LIBRARY = Path(NAMED or BUILT_LIBRARY)
 
@@ -31,7 +31,7 @@ def with_planner(path: Path, how: str) -> Callable[[type], type]:
 
 
 with_library = with_planner(LIBRARY, "tools/build_library")
-with_plansheet = with_planner(PLANSHEET, "rt check plansheet")
+with_plansheet = with_planner(PLANSHEET, "rt run in crates/plansheet")
 
 
 @cache

@@ -65,7 +65,7 @@ class WithoutPlanner(unittest.TestCase):
     def test_missing_planner(self) -> None:
         status, _, error = run("--plansheet", "/nowhere/plansheet", "x")
         self.assertEqual(status, 2)
-        self.assertIn("rt check plansheet", error)
+        self.assertIn("`rt run` in crates/plansheet", error)
 
     def test_library_and_version(self) -> None:
         status, _, error = run("--library", "/nowhere/libteluddru.so", "x")

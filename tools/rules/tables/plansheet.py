@@ -28,8 +28,8 @@ class Plansheet:
         try:
             if not self.path.exists():
                 raise NoAnswer(
-                    f"there is no {self.path}: build it with `rt check plansheet`, or name another"
-                    " with --plansheet or the variable PLANSHEET (--sheet does without)"
+                    f"there is no {self.path}: build it with `rt run` in crates/plansheet, or name"
+                    " another with --plansheet or the variable PLANSHEET (--sheet does without)"
                 )
             planned = subprocess.run(
                 [str(self.path.resolve())], input=sheet, stdout=subprocess.PIPE, timeout=SECONDS
