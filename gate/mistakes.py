@@ -98,6 +98,11 @@ def of_a_fact(error):
     return NO_FACT.search(error.split("\n")[0]) or BROKE_OFF.search(error)
 
 
+def is_at(goal, of):
+    """Is a goal of the log the one that a mistake names, or one of its clauses?"""
+    return goal in ("", of) or of.startswith(f"{goal}-clause-")
+
+
 def counts(goal, says_false):
     return says_false or not REQUIRES.search(goal)
 
@@ -112,13 +117,13 @@ def fault(log, crate, function, goal="", says_false=False):
     if said.group(1) == "proved":
         return "it is proved"
     found = own_errors(log, function)
-    errors = [text for of, text in found if goal in ("", of) and counts(of, says_false) and not is_aside(text)]
+    errors = [text for of, text in found if is_at(goal, of) and counts(of, says_false) and not is_aside(text)]
     if errors:
         return None if of_a_fact(errors[0]) else f"its first error: {errors[0][:200]}"
     renamed = [of for of, text in found if RENAMED.search(text)]
     if renamed:
         return f"its answer to {renamed[0]} was not tried, since the edit renames the goal: change the answer's name too"
-    if any(goal in ("", of) and counts(of, says_false) for of in open_goals(log, crate, function, said.group(1))):
+    if any(is_at(goal, of) and counts(of, says_false) for of in open_goals(log, crate, function, said.group(1))):
         return None
     return f"its own proof has no error{goal and ' at '}{goal}: {said.group(1)}"
 

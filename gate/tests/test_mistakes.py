@@ -67,7 +67,8 @@ class Mistakes(unittest.TestCase):
         log = OTHER + NOT_PROVED
         self.assertIsNone(mistakes.fault(log, "c", "keys::order", "asks"))
         self.assertIn("at returns", mistakes.fault(log, "c", "keys::order", "returns"))
-        for error in (CYCLE, "open c::keys::order: returns\n", "open c::keys::order: order-returns\n"):
+        clause = FACT.replace("returns-then-a", "returns-clause-counted")
+        for error in (CYCLE, clause, "open c::keys::order: returns\n", "open c::keys::order: order-returns\n"):
             self.assertIsNone(mistakes.fault(error + NOT_PROVED, "c", "keys::order", "returns"))
 
     def test_refused_at_what_a_call_requires(self):
