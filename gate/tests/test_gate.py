@@ -39,8 +39,9 @@ class Gate(unittest.TestCase):
         self.root = self.outside / "repository"
         self.root.mkdir()
         shutil.copy(SCRIPT, self.root / "test")
-        self.write("crates.txt", "c:\n")
+        self.write("crates.txt", "c:\nlent staticlib: c\n")
         self.write("crates/c/src/lib.rt", "")
+        self.write("crates/lent/src/lib.rt", "")
         self.write("gate/mistakes.py", "print('mistakes read')")
         self.write("gate/reading_order.py", "print('order read')")
         self.write("gate/unused_imports.py", "print('imports read')")
