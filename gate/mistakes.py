@@ -43,7 +43,7 @@ UNCLOSED = re.compile(r"no proof: expected answers in [^;]*; `search` did not pr
 # What follows from another error: a part of this proof that failed, or the proof of a function that it calls.
 FOLLOWS = re.compile(r" was not admitted ")
 # An answer to a goal whose name the edit took away: a goal is named by the text of its tests (returns-then-x-eq5).
-RENAMED = re.compile(r"module `[^`]*\.Goals` has no `")
+RENAMED = re.compile(r"module `[^`]*\.(Goals|Given)`\s+has\s+no\s+`")
 # The edits that are checked at once: each takes one processor, and 1 to 4 GB.
 AT_ONCE = 3
 
@@ -90,8 +90,7 @@ def open_goals(log, crate, function, said):
 
 
 def is_aside(error):
-    first = error.split("\n")[0]
-    return FOLLOWS.search(first) or RENAMED.search(first)
+    return FOLLOWS.search(error.split("\n")[0]) or RENAMED.search(error)
 
 
 def of_a_fact(error):

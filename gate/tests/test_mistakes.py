@@ -91,7 +91,8 @@ class Mistakes(unittest.TestCase):
 
     def test_goal_that_the_edit_renames(self):
         self.assertIsNone(mistakes.fault(RENAMED + FACT + NOT_PROVED, "c", "keys::order"))
-        for log in (RENAMED + NOT_PROVED, RENAMED + NOT_PROVED + OPEN):
+        two_lines = RENAMED.replace(" has no", "\n  has no")
+        for log in (RENAMED + NOT_PROVED, RENAMED + NOT_PROVED + OPEN, two_lines + NOT_PROVED):
             self.assertIn("renames", mistakes.fault(log, "c", "keys::order"))
 
     def test_whole_repository(self):
