@@ -36,6 +36,10 @@ NO_FACT = re.compile(
     r"`search`: no proof of|`(omega|grind)`: (the goal|the part `[^`]*` of the goal) does not follow"
     r"|the two types (first differ|differ only) where"
 )
+# The same of a fact that is told whole: the definition is the one asked for, of other values.
+OTHER_FACT = re.compile(
+    r"expected type `(\S+) [^`]*`\s+but this has type (?:`\1 |.*, the found one begins `\1 )", re.DOTALL
+)
 # Nor is one found by a `search` that has tried all it had and breaks off at its last resort.
 BROKE_OFF = re.compile(r"\n  `search` broke off: .*What the searches had come to: `search`: no proof of", re.DOTALL)
 # The goals that a proof without answers of its own leaves open.
@@ -94,7 +98,7 @@ def is_aside(error):
 
 
 def of_a_fact(error):
-    return NO_FACT.search(error.split("\n")[0]) or BROKE_OFF.search(error)
+    return NO_FACT.search(error.split("\n")[0]) or OTHER_FACT.search(error) or BROKE_OFF.search(error)
 
 
 def is_at(goal, of):

@@ -14,6 +14,9 @@ OMEGA = "./proofs/keys/order/Answers.antt:8:11: error: `asks`: `omega`: the goal
 GRIND = "./proofs/keys/order/Answers.antt:8:11: error: `asks`: `grind`: the goal does not follow. The hypotheses hold\n"
 LONG = "./proofs/keys/order/Answers.antt:8:11: error: `returns`: give the call less to do\n"
 BROKE_OFF = LONG + "  `search` broke off: more steps\n  Ways. What the searches had come to: `search`: no proof of `Post`\n"
+ANSWER = "./proofs/keys/order/Answers.antt:8:11: error: `returns`: expected type `Answered (x) y`\n"
+TOLD = ANSWER + "  but this has type `Answered z y`\n"
+TOLD_LATER = ANSWER + "  but this has type `c.3 z`\n  computed as far as it goes, the found one begins `Answered (z`\n"
 SHAPE = "./proofs/keys/order/Invariants.antt:9:1: error: `invariant-loop-i`: `mul` is not a name\n"
 OTHERS = "./proofs/keys/+both/Answers.antt:8:11: error: `order_all-returns`: `search`: no proof of `Post`\n"
 REQUIRES = "./proofs/keys/order/Answers.antt:8:11: error: `same-requires-in-Some`: `search`: no proof of `Asks` was found\n"
@@ -37,7 +40,7 @@ class Mistakes(unittest.TestCase):
         self.assertTrue(mistakes.mistakes(said)[0][2])
 
     def test_refused_for_a_fact(self):
-        for error in (FACT, CYCLE, OTHER, OMEGA, GRIND, BROKE_OFF, OPEN):
+        for error in (FACT, CYCLE, OTHER, OMEGA, GRIND, TOLD, TOLD_LATER, BROKE_OFF, OPEN):
             self.assertIsNone(mistakes.fault(error + NOT_PROVED, "c", "keys::order"))
         self.assertIsNone(mistakes.fault(AUTOMATIC, "c", "same"))
         self.assertIsNone(mistakes.fault(AUTOMATIC, "c", "same", "returns"))
@@ -85,7 +88,7 @@ class Mistakes(unittest.TestCase):
         self.assertIsNone(mistakes.fault(both, "c", "same"))
 
     def test_refused_for_its_shape(self):
-        for shape, says in ((SHAPE, "not a name"), (LONG, "less to do")):
+        for shape, says in ((SHAPE, "not a name"), (LONG, "less to do"), (TOLD.replace("type `Answered z", "type `z"), "expected")):
             log = shape + FACT + NOT_PROVED
             self.assertIn(says, mistakes.fault(log, "c", "keys::order"))
 
