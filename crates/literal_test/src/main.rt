@@ -3,8 +3,8 @@
 
 ghost use Rattle.std.specs.Prelude.{◌≤◌};
 
-use libc::STDOUT_FILENO;
 use literal::{Comparison, KeyText, LiteralRef};
+use std::io;
 
 // Two words a number: the least, -1, 0, 10, 2^63, the greatest; then minus zero and one below the
 // least, which are none.
@@ -112,43 +112,39 @@ fn texts_agree(a: usize, b: usize) -> u64
     agrees(answer, entry(a, 4), entry(b, 4))
 }
 
-fn print_counts(keys: u64, texts: u64) {
-    io::print_decimal(STDOUT_FILENO, keys);
-    io::write_all(STDOUT_FILENO, b" of 441 compare as keys, ");
-    io::print_decimal(STDOUT_FILENO, texts);
-    io::write_all(STDOUT_FILENO, b" as texts\n");
+fn print_counts(rt: &impl Print, keys: u64, texts: u64) -> io::Result<()> {
+    print!(rt; "{keys} of 441 compare as keys, ")?;
+    println!(rt; "{texts} as texts")
 }
 
-fn print_text(l: LiteralRef) {
+fn print_text(rt: &impl Print, l: LiteralRef) -> io::Result<()> {
     let strings = STRINGS;
     let text = TEXT;
     let mut out = [0u8; 20];
     match literal::text::key_text(&NUMBERS, &strings, &text, l, &mut out) {
         KeyText::Lent => {
-            io::write_all(
-                STDOUT_FILENO,
-                literal::text::string_bytes(&strings, &text, l),
-            );
+            rt.write_all(literal::text::string_bytes(&strings, &text, l))?;
         }
         KeyText::Written { length } => {
-            io::write_all(STDOUT_FILENO, &out[..length]);
+            rt.write_all(&out[..length])?;
         }
         KeyText::NoText => {
-            io::write_all(STDOUT_FILENO, b"no literal");
+            rt.write_all(b"no literal")?;
         }
     }
-    io::write_all(STDOUT_FILENO, b"\n");
+    rt.write_all(b"\n")
 }
 
-fn print_texts() {
+fn print_texts(rt: &impl Print) -> io::Result<()> {
     let mut i = 0;
     while i < 21 {
-        print_text(literal_at(i));
+        print_text(rt, literal_at(i))?;
         i += 1;
     }
+    Ok(())
 }
 
-fn main() {
+fn main(rt: HostRuntime) -> io::Result<()> {
     let mut keys = 0;
     let mut texts = 0;
     let mut pair = 0;
@@ -157,6 +153,6 @@ fn main() {
         texts += texts_agree(pair / 21, pair % 21);
         pair += 1;
     }
-    print_counts(keys, texts);
-    print_texts();
+    print_counts(&rt, keys, texts)?;
+    print_texts(&rt)
 }

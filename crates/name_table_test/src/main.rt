@@ -3,8 +3,8 @@
 
 ghost use Rattle.std.specs.Prelude.{◌≤◌};
 
-use libc::STDOUT_FILENO;
 use name_table::{NameAnswer, add_name};
+use std::io;
 use table::refusal_number;
 
 // x, y, `_`, then an array of the first two.
@@ -52,27 +52,26 @@ const CASES: [[u32; 4]; 27] = [
     [10, 2, 0, 1], // node 3 is a name that is not in use
 ];
 
-fn print_number(n: u64) {
-    io::write_all(STDOUT_FILENO, b" ");
-    io::print_decimal(STDOUT_FILENO, n);
+fn print_number(rt: &impl Print, n: u64) -> io::Result<()> {
+    print!(rt; " {n}")
 }
 
-fn print_word(word: u32) {
-    print_number(word as u64);
+fn print_word(rt: &impl Print, word: u32) -> io::Result<()> {
+    print_number(rt, word as u64)
 }
 
-fn print_answer(number: u32, name: u32, added: u32) {
-    print_word(number);
-    print_word(name);
-    print_word(added);
+fn print_answer(rt: &impl Print, number: u32, name: u32, added: u32) -> io::Result<()> {
+    print_word(rt, number)?;
+    print_word(rt, name)?;
+    print_word(rt, added)
 }
 
-fn print_outcome(answer: NameAnswer) {
+fn print_outcome(rt: &impl Print, answer: NameAnswer) -> io::Result<()> {
     match answer {
-        NameAnswer::Existing { name } => print_answer(0, name, 0),
-        NameAnswer::Added { name } => print_answer(0, name, 1),
-        NameAnswer::TableRefused(refused) => print_answer(refusal_number(refused), 0, 0),
-        NameAnswer::NoPlace => print_answer(33, 0, 0),
+        NameAnswer::Existing { name } => print_answer(rt, 0, name, 0),
+        NameAnswer::Added { name } => print_answer(rt, 0, name, 1),
+        NameAnswer::TableRefused(refused) => print_answer(rt, refusal_number(refused), 0, 0),
+        NameAnswer::NoPlace => print_answer(rt, 33, 0, 0),
     }
 }
 
@@ -85,15 +84,16 @@ fn at_most_10(words: u32) -> usize
     words as usize
 }
 
-fn print_names(names: &[u32; 10]) {
+fn print_names(rt: &impl Print, names: &[u32; 10]) -> io::Result<()> {
     let mut i: usize = 0;
     while i < 10 {
-        print_word(names[i]);
+        print_word(rt, names[i])?;
         i += 1;
     }
+    Ok(())
 }
 
-fn run(case: [u32; 4]) {
+fn run(rt: &impl Print, case: [u32; 4]) -> io::Result<()> {
     let mut names = NAMES;
     let words = at_most_10(case[0]);
     let answer = add_name(
@@ -107,9 +107,9 @@ fn run(case: [u32; 4]) {
         case[2],
         case[3],
     );
-    print_outcome(answer);
-    print_names(&names);
-    io::write_all(STDOUT_FILENO, b"\n");
+    print_outcome(rt, answer)?;
+    print_names(rt, &names)?;
+    println!(rt)
 }
 
 // Byte i of the text is i, so each byte is a name of its own.
@@ -124,38 +124,44 @@ fn all_bytes() -> [u8; 256] {
 }
 
 // Adds byte i, and prints the answer for the last few.
-fn add_byte(names: &mut [u32; 264], text: &[u8; 256], used: u32, i: u32) -> u32 {
+fn add_byte(
+    rt: &impl Print,
+    names: &mut [u32; 264],
+    text: &[u8; 256],
+    used: u32,
+    i: u32,
+) -> io::Result<u32> {
     let answer = add_name(&[], &[], &[], names, &[], text, used, i, 1);
     if 125 < i {
-        print_outcome(answer);
+        print_outcome(rt, answer)?;
     }
     if let NameAnswer::Added { name } = answer {
-        return name;
+        return Ok(name);
     }
-    used
+    Ok(used)
 }
 
 // 130 additions to a table of 132 places: the last two are refused, as 129th names; then one that stands there.
-fn fill() {
+fn fill(rt: &impl Print) -> io::Result<()> {
     let text = all_bytes();
     let mut names = [0u32; 264];
     let mut used: u32 = 0;
     let mut i: u32 = 0;
     while i < 130 {
-        used = add_byte(&mut names, &text, used, i);
+        used = add_byte(rt, &mut names, &text, used, i)?;
         i += 1;
     }
-    add_byte(&mut names, &text, used, 127);
-    print_word(names[254]);
-    print_word(names[256]);
-    io::write_all(STDOUT_FILENO, b"\n");
+    add_byte(rt, &mut names, &text, used, 127)?;
+    print_word(rt, names[254])?;
+    print_word(rt, names[256])?;
+    println!(rt)
 }
 
-fn main() {
+fn main(rt: HostRuntime) -> io::Result<()> {
     let mut i: usize = 0;
     while i < 27 {
-        run(CASES[i]);
+        run(&rt, CASES[i])?;
         i += 1;
     }
-    fill();
+    fill(&rt)
 }

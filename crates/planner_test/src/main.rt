@@ -3,12 +3,12 @@
 
 ghost use Rattle.std.specs.Prelude.{◌≡◌, ◌<◌, length};
 
-use libc::STDOUT_FILENO;
 use planner::PlanAnswer;
 use planner::buffer::ENTRY_WORDS;
 use planner::destructuring::create_destructuring_plan;
 use planner::parameters::{create_loop_index_binding_plan, create_parameter_binding_plan};
 use scope::{ByteScope, Scope, ScopingMode};
+use std::io;
 use table::{TableRefusal, refusal_number};
 
 // Kind, start, end, first, count. k is bound, `input` is global.
@@ -189,26 +189,20 @@ fn planned(operation: u32, scoping: ScopingMode, root: u32, plan: &mut [u32]) ->
 }
 
 // Right-justified in six.
-fn print_column(n: u64) {
-    let blanks = *b"      ";
-    let mut digits = [0u8; 20];
-    let count = io::decimal(n, &mut digits);
-    if count < 6 {
-        io::write_all(STDOUT_FILENO, &blanks[count..]);
-    }
-    io::write_all(STDOUT_FILENO, &digits[..count]);
+fn print_column(rt: &impl Print, n: u64) -> io::Result<()> {
+    print!(rt; "{n:>6}")
 }
 
-fn print_word(word: u32) {
-    print_column(word as u64);
+fn print_word(rt: &impl Print, word: u32) -> io::Result<()> {
+    print_column(rt, word as u64)
 }
 
-fn print_row(a: u64, b: u64, c: u64, d: u64) {
-    print_column(a);
-    print_column(b);
-    print_column(c);
-    print_column(d);
-    io::write_all(STDOUT_FILENO, b"\n");
+fn print_row(rt: &impl Print, a: u64, b: u64, c: u64, d: u64) -> io::Result<()> {
+    print_column(rt, a)?;
+    print_column(rt, b)?;
+    print_column(rt, c)?;
+    print_column(rt, d)?;
+    println!(rt)
 }
 
 fn refusal(answer: TableRefusal) -> u64 {
@@ -216,41 +210,42 @@ fn refusal(answer: TableRefusal) -> u64 {
 }
 
 // The answer's line; how many entries follow.
-fn print_answer(answer: PlanAnswer) -> usize {
+fn print_answer(rt: &impl Print, answer: PlanAnswer) -> io::Result<usize> {
     match answer {
         PlanAnswer::Planned {
             form,
             side,
             entries,
         } => {
-            print_row(0, form as u64, side as u64, entries as u64);
-            return entries;
+            print_row(rt, 0, form as u64, side as u64, entries as u64)?;
+            return Ok(entries);
         }
-        PlanAnswer::TableRefused(of) => print_row(refusal(of), 0, 0, 0),
-        PlanAnswer::RootOutside => print_row(5, 0, 0, 0),
-        PlanAnswer::PlanTooLarge { needed } => print_row(6, 0, needed as u64, 0),
-        PlanAnswer::VariableAlreadyDefined { name } => print_row(17, name as u64, 0, 0),
+        PlanAnswer::TableRefused(of) => print_row(rt, refusal(of), 0, 0, 0)?,
+        PlanAnswer::RootOutside => print_row(rt, 5, 0, 0, 0)?,
+        PlanAnswer::PlanTooLarge { needed } => print_row(rt, 6, 0, needed as u64, 0)?,
+        PlanAnswer::VariableAlreadyDefined { name } => print_row(rt, 17, name as u64, 0, 0)?,
         // of assignments alone
-        _ => print_row(0, 0, 0, 0),
+        _ => print_row(rt, 0, 0, 0, 0)?,
     }
-    0
+    Ok(0)
 }
 
 // The entries, then any word after them that is not 0.
-fn print_plan(plan: &[u32], entries: usize) {
+fn print_plan(rt: &impl Print, plan: &[u32], entries: usize) -> io::Result<()> {
     let mut i: usize = 0;
     while i < plan.len() {
         let word = plan[i];
         if i / ENTRY_WORDS < entries {
-            print_word(word);
+            print_word(rt, word)?;
             if i % ENTRY_WORDS == ENTRY_WORDS - 1 {
-                io::write_all(STDOUT_FILENO, b"\n");
+                println!(rt)?;
             }
         } else if word != 0 {
-            io::write_all(STDOUT_FILENO, b"not cleared\n");
+            println!(rt; "not cleared")?;
         }
         i += 1;
     }
+    Ok(())
 }
 
 fn filled() -> [u32; 40]
@@ -259,11 +254,11 @@ fn filled() -> [u32; 40]
     [9; 40]
 }
 
-fn run(case: [u32; 4]) {
+fn run(rt: &impl Print, case: [u32; 4]) -> io::Result<()> {
     let mut buffer = filled();
     let size = case[3] as usize;
     if 40 < size {
-        return;
+        return Ok(());
     }
     let plan = &mut buffer[..size];
     let scoping = if case[1] == 1 {
@@ -271,14 +266,15 @@ fn run(case: [u32; 4]) {
     } else {
         ScopingMode::AllowShadowing
     };
-    let entries = print_answer(planned(case[0], scoping, case[2], plan));
-    print_plan(plan, entries);
+    let entries = print_answer(rt, planned(case[0], scoping, case[2], plan))?;
+    print_plan(rt, plan, entries)
 }
 
-fn main() {
+fn main(rt: HostRuntime) -> io::Result<()> {
     let mut i: usize = 0;
     while i < 21 {
-        run(CASES[i]);
+        run(&rt, CASES[i])?;
         i += 1;
     }
+    Ok(())
 }

@@ -5,6 +5,7 @@
 ghost use Rattle.std.specs.Prelude.{◌≤◌, ◌<◌};
 
 use scope::{Binding, ByteScope, ConversionAnswer, Scope, ScopeAnswer, ScopingMode};
+use std::io;
 
 // By mark, as hoist.rs reads it: 1 unbound under RespectParent, 2 the same under a scheduler,
 // 4 bound in this scope.
@@ -195,7 +196,7 @@ fn all_right() -> u32 {
     total
 }
 
-fn main() {
-    io::print_decimal(1, all_right() as u64);
-    io::write_all(1, b" of 4352 agree\n");
+fn main(rt: HostRuntime) -> io::Result<()> {
+    let count = all_right();
+    println!(rt; "{count} of 4352 agree")
 }

@@ -1,10 +1,10 @@
 // Runs the table check on a sound table, on copies that break one rule each, at the limits and past them.
 #![tactic(auto)]
 
-ghost use Rattle.std.specs.Prelude.{◌≤◌};
+ghost use Rattle.std.specs.Prelude.{◌≤◌, IfOk};
 
-use libc::STDOUT_FILENO;
 use scope::Scope;
+use std::io;
 use table::{TableAnswer, refusal_number};
 
 const NODES: [[u32; 5]; 16] = [
@@ -258,26 +258,23 @@ fn run_changed(which: u64, index: usize, value: u64) -> u64 {
 }
 
 // How many agree, here 0 or 1; a case that does not is named.
-fn told(case: u64, got: u64, want: u64) -> u64
-    ensures { result ≤ 1 }
+fn told(rt: &impl Print, case: u64, got: u64, want: u64) -> io::Result<u64>
+    ensures { IfOk result (λ n. n ≤ 1) }
 {
     if got == want {
-        return 1;
+        return Ok(1);
     }
-    io::print_decimal(STDOUT_FILENO, case);
-    io::write_all(STDOUT_FILENO, b" answers ");
-    io::print_decimal(STDOUT_FILENO, got);
-    io::write_all(STDOUT_FILENO, b"\n");
-    0
+    println!(rt; "{case} answers {got}")?;
+    Ok(0)
 }
 
-fn run_case(case: u64) -> u64
-    ensures { result ≤ 1 }
+fn run_case(rt: &impl Print, case: u64) -> io::Result<u64>
+    ensures { IfOk result (λ n. n ≤ 1) }
 {
     let which = case / 10000000;
     let index = (case / 10000 % 1000) as usize;
     let value = value_of(case / 10 % 1000);
-    told(case, run_changed(which, index, value), case % 10)
+    told(rt, case, run_changed(which, index, value), case % 10)
 }
 
 // Every list at its limit, and list `over`, from 1, one past it.
@@ -331,43 +328,47 @@ fn run_chain(depth: usize, name_words: usize, underscore: u32) -> u64
     ))
 }
 
-fn run_cases() -> u64
-    ensures { result ≤ 60 }
+fn run_cases(rt: &impl Print) -> io::Result<u64>
+    ensures { IfOk result (λ n. n ≤ 60) }
 {
     let mut agree: u64 = 0;
     let mut i: usize = 0;
     while i < 60 {
-        agree += run_case(CASES[i]);
+        agree += run_case(rt, CASES[i])?;
         i += 1;
     }
-    agree
+    Ok(agree)
 }
 
 // Cases 1 to 7: each list one past its limit, and none.
-fn run_limits() -> u64
-    ensures { result ≤ 7 }
+fn run_limits(rt: &impl Print) -> io::Result<u64>
+    ensures { IfOk result (λ n. n ≤ 7) }
 {
-    told(1, run_full(1), 1)
-        + told(2, run_full(2), 1)
-        + told(3, run_full(3), 1)
-        + told(4, run_full(4), 1)
-        + told(5, run_full(5), 1)
-        + told(6, run_full(6), 1)
-        + told(7, run_full(7), 0)
+    Ok(
+        told(rt, 1, run_full(1), 1)?
+            + told(rt, 2, run_full(2), 1)?
+            + told(rt, 3, run_full(3), 1)?
+            + told(rt, 4, run_full(4), 1)?
+            + told(rt, 5, run_full(5), 1)?
+            + told(rt, 6, run_full(6), 1)?
+            + told(rt, 7, run_full(7), 0)?,
+    )
 }
 
 // Cases 8 to 12: depths, with what is told before and after them.
-fn run_depths() -> u64
-    ensures { result ≤ 5 }
+fn run_depths(rt: &impl Print) -> io::Result<u64>
+    ensures { IfOk result (λ n. n ≤ 5) }
 {
-    told(8, run_chain(32, 0, 0), 0)
-        + told(9, run_chain(33, 0, 0), 3)
-        + told(10, run_chain(33, 0, 1), 2)
-        + told(11, run_chain(33, 4, 0), 3)
-        + told(12, run_chain(32, 4, 0), 4)
+    Ok(
+        told(rt, 8, run_chain(32, 0, 0), 0)?
+            + told(rt, 9, run_chain(33, 0, 0), 3)?
+            + told(rt, 10, run_chain(33, 0, 1), 2)?
+            + told(rt, 11, run_chain(33, 4, 0), 3)?
+            + told(rt, 12, run_chain(32, 4, 0), 4)?,
+    )
 }
 
-fn main() {
-    io::print_decimal(STDOUT_FILENO, run_cases() + run_limits() + run_depths());
-    io::write_all(STDOUT_FILENO, b" of 72 agree\n");
+fn main(rt: HostRuntime) -> io::Result<()> {
+    let agree = run_cases(&rt)? + run_limits(&rt)? + run_depths(&rt)?;
+    println!(rt; "{agree} of 72 agree")
 }

@@ -3,11 +3,11 @@
 
 ghost use Rattle.std.specs.Prelude.{◌≡◌, ◌<◌, length};
 
-use libc::STDOUT_FILENO;
 use operation::numbers::{OperationNumbers, operation_of};
 use operation::row::row_of;
 use planner::PlanAnswer;
 use scope::Scope;
+use std::io;
 
 // Kind, start, end, first, count.
 const NODES: [[u32; 5]; 54] = [
@@ -189,30 +189,30 @@ fn planned(case: [u32; 7], plan: &mut [u32]) -> PlanAnswer {
     )
 }
 
-fn print_number(n: u64) {
-    io::write_all(STDOUT_FILENO, b" ");
-    io::print_decimal(STDOUT_FILENO, n);
+fn print_number(rt: &impl Print, n: u64) -> io::Result<()> {
+    print!(rt; " {n}")
 }
 
-fn print_word(word: u32) {
-    print_number(word as u64);
+fn print_word(rt: &impl Print, word: u32) -> io::Result<()> {
+    print_number(rt, word as u64)
 }
 
-fn run(case: [u32; 7]) {
+fn run(rt: &impl Print, case: [u32; 7]) -> io::Result<()> {
     let mut plan = [9u32; 20];
     let row = row_of(planned(case, &mut plan));
-    print_number(row.number);
-    print_number(row.second);
-    print_number(row.third);
-    print_number(row.fourth);
-    print_word(plan[0]);
-    io::write_all(STDOUT_FILENO, b"\n");
+    print_number(rt, row.number)?;
+    print_number(rt, row.second)?;
+    print_number(rt, row.third)?;
+    print_number(rt, row.fourth)?;
+    print_word(rt, plan[0])?;
+    println!(rt)
 }
 
-fn main() {
+fn main(rt: HostRuntime) -> io::Result<()> {
     let mut i: usize = 0;
     while i < 57 {
-        run(CASES[i]);
+        run(&rt, CASES[i])?;
         i += 1;
     }
+    Ok(())
 }
