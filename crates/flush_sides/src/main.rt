@@ -5,13 +5,13 @@ mod calls;
 
 ghost use Rattle.std.specs.Prelude.{◌≡◌, ◌<◌, length};
 
-use libc::STDOUT_FILENO;
 use operation::{Operation, REGO_V0};
 use planner::PlanAnswer;
 use planner::buffer::ENTRY_WORDS;
 use report::ReportAnswer;
 use run::RunAnswer;
 use scope::{Scope, ScopingMode};
+use std::io;
 use teluddru::Name;
 
 const TEXT: [u8; 24] = *b"[w, w] [18, 16] [18, 18]";
@@ -122,67 +122,67 @@ fn run_on(value: u32, values: &mut [u32], plan: &mut [u32]) -> RunAnswer {
     )
 }
 
-fn print(text: &[u8]) {
-    io::write_all(STDOUT_FILENO, text);
+fn print(rt: &impl Print, text: &[u8]) -> io::Result<()> {
+    rt.write_all(text)
 }
 
-fn print_word(word: u32) {
-    print(b" ");
-    io::print_decimal(STDOUT_FILENO, word as u64);
+fn print_word(rt: &impl Print, word: u32) -> io::Result<()> {
+    print!(rt; " {word}")
 }
 
 // One entry a line.
-fn print_entries(plan: &[u32]) {
+fn print_entries(rt: &impl Print, plan: &[u32]) -> io::Result<()> {
     let mut i: usize = 0;
     while i < plan.len() {
-        print_word(plan[i]);
+        print_word(rt, plan[i])?;
         if i % ENTRY_WORDS == ENTRY_WORDS - 1 {
-            print(b"\n");
+            print(rt, b"\n")?;
         }
         i += 1;
     }
+    Ok(())
 }
 
-fn print_plan() {
+fn print_plan(rt: &impl Print) -> io::Result<()> {
     let mut plan = [0u32; 3 * ENTRY_WORDS];
     match plan_rule(&mut plan) {
         PlanAnswer::Planned {
             form,
             side,
             entries,
-        } => print(b"planned\n"),
-        _ => print(b"refused\n"),
+        } => print(rt, b"planned\n")?,
+        _ => print(rt, b"refused\n")?,
     }
-    print_entries(&plan);
+    print_entries(rt, &plan)
 }
 
 // 1: w is bound in the plan.
-fn print_report() {
+fn print_report(rt: &impl Print) -> io::Result<()> {
     let mut list = [0u32; 1];
     match report_names(&mut list) {
-        ReportAnswer::Reported => print(b"reported, w"),
-        _ => print(b"refused, w"),
+        ReportAnswer::Reported => print(rt, b"reported, w")?,
+        _ => print(rt, b"refused, w")?,
     }
-    print_word(list[0]);
-    print(b"\n");
+    print_word(rt, list[0])?;
+    print(rt, b"\n")
 }
 
 // The answer, and the node of the value of w, or 0.
-fn print_run(value: u32) {
+fn print_run(rt: &impl Print, value: u32) -> io::Result<()> {
     let mut values = [0u32; 1];
     let mut plan = [0u32; 3 * ENTRY_WORDS];
     match run_on(value, &mut values, &mut plan) {
-        RunAnswer::Match => print(b"match, w"),
-        RunAnswer::NoMatch => print(b"no match, w"),
-        _ => print(b"refused, w"),
+        RunAnswer::Match => print(rt, b"match, w")?,
+        RunAnswer::NoMatch => print(rt, b"no match, w")?,
+        _ => print(rt, b"refused, w")?,
     }
-    print_word(values[0]);
-    print(b"\n");
+    print_word(rt, values[0])?;
+    print(rt, b"\n")
 }
 
-fn main() {
-    print_plan();
-    print_report();
-    print_run(6);
-    print_run(9);
+fn main(rt: HostRuntime) -> io::Result<()> {
+    print_plan(&rt)?;
+    print_report(&rt)?;
+    print_run(&rt, 6)?;
+    print_run(&rt, 9)
 }

@@ -51,8 +51,7 @@ fn page_row(answer: PageAnswer) -> Row
 }
 
 // The same for a C host: 0 or the refusal's number, and the answer's numbers in the lent words; the pages are the second.
-#[unsafe(no_mangle)]
-pub extern "C" fn teluddru_pages(sheet: &[u8], pages: &mut [u8], answer: &mut [u32]) -> u32
+pub fn teluddru_pages(sheet: &[u8], pages: &mut [u8], answer: &mut [u32]) -> u32
     ensures { PagesToldIn pages answer (pages_of_sheet (parse sheet.now)) result }
 {
     let laid = lay_out_pages(sheet, pages);

@@ -3,12 +3,14 @@
 // bytes, then the sheet. The buffer is 7s before the call.
 #![tactic(auto)]
 
-ghost use Rattle.std.specs.Prelude.{◌<◌};
+ghost use Rattle.std.specs.Prelude.{◌<◌, ◌≤◌, length};
 
 use columns::Column;
 use columns::read::read_column;
-use libc::{STDIN_FILENO, STDOUT_FILENO};
+use input::read_full;
 use page::teluddru_pages;
+use std::io;
+use std::io::Read;
 
 fn number_at(header: &[u8], at: usize) -> isize {
     match read_column(header, at) {
@@ -34,64 +36,88 @@ fn checksum(bytes: &[u8]) -> u64 {
     sum
 }
 
-fn print_number(number: u32) {
-    io::print_decimal(STDOUT_FILENO, number as u64);
-    io::write_all(STDOUT_FILENO, b" ");
+// A number of the buffer's bytes: 0 for one below it, and at most all of them.
+fn count(number: isize, bytes: &[u8]) -> usize
+    ensures { result ≤ length bytes.now }
+{
+    if number <= 0 {
+        return 0;
+    }
+    let n = number as usize;
+    if n < bytes.len() {
+        return n;
+    }
+    bytes.len()
+}
+
+fn print_number(rt: &impl Print, number: u32) -> io::Result<()> {
+    print!(rt; "{number} ")
 }
 
 fn page_space() -> [u8; 113881] {
     [7; 113881]
 }
 
-fn print_space(space: &[u8; 113881], shown: isize) {
+fn print_space(rt: &impl Print, space: &[u8; 113881], shown: isize) -> io::Result<()> {
     let bytes = &space[..];
-    io::write_all(STDOUT_FILENO, b"buffer ");
-    io::print_decimal(STDOUT_FILENO, checksum(bytes));
-    io::write_all(STDOUT_FILENO, b"\n");
-    let n = io::count(shown, bytes);
-    io::write_all(STDOUT_FILENO, &bytes[..n]);
+    let sum = checksum(bytes);
+    println!(rt; "buffer {sum}")?;
+    let n = count(shown, bytes);
+    rt.write_all(&bytes[..n])
 }
 
-fn lay_out(sheet: &[u8], size: isize, shown: isize) {
+fn lay_out(rt: &impl Print, sheet: &[u8], size: isize, shown: isize) -> io::Result<()> {
     let mut space = page_space();
-    let n = io::count(size, &space);
+    let n = count(size, &space);
     let mut answer = [9u32; 4];
-    print_number(teluddru_pages(sheet, &mut space[..n], &mut answer));
-    io::write_all(STDOUT_FILENO, b"answer ");
-    print_number(answer[0]);
-    print_number(answer[1]);
-    print_number(answer[2]);
-    print_number(answer[3]);
-    print_space(&space, shown);
+    print_number(rt, teluddru_pages(sheet, &mut space[..n], &mut answer))?;
+    print!(rt; "answer ")?;
+    print_number(rt, answer[0])?;
+    print_number(rt, answer[1])?;
+    print_number(rt, answer[2])?;
+    print_number(rt, answer[3])?;
+    print_space(rt, &space, shown)
 }
 
-fn read_sheet(sheet: &mut [u8], length: isize) {
-    let n = io::count(length, sheet);
-    io::read_full(STDIN_FILENO, &mut sheet[..n]);
+fn read_sheet<R: Read>(from: &mut R, sheet: &mut [u8], length: isize) -> io::Result<()> {
+    let n = count(length, sheet);
+    read_full(from, &mut sheet[..n])?;
+    Ok(())
+}
+
+fn sheet_space() -> [u8; 65536] {
+    [0; 65536]
 }
 
 // Was there a case?
-fn run_case() -> bool {
+fn run_case<R: Read>(rt: &impl Print, from: &mut R) -> io::Result<bool> {
     let mut header = [0u8; 59];
-    if io::read_full(STDIN_FILENO, &mut header) < 59 {
-        return false;
+    if read_full(from, &mut header)? < 59 {
+        return Ok(false);
     }
-    io::write_all(STDOUT_FILENO, &header[18..58]);
-    let mut sheet = io::large_buffer();
+    rt.write_all(&header[18..58])?;
+    let mut sheet = sheet_space();
     let length = number_at(&header, 0);
-    read_sheet(&mut sheet, length);
-    let n = io::count(length, &sheet);
-    lay_out(&sheet[..n], number_at(&header, 6), number_at(&header, 12));
-    true
+    read_sheet(from, &mut sheet, length)?;
+    let n = count(length, &sheet);
+    lay_out(
+        rt,
+        &sheet[..n],
+        number_at(&header, 6),
+        number_at(&header, 12),
+    )?;
+    Ok(true)
 }
 
 // A proved loop has to end: there are fewer than 1,000 cases.
-fn main() {
+fn main(rt: HostRuntime) -> io::Result<()> {
+    let mut reader = rt.reader();
     let mut left: usize = 1000;
     while 0 < left {
-        if !run_case() {
-            return;
+        if !run_case(&rt, &mut reader)? {
+            return Ok(());
         }
         left -= 1;
     }
+    Ok(())
 }

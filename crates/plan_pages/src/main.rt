@@ -1,9 +1,10 @@
 // Reads a sheet from standard input and prints its plan on pages, or the refusal's line.
 #![tactic(auto)]
 
-use libc::{STDIN_FILENO, STDOUT_FILENO};
+use input::read_full;
 use page::{PAGE_BYTES, PageAnswer, lay_out_pages};
 use sheet::plan_sheet;
+use std::io;
 
 // One byte more than the longest sheet: what is cut off changes no page.
 fn space() -> [u8; 51915] {
@@ -16,26 +17,25 @@ fn pages_space() -> [u8; 113880] {
 }
 
 // A refused sheet has a listing of one line.
-fn print_refusal(sheet: &[u8]) {
+fn print_refusal(rt: &impl Print, sheet: &[u8]) -> io::Result<()> {
     let mut line = [0u8; 25];
     let written = plan_sheet(sheet, &mut line);
-    io::write_all(STDOUT_FILENO, &line[..written]);
+    rt.write_all(&line[..written])
 }
 
-fn print_pages(sheet: &[u8]) {
+fn print_pages(rt: &impl Print, sheet: &[u8]) -> io::Result<()> {
     let mut pages = pages_space();
     match lay_out_pages(sheet, &mut pages) {
-        PageAnswer::Pages(count) => {
-            io::write_all(STDOUT_FILENO, &pages[..count * PAGE_BYTES]);
-        }
-        PageAnswer::Refused(_) => print_refusal(sheet),
+        PageAnswer::Pages(count) => rt.write_all(&pages[..count * PAGE_BYTES]),
+        PageAnswer::Refused(_) => print_refusal(rt, sheet),
         // Not with space for all pages.
-        PageAnswer::BufferTooShort => {}
+        PageAnswer::BufferTooShort => Ok(()),
     }
 }
 
-fn main() {
+fn main(rt: HostRuntime) -> io::Result<()> {
     let mut input = space();
-    let read = io::read_full(STDIN_FILENO, &mut input);
-    print_pages(&input[..read]);
+    let mut reader = rt.reader();
+    let read = read_full(&mut reader, &mut input)?;
+    print_pages(&rt, &input[..read])
 }

@@ -1,8 +1,9 @@
 // Reads a sheet from standard input and prints its listing.
 #![tactic(auto)]
 
-use libc::{STDIN_FILENO, STDOUT_FILENO};
+use input::read_full;
 use sheet::plan_sheet;
+use std::io;
 
 // One byte more than the longest sheet: what is cut off changes no listing.
 fn space() -> [u8; 51915] {
@@ -14,10 +15,11 @@ fn listing_space() -> [u8; 47641] {
     [0; 47641]
 }
 
-fn main() {
+fn main(rt: HostRuntime) -> io::Result<()> {
     let mut input = space();
-    let read = io::read_full(STDIN_FILENO, &mut input);
+    let mut reader = rt.reader();
+    let read = read_full(&mut reader, &mut input)?;
     let mut listing = listing_space();
     let written = plan_sheet(&input[..read], &mut listing);
-    io::write_all(STDOUT_FILENO, &listing[..written]);
+    rt.write_all(&listing[..written])
 }

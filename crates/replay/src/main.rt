@@ -3,12 +3,14 @@
 // the bytes of both.
 #![tactic(auto)]
 
-ghost use Rattle.io.specs.Counts.{IsPrefixLen};
+ghost use Rattle.std.specs.Prelude.{◌≡◌, ◌≤◌, length, take};
 
 use columns::Column;
 use columns::read::read_column;
-use libc::{STDIN_FILENO, STDOUT_FILENO};
+use input::read_full;
 use sheet::plan_sheet;
+use std::io;
+use std::io::Read;
 use table::reading::same_bytes;
 
 fn length_at(header: &[u8], at: usize) -> usize {
@@ -20,7 +22,7 @@ fn length_at(header: &[u8], at: usize) -> usize {
 
 // A number of the buffer's bytes, at most all of them.
 fn at_most(count: usize, buffer: &[u8]) -> usize
-    ensures { IsPrefixLen result buffer.now }
+    ensures { (result ≤ length buffer.now) × (result ≡ length (take result buffer.now)) }
 {
     if count < buffer.len() {
         return count;
@@ -29,9 +31,10 @@ fn at_most(count: usize, buffer: &[u8]) -> usize
 }
 
 // Did the input have `count` more bytes, and the buffer space for them?
-fn read_part(buffer: &mut [u8], count: usize) -> bool {
+fn read_part<R: Read>(from: &mut R, buffer: &mut [u8], count: usize) -> io::Result<bool> {
     let n = at_most(count, buffer);
-    io::read_full(STDIN_FILENO, &mut buffer[..n]) == count
+    let read = read_full(from, &mut buffer[..n])?;
+    Ok(read == count)
 }
 
 fn agrees(sheet: &[u8], listing: &[u8], output: &mut [u8]) -> bool {
@@ -40,29 +43,34 @@ fn agrees(sheet: &[u8], listing: &[u8], output: &mut [u8]) -> bool {
     same_bytes(&output[..n], listing)
 }
 
+// More than the longest sheet, 51,914 bytes, and than the longest listing, 47,641.
+fn space() -> [u8; 65536] {
+    [0; 65536]
+}
+
 // 1 for a case that agrees, 0 for one that differs, 2 at the end of the list.
-fn run_case() -> u64 {
+fn run_case<R: Read>(from: &mut R) -> io::Result<u64> {
     let mut header = [0u8; 13];
-    if !read_part(&mut header, 13) {
-        return 2;
+    if !read_part(from, &mut header, 13)? {
+        return Ok(2);
     }
     let sheet_length = length_at(&header, 0);
     let listing_length = length_at(&header, 6);
-    let mut sheet = io::large_buffer();
-    if !read_part(&mut sheet, sheet_length) {
-        return 2;
+    let mut sheet = space();
+    if !read_part(from, &mut sheet, sheet_length)? {
+        return Ok(2);
     }
-    let mut listing = io::large_buffer();
-    if !read_part(&mut listing, listing_length) {
-        return 2;
+    let mut listing = space();
+    if !read_part(from, &mut listing, listing_length)? {
+        return Ok(2);
     }
     let m = at_most(sheet_length, &sheet);
     let n = at_most(listing_length, &listing);
-    let mut output = io::large_buffer();
+    let mut output = space();
     if agrees(&sheet[..m], &listing[..n], &mut output) {
-        return 1;
+        return Ok(1);
     }
-    0
+    Ok(0)
 }
 
 #[derive(Clone, Copy)]
@@ -72,24 +80,24 @@ struct Tally {
 }
 
 // A proved loop has to end: the list has fewer than 100,000 cases.
-fn run_all() -> Tally {
+fn run_all<R: Read>(from: &mut R) -> io::Result<Tally> {
     let mut agreed: u64 = 0;
     let mut total: u64 = 0;
     while total < 100000 {
-        let case = run_case();
+        let case = run_case(from)?;
         if 1 < case {
-            return Tally { agreed, total };
+            return Ok(Tally { agreed, total });
         }
         agreed += case;
         total += 1;
     }
-    Tally { agreed, total }
+    Ok(Tally { agreed, total })
 }
 
-fn main() {
-    let tally = run_all();
-    io::print_decimal(STDOUT_FILENO, tally.agreed);
-    io::write_all(STDOUT_FILENO, &[b' ', b'o', b'f', b' ']);
-    io::print_decimal(STDOUT_FILENO, tally.total);
-    io::write_all(STDOUT_FILENO, &[b' ', b'a', b'g', b'r', b'e', b'e', b'\n']);
+fn main(rt: HostRuntime) -> io::Result<()> {
+    let mut reader = rt.reader();
+    let tally = run_all(&mut reader)?;
+    let agreed = tally.agreed;
+    let total = tally.total;
+    println!(rt; "{agreed} of {total} agree")
 }

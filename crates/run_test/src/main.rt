@@ -12,11 +12,12 @@
 
 ghost use Rattle.std.specs.Prelude.{◌≤◌, ◌≡◌, length};
 
-use libc::{STDIN_FILENO, STDOUT_FILENO};
+use input::read_full;
 use parse::{NO_NODE, Parsed, STRINGS, byte_at, parse};
 use report::{ReportAnswer, names_report};
 use run::{RunAnswer, run};
 use scope::{ByteScope, Scope, ScopingMode};
+use std::io;
 use table::{TableRefusal, refusal_number};
 
 mod parse;
@@ -176,61 +177,59 @@ fn reported(line: &[u8], parsed: Parsed, list: &mut [u32]) -> ReportAnswer {
     )
 }
 
-fn print_text(text: &[u8]) {
-    io::write_all(STDOUT_FILENO, text);
+fn print_text(rt: &impl Print, text: &[u8]) -> io::Result<()> {
+    rt.write_all(text)
 }
 
-fn print_refusal(number: u64) {
-    print_text(b"refused ");
-    io::print_decimal(STDOUT_FILENO, number);
+fn print_refusal(rt: &impl Print, number: u64) -> io::Result<()> {
+    print!(rt; "refused {number}")
 }
 
-fn print_needed(needed: usize) {
-    print_refusal(6);
-    print_text(b", needed ");
-    io::print_decimal(STDOUT_FILENO, needed as u64);
+fn print_needed(rt: &impl Print, needed: usize) -> io::Result<()> {
+    print_refusal(rt, 6)?;
+    print!(rt; ", needed {needed}")
 }
 
 fn number_of(answer: TableRefusal) -> u64 {
     refusal_number(answer) as u64
 }
 
-fn print_run(answer: RunAnswer) {
+fn print_run(rt: &impl Print, answer: RunAnswer) -> io::Result<()> {
     match answer {
-        RunAnswer::Match => print_text(b"match"),
-        RunAnswer::NoMatch => print_text(b"no match"),
-        RunAnswer::TableRefused(of) => print_refusal(number_of(of)),
-        RunAnswer::RootOutside => print_refusal(5),
-        RunAnswer::ListTooShort => print_refusal(20),
-        RunAnswer::PatternNotSimple => print_refusal(21),
-        RunAnswer::NotAValue => print_refusal(22),
-        RunAnswer::NameWithoutValue => print_refusal(23),
-        RunAnswer::PlanTooLarge { needed } => print_needed(needed),
+        RunAnswer::Match => print_text(rt, b"match"),
+        RunAnswer::NoMatch => print_text(rt, b"no match"),
+        RunAnswer::TableRefused(of) => print_refusal(rt, number_of(of)),
+        RunAnswer::RootOutside => print_refusal(rt, 5),
+        RunAnswer::ListTooShort => print_refusal(rt, 20),
+        RunAnswer::PatternNotSimple => print_refusal(rt, 21),
+        RunAnswer::NotAValue => print_refusal(rt, 22),
+        RunAnswer::NameWithoutValue => print_refusal(rt, 23),
+        RunAnswer::PlanTooLarge { needed } => print_needed(rt, needed),
     }
 }
 
-fn print_report(answer: ReportAnswer) {
+fn print_report(rt: &impl Print, answer: ReportAnswer) -> io::Result<()> {
     match answer {
-        ReportAnswer::Reported => print_text(b"reported"),
-        ReportAnswer::TableRefused(of) => print_refusal(number_of(of)),
-        ReportAnswer::RootOutside => print_refusal(5),
-        ReportAnswer::ListTooShort => print_refusal(20),
+        ReportAnswer::Reported => print_text(rt, b"reported"),
+        ReportAnswer::TableRefused(of) => print_refusal(rt, number_of(of)),
+        ReportAnswer::RootOutside => print_refusal(rt, 5),
+        ReportAnswer::ListTooShort => print_refusal(rt, 20),
     }
 }
 
-fn print_word(word: u32) {
-    print_text(b" ");
-    io::print_decimal(STDOUT_FILENO, word as u64);
+fn print_word(rt: &impl Print, word: u32) -> io::Result<()> {
+    print!(rt; " {word}")
 }
 
-fn print_words(words: &[u32], count: usize)
+fn print_words(rt: &impl Print, words: &[u32], count: usize) -> io::Result<()>
     requires { count ≤ length words.now }
 {
     let mut i: usize = 0;
     while i < count {
-        print_word(words[i]);
+        print_word(rt, words[i])?;
         i += 1;
     }
+    Ok(())
 }
 
 // The words up to the last that is not 0.
@@ -259,57 +258,68 @@ fn no_nodes() -> [u32; 16]
     [NO_NODE; 16]
 }
 
-fn print_run_case(line: &[u8], parsed: Parsed, list: &mut [u32], plan: &mut [u32]) {
-    print_run(carried_out(line, parsed, list, plan));
-    print_text(b"; list");
-    print_words(list, list.len());
-    print_text(b"; plan");
-    print_words(plan, used(plan));
-    print_text(b"\n");
+fn print_run_case(
+    rt: &impl Print,
+    line: &[u8],
+    parsed: Parsed,
+    list: &mut [u32],
+    plan: &mut [u32],
+) -> io::Result<()> {
+    print_run(rt, carried_out(line, parsed, list, plan))?;
+    print_text(rt, b"; list")?;
+    print_words(rt, list, list.len())?;
+    print_text(rt, b"; plan")?;
+    print_words(rt, plan, used(plan))?;
+    print_text(rt, b"\n")
 }
 
-fn print_report_case(line: &[u8], parsed: Parsed, list: &mut [u32]) {
-    print_report(reported(line, parsed, list));
-    print_text(b"; list");
-    print_words(list, list.len());
-    print_text(b"\n");
+fn print_report_case(
+    rt: &impl Print,
+    line: &[u8],
+    parsed: Parsed,
+    list: &mut [u32],
+) -> io::Result<()> {
+    print_report(rt, reported(line, parsed, list))?;
+    print_text(rt, b"; list")?;
+    print_words(rt, list, list.len())?;
+    print_text(rt, b"\n")
 }
 
-fn run_case(line: &[u8], entries: usize, buffer_words: usize) {
+fn run_case(rt: &impl Print, line: &[u8], entries: usize, buffer_words: usize) -> io::Result<()> {
     if 16 < entries {
-        return;
+        return Ok(());
     }
     if 160 < buffer_words {
-        return;
+        return Ok(());
     }
     let parsed = parse(line, 23);
     let mut list = start_list(parsed, number_at(line, 13));
     let mut plan = filled();
     print_run_case(
+        rt,
         line,
         parsed,
         &mut list[0..entries],
         &mut plan[0..buffer_words],
-    );
+    )
 }
 
-fn report_case(line: &[u8], entries: usize) {
+fn report_case(rt: &impl Print, line: &[u8], entries: usize) -> io::Result<()> {
     if 16 < entries {
-        return;
+        return Ok(());
     }
     let parsed = parse(line, 23);
     let mut list = no_nodes();
-    print_report_case(line, parsed, &mut list[0..entries]);
+    print_report_case(rt, line, parsed, &mut list[0..entries])
 }
 
-fn print_case(line: &[u8]) {
-    print_text(line);
-    print_text(b"\n");
+fn print_case(rt: &impl Print, line: &[u8]) -> io::Result<()> {
+    print_text(rt, line)?;
+    print_text(rt, b"\n")?;
     if byte_at(line, 0) == b'n' {
-        report_case(line, number_at(line, 16));
-        return;
+        return report_case(rt, line, number_at(line, 16));
     }
-    run_case(line, number_at(line, 16), number_at(line, 19));
+    run_case(rt, line, number_at(line, 16), number_at(line, 19))
 }
 
 // Where the line that starts at a place ends.
@@ -327,20 +337,27 @@ fn line_end(input: &[u8], start: usize) -> usize
     i
 }
 
-fn print_cases(input: &[u8]) {
+fn print_cases(rt: &impl Print, input: &[u8]) -> io::Result<()> {
     let mut start: usize = 0;
     while start < input.len() {
         let end = line_end(input, start);
-        print_case(&input[start..end]);
+        print_case(rt, &input[start..end])?;
         if end == input.len() {
-            return;
+            return Ok(());
         }
         start = end + 1;
     }
+    Ok(())
 }
 
-fn main() {
-    let mut input = io::large_buffer();
-    let n = io::read_full(STDIN_FILENO, &mut input);
-    print_cases(&input[..n]);
+// More than the cases of this crate's stdin have.
+fn space() -> [u8; 65536] {
+    [0; 65536]
+}
+
+fn main(rt: HostRuntime) -> io::Result<()> {
+    let mut input = space();
+    let mut reader = rt.reader();
+    let n = read_full(&mut reader, &mut input)?;
+    print_cases(&rt, &input[..n])
 }

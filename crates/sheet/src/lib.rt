@@ -28,8 +28,7 @@ pub fn plan_into(sheet: &[u8], plan: &mut [u32]) -> Row
 }
 
 // Plans a sheet and lists the plan in `out`. The bytes written, or 0 if the listing doesn't fit.
-#[unsafe(no_mangle)]
-pub extern "C" fn plan_sheet(sheet: &[u8], out: &mut [u8]) -> usize
+pub fn plan_sheet(sheet: &[u8], out: &mut [u8]) -> usize
     ensures { Printed (listing_of sheet.now) out.old out.new result }
 {
     match read_header(sheet) {
@@ -39,8 +38,7 @@ pub extern "C" fn plan_sheet(sheet: &[u8], out: &mut [u8]) -> usize
 }
 
 // The same by the prefix of all other calls; the name without it ends with the next version.
-#[unsafe(no_mangle)]
-pub extern "C" fn teluddru_plan_sheet(sheet: &[u8], out: &mut [u8]) -> usize
+pub fn teluddru_plan_sheet(sheet: &[u8], out: &mut [u8]) -> usize
     ensures { Printed (listing_of sheet.now) out.old out.new result }
 {
     plan_sheet(sheet, out)
