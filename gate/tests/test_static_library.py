@@ -11,10 +11,18 @@ SCRIPT = pathlib.Path(__file__).resolve().parent.parent.parent / "tools" / "stat
 RT = """\
 #!/bin/sh
 [ "$1" != version ] || exec cat kit
-[ ! -e broken ] || exit 1
-echo "$2" >>asked
-mkdir -p target/staticlib
-date +%N >"target/staticlib/lib$2.a"
+[ "$*" = lib ] && [ ! -e ../../broken ] || exit 1
+crate=$(basename "$PWD")
+echo "$crate" >>../../asked
+mkdir -p out
+date +%N >"out/lib$crate.a"
+"""
+CRATES = """\
+low:
+middle: low
+middle_c staticlib: middle low
+high staticlib: middle io
+other staticlib: low
 """
 
 
@@ -25,8 +33,8 @@ class StaticLibrary(unittest.TestCase):
         self.root = pathlib.Path(folder.name)
         self.write("bin/rt", RT).chmod(0o755)
         self.write("kit", "kit 1\n")
-        self.write("crates.txt", "low:\nmiddle: low\nhigh: middle io\nother: low\n")
-        for crate in ("low", "middle", "high", "other"):
+        self.write("crates.txt", CRATES)
+        for crate in ("low", "middle", "high", "other", "middle_c"):
             self.write(f"crates/{crate}/src/lib.rt", crate)
         self.write("tools/static_library", "")
         shutil.copy(SCRIPT, self.root / "tools")
@@ -65,6 +73,16 @@ class StaticLibrary(unittest.TestCase):
                 self.write(path, "changed")
                 self.assertEqual(self.asked("high", "other"), (made, 0))
                 self.assertEqual(self.asked("high", "other"), ([], 0))
+
+    def test_static_library_over_a_library(self):
+        self.assertEqual(self.asked("middle"), (["middle_c"], 0))
+        self.assertEqual(self.asked("middle"), ([], 0))
+        made = self.root / "target/staticlib/libmiddle.a"
+        self.assertEqual(made.read_text(), (self.root / "crates/middle_c/out/libmiddle_c.a").read_text())
+        for crate in ("middle_c", "middle", "low"):
+            with self.subTest(crate=crate):
+                self.write(f"crates/{crate}/src/lib.rt", "changed")
+                self.assertEqual(self.asked("middle"), (["middle_c"], 0))
 
     def test_not_proved(self):
         self.asked("high")
