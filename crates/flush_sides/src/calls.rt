@@ -1,4 +1,4 @@
-// The three calls of teluddru for a rule of one name, lent as a table of one record. A function that lends records is proved by hand.
+// The three calls of teluddru for a rule of one name, lent as a table of one record.
 use operation::Operation;
 use planner::PlanAnswer;
 use report::ReportAnswer;
