@@ -1,7 +1,6 @@
 -- The pairs of an `=` whose two sides both bind (assignment.rs, flatten_assignment_pairs), in the order in which they are met.
 use Rattle.std.specs.Prelude.{ℕ, Bool, true, false, cond, ◌&&◌, ◌||◌, List, [], ◌∷◌, ◌++◌, eqb, length}
 use Rattle.std.proofs.Math.Option.{Option}
-use Rattle.std.proofs.Math.Option as Option
 use Rattle.literal.specs.Literal.{Literal}
 use Rattle.table.specs.Expr.{Expr, literal, name, wildcard, array, set, object, other, Exprs, none, item, Fields, done, field, node_of, count, count_fields}
 use Rattle.base.specs.Refusal.{Refusal, array_size_mismatch, object_field_count_mismatch, object_key_not_found, incompatible_destructuring_patterns, require_or}

@@ -10,7 +10,6 @@ use lib.Dec.{eqb}
 use Rattle.literal.specs.Literal.{Literal}
 use Rattle.table.specs.Tables.{Tables, kind_of, first_word_of, count_of, child_at}
 use Rattle.table.specs.Decode.{expr, items, fields, is_wildcard, fields_of}
-use Rattle.table.specs.Expr as Expr
 use Rattle.table.specs.Expr.{Expr, literal, name, wildcard, array, object, other, depth, depth_all, depth_fields_lem}
 use Rattle.table.specs.code.Sound.{Node, WellFormed}
 use Rattle.table.proofs.trees.Trees.{expr_name, expr_array, expr_object}

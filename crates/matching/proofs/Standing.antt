@@ -7,7 +7,6 @@ use native.Mathlib.Omega.{arith}
 use lib.ListN.{length, get_or}
 use Rattle.table.specs.Tables.{Tables}
 use Rattle.table.specs.Decode.{expr}
-use Rattle.table.specs.Expr as Expr
 use Rattle.table.specs.Expr.{Expr, literal, name, wildcard, array, object, other, node_of}
 use Rattle.table.specs.code.Sound.{Node, WellFormed}
 use Rattle.planner.specs.Layout.{Entry, Place, entry_words, entry, entries, entries_all_lem, count_plans_lem, field_order, no_fields, in_order, concat}

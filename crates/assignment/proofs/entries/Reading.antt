@@ -8,7 +8,6 @@ use borrow.Author.Tests.{ne_eqb}
 use lib.ListN.{get_or, length, get_or-eq_default}
 use Rattle.scope.specs.declared.Scope.{Scope}
 use Rattle.scope.specs.declared.Binding.{Binding}
-use Rattle.scope.specs.declared.Binding.TheVariants as Binding
 use Rattle.scope.specs.Scope.{same_scope, asked, question_of}
 use Rattle.scope.proofs.Laws.{says_yes, says_no, says_outside}
 use Rattle.table.specs.Tables.{first_word_of}

@@ -12,8 +12,7 @@ use Rattle.scope.specs.declared.Scope.{Scope}
 use Rattle.scope.specs.declared.ScopingMode.TheVariants.{RespectParent}
 use Rattle.scope.specs.Scope.{is_unbound}
 use Rattle.table.specs.Tables.{Tables, kind_of, first_word_of, count_of, width}
-use Rattle.table.specs.Expr.{Expr, count, parts}
-use Rattle.table.specs.Expr as Expr
+use Rattle.table.specs.Expr.{Expr, parts}
 use Rattle.table.specs.Decode.{expr, items, fields_of}
 use Rattle.table.proofs.trees.Trees.{expr_array, expr_object, width_array, child_node, count_items, count_fields_lem}
 use Rattle.table.proofs.trees.Forest.{tree_few}
@@ -32,7 +31,6 @@ use Rattle.assignment.specs.declared.flatten.Flattened.TheVariants.{Next, Refuse
 use Rattle.assignment.specs.declared.judge.Pairing.{Pairing}
 use Rattle.assignment.specs.declared.judge.Pairing.TheVariants.{Whole, Items, ByKey, Opposed}
 use Rattle.assignment.specs.declared.keys.ObjectPairs.{ObjectPairs}
-use Rattle.assignment.specs.declared.keys.ObjectPairs.TheVariants as ObjectPairs
 use Rattle.assignment.specs.declared.keys.ObjectPairs.TheVariants.{Matched}
 use Rattle.assignment.specs.declared.judge.Judgement.{Judgement}
 use Rattle.assignment.specs.declared.judge.Judgement.TheVariants as Judged

@@ -7,13 +7,11 @@ use native.Mathlib.Omega.{arith}
 use borrow.Author.Tests.{eq-eqb, ne_eqb}
 use lib.Dec.{eqb}
 use Rattle.table.specs.Tables.{Tables, first_word_of, count_of, child_at}
-use Rattle.table.specs.Expr.{count}
 use Rattle.table.specs.Decode.{fields_of}
 use Rattle.planner.specs.declared.PlanAnswer.TheVariants.{ObjectFieldCountMismatch, ObjectKeyNotFound}
 use Rattle.base.specs.Refusal.{object_field_count_mismatch, object_key_not_found}
 use Rattle.planner.specs.code.Post.{OrderAsks, OrderedBy}
 use Rattle.assignment.specs.declared.keys.ObjectPairs.{ObjectPairs}
-use Rattle.assignment.specs.declared.keys.ObjectPairs.TheVariants as ObjectPairs
 use Rattle.assignment.specs.declared.keys.ObjectPairs.TheVariants.{Matched}
 use Rattle.assignment.specs.Pairs.{failed, distinct_keys}
 use Rattle.assignment.specs.code.KeyMatching.{missing_from, InOrder, LiteralNode, MissingAsks, KeysAsks, KeysMatched}

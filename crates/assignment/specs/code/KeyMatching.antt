@@ -1,7 +1,6 @@
 -- The keys of two objects: what the functions of `keys` ask and say.
 use Rattle.std.specs.Prelude.{ℕ, zero, suc, ◌+◌, ◌*◌, ◌^◌, ◌≤◌, ◌<◌, ◌≡◌, Bool, true, cond, List, eqb, leb}
 use Rattle.std.proofs.Math.Option.{Option}
-use Rattle.std.proofs.Math.Option as Option
 use Rattle.base.specs.Lists.{all_from}
 use Rattle.literal.specs.Literal.{Literal}
 use Rattle.table.specs.Tables.{Tables, kind_of, first_word_of, count_of, child_at}
@@ -11,7 +10,6 @@ use Rattle.planner.specs.Layout.{Slot}
 use Rattle.planner.specs.code.Passes.{value_node, order_of}
 use Rattle.planner.specs.code.Post.{OrderedBy}
 use Rattle.assignment.specs.declared.keys.ObjectPairs.{ObjectPairs}
-use Rattle.assignment.specs.declared.keys.ObjectPairs.TheVariants as ObjectPairs
 use Rattle.assignment.specs.declared.keys.ObjectPairs.TheVariants.{Matched}
 use Rattle.planner.specs.Held.{held_under}
 use Rattle.assignment.specs.Pairs.{all_literal, distinct_keys}

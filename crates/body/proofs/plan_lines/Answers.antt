@@ -1,4 +1,3 @@
-use Prim.Native.Nat.{◌-◌}
 use Rattle.body.proofs.BodySteps.{body_start, line_number, line_ends, line_goes_on, body_ends}
 use borrow.Author.Rules.{rules}
 use Rattle.body.proofs.plan_lines.Goals as goal

@@ -1,5 +1,4 @@
 use Rattle.name_table.proofs.Cases.{seeking_start, seeking_found, seeking_on, seeking_ends}
-use Prim.Native.Nat.{◌-◌}
 use borrow.Author.Rules.{rules}
 use Rattle.name_table.proofs.number_of.Goals as goal
 

@@ -1,4 +1,3 @@
-use Prim.Native.Nat.{◌-◌}
 use Rattle.report.proofs.Reporting.{bound_start, bound_kind, bound_node, bound_entry_lem, bound_on, bound_long, bound_ends}
 use borrow.Author.Rules.{rules}
 use Rattle.report.proofs.mark_bound.Goals as goal

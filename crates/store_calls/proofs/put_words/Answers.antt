@@ -1,4 +1,3 @@
-use Prim.Native.Nat.{◌-◌}
 use Rattle.store_calls.proofs.Told.{putting_start, putting_on, putting_full, putting_ends}
 use borrow.Author.Rules.{rules}
 use Rattle.store_calls.proofs.put_words.Goals as goal

@@ -1,4 +1,3 @@
-use Prim.Native.Nat.{◌-◌}
 use Rattle.assignment.proofs.entries.Reading.{scanning_start, first_found, first_on, first_ends}
 use borrow.Author.Rules.{rules}
 use Rattle.assignment.proofs.entries.first_same_scope.Goals as goal

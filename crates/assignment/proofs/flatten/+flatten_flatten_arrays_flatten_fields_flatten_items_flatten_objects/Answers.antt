@@ -1,5 +1,4 @@
 use Rattle.assignment.proofs.preview.Previews.{roomy_kept}
-use Prim.Native.Nat.{◌-◌}
 use Rattle.planner.proofs.destructuring.SecondPass.{object_falls, child_falls}
 use Rattle.assignment.proofs.flatten.FlatNodes.{ask_sides, at_low, ask_bound, ask_bind_right, flat_compared, flat_bind_left, flat_bind_right, ask_arrays, ask_keyed, flat_by_items, flat_by_keys, flat_refused, arrays_differ, ask_items, arrays_items, ask_fields, objects_refused}
 use Rattle.assignment.proofs.flatten.FlatLoops.{kept_start, kept_on, items_start, items_left_fits, items_right_fits, items_child, items_below, items_on, items_fail, items_over, fields_start, fields_fit, fields_ask, fields_child, fields_below, fields_on, fields_fail, fields_over, parts_fall}

@@ -1,4 +1,3 @@
-use Prim.Native.Nat.{◌-◌}
 use Rattle.assignment.proofs.keys.KeySearch.{searching_start, searching_twice, searching_key, searching_value, searching_found, searching_down, searching_up, searching_never, searching_ends}
 use borrow.Author.Rules.{rules}
 use Rattle.assignment.proofs.keys.find_value.Goals as goal

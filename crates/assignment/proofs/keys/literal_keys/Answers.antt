@@ -1,4 +1,3 @@
-use Prim.Native.Nat.{◌-◌}
 use Rattle.assignment.proofs.keys.KeyLoops.{testing_start, testing_twice, testing_key, testing_fails, testing_on, testing_ends}
 use borrow.Author.Rules.{rules}
 use Rattle.assignment.proofs.keys.literal_keys.Goals as goal

@@ -1,4 +1,3 @@
-use Prim.Native.Nat.{◌-◌}
 use Rattle.assignment.proofs.entries.Reading.{scanning_start, any_far, any_past, any_binds, any_ignores, any_on, any_ends}
 use borrow.Author.Rules.{rules}
 use Rattle.assignment.proofs.preview.introduces_binding.Goals as goal

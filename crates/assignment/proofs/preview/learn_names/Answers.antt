@@ -1,4 +1,3 @@
-use Prim.Native.Nat.{◌-◌}
 use Rattle.assignment.proofs.preview.Learning.{learning_start, learning_on, learning_ends}
 use borrow.Author.Rules.{rules}
 use Rattle.assignment.proofs.preview.learn_names.Goals as goal

@@ -1,4 +1,3 @@
-use Prim.Native.Nat.{◌-◌}
 use Rattle.body.proofs.PlanLoops.{bind_start, bind_on, bind_end}
 use borrow.Author.Rules.{rules}
 use Rattle.body.proofs.binding.bind_plan.Goals as goal

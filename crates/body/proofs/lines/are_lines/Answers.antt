@@ -1,4 +1,3 @@
-use Prim.Native.Nat.{◌-◌}
 use Rattle.table.proofs.tests.Scan.{scan_start, scan_ends}
 use Rattle.body.proofs.SideCases.{lines_fail, lines_on}
 use borrow.Author.Rules.{rules}

@@ -1,4 +1,3 @@
-use Prim.Native.Nat.{◌-◌}
 use Rattle.c_calls.proofs.BodyCalls.{marks_start, putting_on, marks_full, marks_done}
 use borrow.Author.Rules.{rules}
 use Rattle.c_calls.proofs.bodies.put_marks.Goals as goal

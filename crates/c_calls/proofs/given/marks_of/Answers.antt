@@ -1,4 +1,3 @@
-use Prim.Native.Nat.{◌-◌}
 use Rattle.base.proofs.Filling.{filling_start, filling_on}
 use Rattle.c_calls.proofs.Scopes.{marks_end}
 use borrow.Author.Rules.{rules}

@@ -1,4 +1,3 @@
-use Prim.Native.Nat.{◌-◌}
 use Rattle.common_example.proofs.loops.classes.ClassLoop.{joining_start, joining_on, joining_ends}
 use borrow.Author.Rules.{rules}
 use Rattle.common_example.proofs.classes.join_classes.Goals as goal

@@ -1,4 +1,3 @@
-use Prim.Native.Nat.{◌-◌}
 use Rattle.common_example.proofs.loops.sizes.SizeLoops.{levelling_start, level_class, level_size_lem, level_narrow, levelling_on, levelling_ends}
 use borrow.Author.Rules.{rules}
 use Rattle.common_example.proofs.levels.next_sizes.Goals as goal

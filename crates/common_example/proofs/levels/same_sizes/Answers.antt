@@ -1,4 +1,3 @@
-use Prim.Native.Nat.{◌-◌}
 use Rattle.table.proofs.tests.Scan.{scan_start, scan_ends}
 use Rattle.common_example.proofs.loops.sizes.SizeLoops.{same_on, same_fails}
 use borrow.Author.Rules.{rules}

@@ -1,4 +1,3 @@
-use Prim.Native.Nat.{◌-◌}
 use Rattle.common_example.proofs.loops.sizes.SizeLoops.{settling_start, settling_level, settling_on, settling_stops, settling_ends}
 use borrow.Author.Rules.{rules}
 use Rattle.common_example.proofs.levels.settle.Goals as goal

@@ -1,4 +1,3 @@
-use Prim.Native.Nat.{◌-◌}
 use Rattle.common_example.proofs.loops.graph.GraphLoops.{fill_start, fill_on, fill_ends}
 use borrow.Author.Rules.{rules}
 use Rattle.common_example.proofs.roots.start_classes.Goals as goal

@@ -1,4 +1,3 @@
-use Prim.Native.Nat.{◌-◌}
 use Rattle.first_miss.proofs.nodes.KeyLaws.{seeking_start, seeking_twice, seeking_place, seeking_object, seeking_found, seeking_on, seeking_ends}
 use borrow.Author.Rules.{rules}
 use Rattle.first_miss.proofs.keys.other_key.Goals as goal

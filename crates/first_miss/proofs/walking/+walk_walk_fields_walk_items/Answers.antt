@@ -1,4 +1,3 @@
-use Prim.Native.Nat.{◌-◌}
 use Rattle.first_miss.proofs.nodes.WalkNodes.{ask_literal, came_literal, ask_name, array_misses, ask_items, came_array, ask_object, object_misses, ask_fields, came_object, parts_fall}
 use Rattle.first_miss.proofs.nodes.WalkParts.{items_start, items_left_fits, items_right_fits, items_ask, items_fall, items_fail, items_on, items_end, fields_start, fields_object, fields_twice, fields_place, fields_value, fields_fall, fields_ask, fields_fail, fields_on, fields_end}
 use borrow.Author.Rules.{rules}

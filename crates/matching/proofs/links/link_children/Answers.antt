@@ -1,4 +1,3 @@
-use Prim.Native.Nat.{◌-◌}
 use Rattle.matching.proofs.reading.Chains.{chain_fits, chaining_start, chaining_index, chaining_word, chaining_base, chaining_index_fits, chaining_bytes, chaining_pair, chaining_small, chaining_sum, chaining_low, chaining_place, chaining_on, chaining_ends}
 use borrow.Author.Rules.{rules}
 use Rattle.matching.proofs.links.link_children.Goals as goal

@@ -1,4 +1,3 @@
-use Prim.Native.Nat.{◌-◌}
 use Rattle.planner.proofs.buffer.Filling.{filling_start}
 use Rattle.operation.proofs.ReservedNames.{reserved_on, reserved_end}
 use borrow.Author.Rules.{rules}

@@ -1,5 +1,4 @@
 use Rattle.page.proofs.CellBytes.{cell_start, storing_on, storing_ends}
-use Prim.Native.Nat.{◌-◌}
 use borrow.Author.Rules.{rules}
 use Rattle.page.proofs.cells.write_cell.Goals as goal
 

@@ -1,4 +1,3 @@
-use Prim.Native.Nat.{◌-◌}
 use Rattle.page.proofs.PageLines.{clearing_start, clearing_on, clearing_ends}
 use borrow.Author.Rules.{rules}
 use Rattle.page.proofs.lines.clear_from.Goals as goal

@@ -1,4 +1,3 @@
-use Prim.Native.Nat.{◌-◌}
 use Rattle.page.proofs.PageLines.{lining_start, blanks_on, blanks_end}
 use borrow.Author.Rules.{rules}
 use Rattle.page.proofs.lines.write_blank_lines.Goals as goal

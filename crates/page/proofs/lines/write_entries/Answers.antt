@@ -1,4 +1,3 @@
-use Prim.Native.Nat.{◌-◌}
 use Rattle.page.proofs.EntryLines.{entering_start, entry_asked, entering_on, entering_ends}
 use borrow.Author.Rules.{rules}
 use Rattle.page.proofs.lines.write_entries.Goals as goal

@@ -1,4 +1,3 @@
-use Prim.Native.Nat.{◌-◌}
 use Rattle.plan_store.proofs.head.Writing.{clearing_some, clearing_start, clearing_on, clearing_ends}
 use borrow.Author.Rules.{rules}
 use Rattle.plan_store.proofs.head.clear_used.Goals as goal

@@ -1,5 +1,4 @@
 use Rattle.plan_store.proofs.head.Places.{among_some, among_twice, among_first, ending_five, ending_next}
-use Prim.Native.Nat.{◌-◌}
 use Rattle.plan_store.proofs.head.Places.{ending_start, ending_on, ending_ends}
 use borrow.Author.Rules.{rules}
 use Rattle.plan_store.proofs.head.entries_end.Goals as goal

@@ -1,4 +1,3 @@
-use Prim.Native.Nat.{◌-◌}
 use Rattle.plan_store.proofs.head.Passes.{room_sized, room_packs, leaving_start, leaving_on, leaving_fails, leaving_ends}
 use borrow.Author.Rules.{rules}
 use Rattle.plan_store.proofs.head.room_in.Goals as goal

@@ -1,4 +1,3 @@
-use Prim.Native.Nat.{◌-◌}
 use Rattle.plan_store.proofs.head.Passes.{sharing_start, shares_many, sharing_on, sharing_fails, sharing_ends}
 use borrow.Author.Rules.{rules}
 use Rattle.plan_store.proofs.head.shares_ok.Goals as goal

@@ -1,5 +1,4 @@
 use Rattle.plan_store.proofs.head.Writing.{heading_second}
-use Prim.Native.Nat.{◌-◌}
 use Rattle.plan_store.proofs.head.Writing.{heading_start, heading_on, heading_ends}
 use borrow.Author.Rules.{rules}
 use Rattle.plan_store.proofs.head.write_head.Goals as goal

@@ -1,4 +1,3 @@
-use Prim.Native.Nat.{◌-◌}
 use Rattle.plan_store.proofs.rows.Copies.{copying_start, copying_on, copying_ends}
 use borrow.Author.Rules.{rules}
 use Rattle.plan_store.proofs.rows.copy_in.Goals as goal

@@ -1,4 +1,3 @@
-use Prim.Native.Nat.{◌-◌}
 use Rattle.planner.proofs.buffer.Filling.{filling_begin, filling_next, filling_ends}
 use borrow.Author.Rules.{rules}
 use Rattle.report.proofs.inner.mark_met.Goals as goal

@@ -1,4 +1,3 @@
-use Prim.Native.Nat.{◌-◌}
 use native.Mathlib.Omega.{arith}
 use Rattle.planner.proofs.destructuring.Walking.{ask_items, child_falls}
 use Rattle.report.proofs.KeyNames.{ask_object, ask_values, keys_none, keys_items, keys_fields, below_start, below_child, below_lower, below_on, below_fits, below_ends}

@@ -1,4 +1,3 @@
-use Prim.Native.Nat.{◌-◌}
 use Rattle.sheet.proofs.lines.LineTests.{line_fits, line_end_fits, line_part_fits, line_place_fits, first_word_fits, line_end_place, line_cut, line_start, column_fits, column_place_fits, column_there, word_room, line_on, line_fails, line_ends}
 use borrow.Author.Rules.{rules}
 use Rattle.sheet.proofs.lines.read_line.Goals as goal

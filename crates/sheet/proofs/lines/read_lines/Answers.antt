@@ -1,4 +1,3 @@
-use Prim.Native.Nat.{◌-◌}
 use Rattle.sheet.proofs.lines.LineTests.{lines_start, line_asked, lines_on, lines_fail, lines_end}
 use borrow.Author.Rules.{rules}
 use Rattle.sheet.proofs.lines.read_lines.Goals as goal

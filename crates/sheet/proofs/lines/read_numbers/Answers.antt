@@ -1,4 +1,3 @@
-use Prim.Native.Nat.{◌-◌}
 use Rattle.sheet.proofs.lines.LineTests.{numbers_start, number_asked, numbers_on, numbers_fail, numbers_end}
 use borrow.Author.Rules.{rules}
 use Rattle.sheet.proofs.lines.read_numbers.Goals as goal

@@ -1,4 +1,3 @@
-use Prim.Native.Nat.{◌-◌}
 use Rattle.planner.proofs.buffer.Filling.{filling_begin, filling_next, zeros_end}
 use borrow.Author.Rules.{rules}
 use Rattle.sheet.proofs.listing.clear.Goals as goal

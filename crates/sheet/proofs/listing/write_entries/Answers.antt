@@ -1,4 +1,3 @@
-use Prim.Native.Nat.{◌-◌}
 use Rattle.sheet.proofs.laws.ListingLines.{entering_start, entry_asked, entering_on, entering_ends}
 use borrow.Author.Rules.{rules}
 use Rattle.sheet.proofs.listing.write_entries.Goals as goal

@@ -1,4 +1,3 @@
-use Prim.Native.Nat.{◌-◌}
 use Rattle.sheet.proofs.tables.NameWords.{overlaid_none, overlaid_first, words_fit, row_fits, row_word_fits, row_word_there, name_room, name_on}
 use borrow.Author.Rules.{rules}
 use Rattle.sheet.proofs.tables.close_up.Goals as goal

@@ -1,4 +1,3 @@
-use Prim.Native.Nat.{◌-◌}
 use Rattle.sheet.proofs.tables.NameWords.{marking_start, mark_part_fits, mark_place_fits, mark_there, mark_large, mark_fits, mark_room, mark_on, marking_ends}
 use borrow.Author.Rules.{rules}
 use Rattle.sheet.proofs.tables.fill_marks.Goals as goal

@@ -1,5 +1,5 @@
-use Rattle.std.proofs.Common.{◌≡◌, ◌+◌, ◌<◌, min, length, replicate, refl, arith, add-one}
-use Rattle.teluddru.proofs.laws.Copying.{after, after_none, one_more, all_copied}
+use Rattle.std.proofs.Common.{◌≡◌, ◌<◌, min, length, replicate, refl, arith, add-one}
+use Rattle.teluddru.proofs.laws.Copying.{after_none, one_more, all_copied}
 use Rattle.teluddru.proofs.records.copy_names.Goals as goal
 
 pub loop-i-init : goal.loop-i-init

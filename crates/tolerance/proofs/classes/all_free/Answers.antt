@@ -1,4 +1,3 @@
-use Prim.Native.Nat.{◌-◌}
 use Rattle.tolerance.proofs.nodes.Joining.{looking_start, looking_asks, looking_on, looking_fails, looking_ends}
 use borrow.Author.Rules.{rules}
 use Rattle.tolerance.proofs.classes.all_free.Goals as goal

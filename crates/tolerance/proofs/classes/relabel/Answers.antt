@@ -1,4 +1,3 @@
-use Prim.Native.Nat.{◌-◌}
 use Rattle.tolerance.proofs.nodes.Joining.{relabelling_start, relabelling_on, relabelling_ends}
 use borrow.Author.Rules.{rules}
 use Rattle.tolerance.proofs.classes.relabel.Goals as goal

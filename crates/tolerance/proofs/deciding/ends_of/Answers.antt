@@ -1,5 +1,4 @@
 use Rattle.tolerance.proofs.nodes.Beginning.{ends_start, ends_node, ends_first, ends_second, ends_on, ends_end}
-use Prim.Native.Nat.{◌-◌}
 use borrow.Author.Rules.{rules}
 use Rattle.tolerance.proofs.deciding.ends_of.Goals as goal
 

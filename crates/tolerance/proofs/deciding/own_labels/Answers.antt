@@ -1,5 +1,4 @@
 use Rattle.tolerance.proofs.nodes.Beginning.{labelling, labelling_small, labelling_on, labelling_ends}
-use Prim.Native.Nat.{◌-◌}
 use borrow.Author.Rules.{rules}
 use Rattle.tolerance.proofs.deciding.own_labels.Goals as goal
 

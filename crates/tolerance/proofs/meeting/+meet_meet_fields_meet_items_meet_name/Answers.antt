@@ -1,5 +1,4 @@
 use Rattle.tolerance.proofs.nodes.MeetNodes.{ask_literal, met_literal, ask_name, met_name, name_falls, met_kinds, met_counts, ask_items, met_array, ask_fields, met_object, name_low, place_inside, wild_met, name_bound, ask_held, held_falls, held_met, items_start, items_left_fits, items_right_fits, items_ask, items_below, items_fail, items_on, items_end, fields_start, fields_object, fields_twice, fields_place, fields_value, fields_fall, fields_missing, fields_ask, fields_fail, fields_on, fields_end, child_falls, parts_fall}
-use Prim.Native.Nat.{◌-◌}
 use borrow.Author.Rules.{rules}
 use Rattle.tolerance.proofs.meeting.+meet_meet_fields_meet_items_meet_name.Goals as goal
 

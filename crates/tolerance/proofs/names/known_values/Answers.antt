@@ -1,5 +1,4 @@
 use Rattle.tolerance.proofs.nodes.Beginning.{knowing, knowing_small, knowing_listed, knowing_on, knowing_ends}
-use Prim.Native.Nat.{◌-◌}
 use borrow.Author.Rules.{rules}
 use Rattle.tolerance.proofs.names.known_values.Goals as goal
 

@@ -1,5 +1,4 @@
 use Rattle.tolerance.proofs.nodes.Beginning.{setting_start, setting_small, setting_inside, setting_on, setting_long, setting_ends}
-use Prim.Native.Nat.{◌-◌}
 use borrow.Author.Rules.{rules}
 use Rattle.tolerance.proofs.names.set_names.Goals as goal
 

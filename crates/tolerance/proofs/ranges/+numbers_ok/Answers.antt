@@ -1,5 +1,4 @@
 use Rattle.tolerance.proofs.nodes.RangeTests.{number_met, literal_met_lem, first_low, first_fits, ranging_start, ranging_times, ranging_place, ranging_ask, ranging_falls, ranging_fails, ranging_on, ranging_ends}
-use Prim.Native.Nat.{◌-◌}
 use borrow.Author.Rules.{rules}
 use Rattle.tolerance.proofs.ranges.+numbers_ok.Goals as goal
 

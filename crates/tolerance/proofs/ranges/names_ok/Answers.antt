@@ -1,5 +1,4 @@
 use Rattle.tolerance.proofs.nodes.RangeTests.{giving_start, giving_ask, giving_fails, giving_on, giving_ends}
-use Prim.Native.Nat.{◌-◌}
 use borrow.Author.Rules.{rules}
 use Rattle.tolerance.proofs.ranges.names_ok.Goals as goal
 

@@ -1,4 +1,3 @@
-use Prim.Native.Nat.{◌-◌}
 use Rattle.common_example.proofs.loops.graph.KeyOrderLoops.{copying_start, words_fit, copying_place, copying_next, field_fits, key_fits, word_fits, copying_on, copying_ends}
 use borrow.Author.Rules.{rules}
 use Rattle.common_example.proofs.graph.key_order.copy_fields.Goals as goal

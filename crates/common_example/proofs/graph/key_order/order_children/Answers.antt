@@ -1,4 +1,3 @@
-use Prim.Native.Nat.{◌-◌}
 use Rattle.common_example.proofs.loops.graph.KeyOrderLoops.{ordering_start, ordering_fits, ordering_asks, ordering_on, ordering_ends}
 use borrow.Author.Rules.{rules}
 use Rattle.common_example.proofs.graph.key_order.order_children.Goals as goal

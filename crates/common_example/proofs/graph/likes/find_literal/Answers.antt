@@ -1,4 +1,3 @@
-use Prim.Native.Nat.{◌-◌}
 use Rattle.common_example.proofs.loops.graph.LiteralOrder.{finding_start, finding_equal, finding_down, finding_up, finding_ends}
 use borrow.Author.Rules.{rules}
 use Rattle.common_example.proofs.graph.likes.find_literal.Goals as goal

@@ -1,4 +1,3 @@
-use Prim.Native.Nat.{◌-◌}
 use Rattle.common_example.proofs.loops.graph.LikeLoops.{liking_start, liking_place, liking_add, liking_on, liking_ends}
 use borrow.Author.Rules.{rules}
 use Rattle.common_example.proofs.graph.likes.like_nodes.Goals as goal

@@ -1,4 +1,3 @@
-use Prim.Native.Nat.{◌-◌}
 use Rattle.common_example.proofs.loops.graph.PlaceLaws.{placing_start, placing_place, placing_asks, placing_on, placed}
 use borrow.Author.Rules.{rules}
 use Rattle.common_example.proofs.graph.node_places.side_places.Goals as goal

@@ -1,4 +1,3 @@
-use Prim.Native.Nat.{◌-◌}
 use Rattle.common_example.proofs.loops.graph.GraphLoops.{heads_start, heads_asks, heads_node, heads_on, heads_end}
 use borrow.Author.Rules.{rules}
 use Rattle.common_example.proofs.graph.words.head_words.Goals as goal

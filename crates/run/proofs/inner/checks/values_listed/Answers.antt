@@ -1,4 +1,3 @@
-use Prim.Native.Nat.{◌-◌}
 use Rattle.run.proofs.Checking.{listing_start, listing_inside, listing_on, listing_fails, listing_ends}
 use borrow.Author.Rules.{rules}
 use Rattle.run.proofs.inner.checks.values_listed.Goals as goal

@@ -1,4 +1,3 @@
-use Prim.Native.Nat.{◌-◌}
 use Rattle.run.proofs.Valued.{having_start, having_name, having_small, having_listed, having_on, having_fails, having_ends}
 use borrow.Author.Rules.{rules}
 use Rattle.run.proofs.inner.names.all_have_values.Goals as goal

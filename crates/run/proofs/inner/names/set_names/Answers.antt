@@ -1,4 +1,3 @@
-use Prim.Native.Nat.{◌-◌}
 use Rattle.run.proofs.Valued.{setting_start, setting_small, setting_inside, setting_on, setting_long, setting_ends}
 use borrow.Author.Rules.{rules}
 use Rattle.run.proofs.inner.names.set_names.Goals as goal

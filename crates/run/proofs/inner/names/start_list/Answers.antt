@@ -1,4 +1,3 @@
-use Prim.Native.Nat.{◌-◌}
 use Rattle.run.proofs.Valued.{starting, starting_name, starting_small, starting_listed, starting_on, starting_ends}
 use borrow.Author.Rules.{rules}
 use Rattle.run.proofs.inner.names.start_list.Goals as goal
