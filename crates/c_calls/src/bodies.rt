@@ -119,8 +119,7 @@ fn tell_body(answer: &mut [u32], row: Row, line: u32) -> u32
 }
 
 // Plans a body's lines in turn; after an accepted body the marks are those of the scope returned.
-#[unsafe(no_mangle)]
-pub extern "C" fn teluddru_plan_body<'a>(
+pub fn teluddru_plan_body<'a>(
     nodes: &[u32],
     children: &[u32],
     numbers: &[u64],

@@ -151,8 +151,7 @@ fn example_given<'a>(
 }
 
 // Gives a value that both patterns match, or none. Its nodes go on from the tables', its child entries from their child list.
-#[unsafe(no_mangle)]
-pub extern "C" fn teluddru_common_example<'a>(
+pub fn teluddru_common_example<'a>(
     nodes: &[u32],
     children: &[u32],
     numbers: &[u64],

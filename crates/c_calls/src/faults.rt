@@ -24,8 +24,7 @@ fn fault_row(answer: FaultAnswer) -> Row
 }
 
 // The first rule that is broken and its first place, with the number of the table check.
-#[unsafe(no_mangle)]
-pub extern "C" fn teluddru_table_fault<'a>(
+pub fn teluddru_table_fault<'a>(
     nodes: &[u32],
     children: &[u32],
     numbers: &[u64],

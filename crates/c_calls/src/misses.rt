@@ -45,8 +45,7 @@ fn miss_row(answer: MissAnswer) -> Row
 }
 
 // Where the run of the pattern on the value misses first. `values` has for each name number the node of its value, or 0.
-#[unsafe(no_mangle)]
-pub extern "C" fn teluddru_first_miss<'a>(
+pub fn teluddru_first_miss<'a>(
     nodes: &[u32],
     children: &[u32],
     numbers: &[u64],

@@ -22,8 +22,7 @@ fn name_row(answer: NameAnswer) -> Row
 }
 
 // Adds the name that stands at a range of the text. The first `used` places of the name table hold names, the others are free.
-#[unsafe(no_mangle)]
-pub extern "C" fn teluddru_add_name<'a>(
+pub fn teluddru_add_name<'a>(
     nodes: &[u32],
     children: &[u32],
     numbers: &[u64],

@@ -10,8 +10,7 @@ use operation::row::row_of;
 use planner::buffer::clear;
 
 // Plans the operation into the buffer, for a version of Rego: any but 1 is version 0. Roots that it doesn't use are ignored.
-#[unsafe(no_mangle)]
-pub extern "C" fn teluddru_plan<'a>(
+pub fn teluddru_plan<'a>(
     nodes: &[u32],
     children: &[u32],
     numbers: &[u64],

@@ -10,8 +10,7 @@ use planner::buffer::clear;
 use report::names_report;
 
 // For each name 1 bound in the pattern's plan, 2 met or a computed key but not bound there, else 0.
-#[unsafe(no_mangle)]
-pub extern "C" fn teluddru_names_report<'a>(
+pub fn teluddru_names_report<'a>(
     nodes: &[u32],
     children: &[u32],
     numbers: &[u64],

@@ -10,8 +10,7 @@ use planner::buffer::clear;
 use run::run;
 
 // Runs the pattern on the value. `values` has for each name number the node of its value, or 0.
-#[unsafe(no_mangle)]
-pub extern "C" fn teluddru_run<'a>(
+pub fn teluddru_run<'a>(
     nodes: &[u32],
     children: &[u32],
     numbers: &[u64],

@@ -10,8 +10,7 @@ use planner::buffer::clear;
 use tolerance::run_with_tolerance;
 
 // Runs the pattern on the value, whatever numbers from the lowest to the highest its nodes have. Node n has two words of each list, from word (n - 1) * 2 on.
-#[unsafe(no_mangle)]
-pub extern "C" fn teluddru_run_with_tolerance<'a>(
+pub fn teluddru_run_with_tolerance<'a>(
     nodes: &[u32],
     children: &[u32],
     numbers: &[u64],

@@ -2,8 +2,7 @@
 ghost use Rattle.std.specs.Prelude.{◌≡◌};
 
 // The header's TELUDDRU_VERSION_NUMBER, of 0.1.0.
-#[unsafe(no_mangle)]
-pub extern "C" fn teluddru_version() -> u32
+pub fn teluddru_version() -> u32
     ensures { result ≡ 100 }
 {
     100
