@@ -1,7 +1,9 @@
 -- The laws of the calls over records.
+pub mod Cells
 pub mod Copying
 pub mod Limits
 pub mod AllNames
+pub mod LocalArray
 pub mod Trials
 pub mod Demand
 pub mod AddedNames
