@@ -1,5 +1,6 @@
 -- The laws of the calls over records.
 pub mod Cells
+pub mod Locals
 pub mod Copying
 pub mod Limits
 pub mod AllNames
