@@ -1,6 +1,7 @@
 -- The laws of the calls over records.
 pub mod Cells
 pub mod Locals
+pub mod Params
 pub mod Copying
 pub mod Limits
 pub mod AllNames
