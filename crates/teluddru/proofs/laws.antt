@@ -7,5 +7,6 @@ pub mod Limits
 pub mod AllNames
 pub mod LocalArray
 pub mod Trials
+pub mod Passing
 pub mod Demand
 pub mod AddedNames
