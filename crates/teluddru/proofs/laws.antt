@@ -1,4 +1,4 @@
--- The laws of the calls over records.
+-- The laws, and what walks by hand share.
 pub mod Cells
 pub mod Locals
 pub mod Params
