@@ -83,7 +83,8 @@ pub fn add_name<'a>(
     start: u32,
     length: u32,
 ) -> NameAnswer
-    ensures { NameAddedTo names (add_outcome (tables nodes.now children.now numbers.now (name_words names.old) strings.now text.now) used start length) used start length result }
+    ensures { let T = tables nodes.now children.now numbers.now (name_words names.old) strings.now text.now in
+        NameAddedTo names (add_outcome T used start length) used start length result }
 {
     let words = copy_names(names);
     let answer = add_words(
