@@ -1,4 +1,5 @@
 // `:=` and `=` (assignment.rs).
+ghost use Rattle.table.specs.Contents.{contents};
 ghost use Rattle.table.specs.Lent.{given, lent};
 ghost use Rattle.std.specs.Prelude.{◌≡◌, []};
 ghost use Rattle.table.specs.Tables.{kind_of};
@@ -9,6 +10,7 @@ ghost use Rattle.assignment.specs.code.Previewing.{GoodPairIn, SidesAsksIn};
 ghost use Rattle.checks.specs.code.Post.{WorkingSpace};
 ghost use Rattle.assignment.specs.code.Binding.{BindAsks, SideBoundIn, ColonBoundIn, opposed_kinds, underscore_at, underscore_side, RightBoundIn, ColonEqualsIn};
 
+use table::tables::Tables;
 use crate::AssignOp;
 use crate::entries::{deliver, first_same_scope};
 use crate::flatten::flatten_assignment_pairs;
@@ -44,13 +46,8 @@ fn structurally_incompatible(nodes: &[u32], a: u32, b: u32) -> bool
 }
 
 // The binding side's plan, whose entries stand in the scratch, held against the value side (ensure_structural_compatibility, then ensure_literal_match).
-fn bind_side<'a>(
-    nodes: &[u32],
-    children: &[u32],
-    numbers: &[u64],
-    names: &[u32],
-    strings: &'a [u8],
-    text: &'a [u8],
+fn bind_side(
+    tables: &Tables<'_>,
     form: u32,
     binding: u32,
     value: u32,
@@ -59,15 +56,15 @@ fn bind_side<'a>(
     count: usize,
     plan: &mut [u32],
 ) -> PlanAnswer
-    requires { BindAsks (given nodes children numbers names strings text) binding value scratch.now count }
-    ensures { SideBoundIn plan scratch (lent nodes children numbers names strings text) form binding value reading count result }
+    requires { BindAsks (contents tables.now) binding value scratch.now count }
+    ensures { SideBoundIn plan scratch (contents tables.now) form binding value reading count result }
 {
-    if structurally_incompatible(nodes, binding, value) {
+    if structurally_incompatible(tables.nodes, binding, value) {
         clear(plan);
         return PlanAnswer::IncompatibleDestructuringPatterns { side: binding };
     }
     let structure = check_literal_structure(
-        nodes, children, numbers, names, strings, text, binding, value, reading,
+        tables, binding, value, reading,
     );
     match structure {
         LiteralStructureCheck::Match => deliver(plan, scratch, form, count),
@@ -104,13 +101,8 @@ fn deliver_none(plan: &mut [u32], form: u32, side: u32) -> PlanAnswer
 }
 
 // `:=`, the left side's plan standing in the scratch.
-fn colon_equals_from<'a>(
-    nodes: &[u32],
-    children: &[u32],
-    numbers: &[u64],
-    names: &[u32],
-    strings: &'a [u8],
-    text: &'a [u8],
+fn colon_equals_from(
+    tables: &Tables<'_>,
     scope: Scope,
     left: u32,
     right: u32,
@@ -119,32 +111,27 @@ fn colon_equals_from<'a>(
     count: usize,
     plan: &mut [u32],
 ) -> PlanAnswer
-    requires { BindAsks (given nodes children numbers names strings text) left right scratch.now count }
-    ensures { ColonBoundIn plan scratch (lent nodes children numbers names strings text) scope left right reading count result }
+    requires { BindAsks (contents tables.now) left right scratch.now count }
+    ensures { ColonBoundIn plan scratch (contents tables.now) scope left right reading count result }
 {
     if !introduces_binding(scratch, count) {
         clear(plan);
         return PlanAnswer::ColonEqualsRequiresBindableLeft { left };
     }
-    let name = first_same_scope(nodes, scope, scratch, count);
+    let name = first_same_scope(tables.nodes, scope, scratch, count);
     if name != 0 {
         clear(plan);
         return PlanAnswer::VariableAlreadyDefined { name };
     }
     bind_side(
-        nodes, children, numbers, names, strings, text, 1, left, right, reading, scratch, count,
+        tables, 1, left, right, reading, scratch, count,
         plan,
     )
 }
 
 // `:=`, the left side planned into a scratch with space for an entry of each node.
-fn colon_equals_in<'a>(
-    nodes: &[u32],
-    children: &[u32],
-    numbers: &[u64],
-    names: &[u32],
-    strings: &'a [u8],
-    text: &'a [u8],
+fn colon_equals_in(
+    tables: &Tables<'_>,
     scope: Scope,
     left: u32,
     right: u32,
@@ -152,17 +139,12 @@ fn colon_equals_in<'a>(
     scratch: &mut [u32],
     plan: &mut [u32],
 ) -> PlanAnswer
-    requires { GoodPairIn scratch (given nodes children numbers names strings text) left right }
-    ensures { ColonEqualsIn plan scratch (lent nodes children numbers names strings text) scope left right reading result }
+    requires { GoodPairIn scratch (contents tables.now) left right }
+    ensures { ColonEqualsIn plan scratch (contents tables.now) scope left right reading result }
 {
     let mut binders = [0u32; 128];
     let planned = plan_pattern(
-        nodes,
-        children,
-        numbers,
-        names,
-        strings,
-        text,
+        tables,
         scope,
         ScopingMode::AllowShadowing,
         left,
@@ -172,7 +154,7 @@ fn colon_equals_in<'a>(
     );
     let count = planned.next;
     colon_equals_from(
-        nodes, children, numbers, names, strings, text, scope, left, right, reading, scratch,
+        tables, scope, left, right, reading, scratch,
         count, plan,
     )
 }
@@ -211,13 +193,8 @@ fn wildcard_side(nodes: &[u32], names: &[u32], text: &[u8], left: u32, right: u3
 }
 
 // `=`, the right side planned anew and held against the left.
-fn bind_right<'a>(
-    nodes: &[u32],
-    children: &[u32],
-    numbers: &[u64],
-    names: &[u32],
-    strings: &'a [u8],
-    text: &'a [u8],
+fn bind_right(
+    tables: &Tables<'_>,
     states: &[u8; 128],
     left: u32,
     right: u32,
@@ -226,19 +203,14 @@ fn bind_right<'a>(
     scratch: &mut [u32],
     plan: &mut [u32],
 ) -> PlanAnswer
-    requires { SidesAsksIn scratch (given nodes children numbers names strings text) states.now left right }
-    ensures { RightBoundIn plan scratch binders (lent nodes children numbers names strings text) states.now left right reading result }
+    requires { SidesAsksIn scratch (contents tables.now) states.now left right }
+    ensures { RightBoundIn plan scratch binders (contents tables.now) states.now left right reading result }
 {
     let planned = preview_binding_plan(
-        nodes, children, numbers, names, strings, text, states, right, 0, binders, scratch,
+        tables, states, right, 0, binders, scratch,
     );
     bind_side(
-        nodes,
-        children,
-        numbers,
-        names,
-        strings,
-        text,
+        tables,
         3,
         right,
         left,
@@ -250,13 +222,8 @@ fn bind_right<'a>(
 }
 
 // `=`, the sides planned into a scratch with space for an entry of each node.
-fn equals_in<'a>(
-    nodes: &[u32],
-    children: &[u32],
-    numbers: &[u64],
-    names: &[u32],
-    strings: &'a [u8],
-    text: &'a [u8],
+fn equals_in(
+    tables: &Tables<'_>,
     scope: Scope,
     left: u32,
     right: u32,
@@ -264,18 +231,13 @@ fn equals_in<'a>(
     scratch: &mut [u32],
     plan: &mut [u32],
 ) -> PlanAnswer
-    requires { GoodPairIn scratch (given nodes children numbers names strings text) left right }
-    ensures { AnsweredIn plan (equals_sides (lent nodes children numbers names strings text) scope left right reading) result × WorkingSpace scratch }
+    requires { GoodPairIn scratch (contents tables.now) left right }
+    ensures { AnsweredIn plan (equals_sides (contents tables.now) scope left right reading) result × WorkingSpace scratch }
 {
-    let states = name_states(names, text, scope, ScopingMode::RespectParent);
+    let states = name_states(tables.names, tables.text, scope, ScopingMode::RespectParent);
     let mut binders = [0u32; 128];
     let sides = preview_sides(
-        nodes,
-        children,
-        numbers,
-        names,
-        strings,
-        text,
+        tables,
         &states,
         left,
         right,
@@ -287,12 +249,7 @@ fn equals_in<'a>(
     if sides.left {
         if sides.right {
             return flatten_assignment_pairs(
-                nodes,
-                children,
-                numbers,
-                names,
-                strings,
-                text,
+                tables,
                 scope,
                 left,
                 right,
@@ -302,18 +259,13 @@ fn equals_in<'a>(
             );
         }
         return bind_side(
-            nodes, children, numbers, names, strings, text, 2, left, right, reading, scratch,
+            tables, 2, left, right, reading, scratch,
             count, plan,
         );
     }
     if sides.right {
         return bind_right(
-            nodes,
-            children,
-            numbers,
-            names,
-            strings,
-            text,
+            tables,
             &states,
             left,
             right,
@@ -327,13 +279,8 @@ fn equals_in<'a>(
 }
 
 // `=`: the wildcard form, or the sides.
-fn plan_equals<'a>(
-    nodes: &[u32],
-    children: &[u32],
-    numbers: &[u64],
-    names: &[u32],
-    strings: &'a [u8],
-    text: &'a [u8],
+fn plan_equals(
+    tables: &Tables<'_>,
     scope: Scope,
     left: u32,
     right: u32,
@@ -341,26 +288,21 @@ fn plan_equals<'a>(
     scratch: &mut [u32],
     plan: &mut [u32],
 ) -> PlanAnswer
-    requires { GoodPairIn scratch (given nodes children numbers names strings text) left right }
-    ensures { AnsweredIn plan (equals_planned (lent nodes children numbers names strings text) scope left right reading) result × WorkingSpace scratch }
+    requires { GoodPairIn scratch (contents tables.now) left right }
+    ensures { AnsweredIn plan (equals_planned (contents tables.now) scope left right reading) result × WorkingSpace scratch }
 {
-    let side = wildcard_side(nodes, names, text, left, right);
+    let side = wildcard_side(tables.nodes, tables.names, tables.text, left, right);
     if side != 0 {
         return deliver_none(plan, 6, side);
     }
     equals_in(
-        nodes, children, numbers, names, strings, text, scope, left, right, reading, scratch, plan,
+        tables, scope, left, right, reading, scratch, plan,
     )
 }
 
 // By the operator, the sides planned into a scratch with space for an entry of each node.
-fn plan_assignment_in<'a>(
-    nodes: &[u32],
-    children: &[u32],
-    numbers: &[u64],
-    names: &[u32],
-    strings: &'a [u8],
-    text: &'a [u8],
+fn plan_assignment_in(
+    tables: &Tables<'_>,
     scope: Scope,
     op: AssignOp,
     left: u32,
@@ -369,29 +311,24 @@ fn plan_assignment_in<'a>(
     scratch: &mut [u32],
     plan: &mut [u32],
 ) -> PlanAnswer
-    requires { GoodPairIn scratch (given nodes children numbers names strings text) left right }
-    ensures { AnsweredIn plan (by_operator op (lent nodes children numbers names strings text) scope left right reading) result × WorkingSpace scratch }
+    requires { GoodPairIn scratch (contents tables.now) left right }
+    ensures { AnsweredIn plan (by_operator op (contents tables.now) scope left right reading) result × WorkingSpace scratch }
 {
     match op {
         AssignOp::ColEq => colon_equals_in(
-            nodes, children, numbers, names, strings, text, scope, left, right, reading, scratch,
+            tables, scope, left, right, reading, scratch,
             plan,
         ),
         AssignOp::Eq => plan_equals(
-            nodes, children, numbers, names, strings, text, scope, left, right, reading, scratch,
+            tables, scope, left, right, reading, scratch,
             plan,
         ),
     }
 }
 
 // Few nodes have a small scratch, since clearing the larger takes longer than a small plan.
-fn plan_assignment<'a>(
-    nodes: &[u32],
-    children: &[u32],
-    numbers: &[u64],
-    names: &[u32],
-    strings: &'a [u8],
-    text: &'a [u8],
+fn plan_assignment(
+    tables: &Tables<'_>,
     scope: Scope,
     op: AssignOp,
     left: u32,
@@ -399,18 +336,13 @@ fn plan_assignment<'a>(
     reading: Reading,
     plan: &mut [u32],
 ) -> PlanAnswer
-    requires { GoodPair (given nodes children numbers names strings text) left right }
-    ensures { AnsweredIn plan (by_operator op (lent nodes children numbers names strings text) scope left right reading) result }
+    requires { GoodPair (contents tables.now) left right }
+    ensures { AnsweredIn plan (by_operator op (contents tables.now) scope left right reading) result }
 {
-    if nodes.len() <= SMALL_NODE_WORDS {
+    if tables.nodes.len() <= SMALL_NODE_WORDS {
         let mut scratch = [0u32; SMALL_WORDS];
         return plan_assignment_in(
-            nodes,
-            children,
-            numbers,
-            names,
-            strings,
-            text,
+            tables,
             scope,
             op,
             left,
@@ -422,12 +354,7 @@ fn plan_assignment<'a>(
     }
     let mut scratch = [0u32; PATTERN_WORDS];
     plan_assignment_in(
-        nodes,
-        children,
-        numbers,
-        names,
-        strings,
-        text,
+        tables,
         scope,
         op,
         left,
@@ -438,13 +365,8 @@ fn plan_assignment<'a>(
     )
 }
 
-pub fn create_assignment_binding_plan<'a>(
-    nodes: &[u32],
-    children: &[u32],
-    numbers: &[u64],
-    names: &[u32],
-    strings: &'a [u8],
-    text: &'a [u8],
+pub fn create_assignment_binding_plan(
+    tables: &Tables<'_>,
     scope: Scope,
     op: AssignOp,
     left: u32,
@@ -452,22 +374,22 @@ pub fn create_assignment_binding_plan<'a>(
     reading: Reading,
     plan: &mut [u32],
 ) -> PlanAnswer
-    ensures { AnsweredIn plan (assignment_outcome (lent nodes children numbers names strings text) scope op left right reading) result }
+    ensures { AnsweredIn plan (assignment_outcome (contents tables.now) scope op left right reading) result }
 {
-    let checked = check(nodes, children, numbers, names, strings, text, scope);
+    let checked = check(tables, scope);
     if let TableAnswer::Refused(refused) = checked {
         clear(plan);
         return PlanAnswer::TableRefused(refused);
     }
-    if !is_node(nodes, left) {
+    if !is_node(tables.nodes, left) {
         clear(plan);
         return PlanAnswer::RootOutside;
     }
-    if !is_node(nodes, right) {
+    if !is_node(tables.nodes, right) {
         clear(plan);
         return PlanAnswer::RootOutside;
     }
     plan_assignment(
-        nodes, children, numbers, names, strings, text, scope, op, left, right, reading, plan,
+        tables, scope, op, left, right, reading, plan,
     )
 }

@@ -1,4 +1,5 @@
 // The pairs of an `=` both of whose sides bind (assignment.rs, flatten_assignment_pairs).
+ghost use Rattle.table.specs.Contents.{contents};
 ghost use Rattle.table.specs.Lent.{given, lent};
 ghost use Rattle.std.specs.Prelude.{◌≤◌, ◌^◌};
 ghost use Rattle.planner.specs.Entries.{read_entries};
@@ -8,6 +9,7 @@ ghost use Rattle.assignment.specs.code.Previewing.{ReadAsks, GoodPairIn};
 ghost use Rattle.checks.specs.code.Post.{WorkingSpaces};
 ghost use Rattle.assignment.specs.code.Flattening.{Compared, Bound, SideAsksIn, FlattenAsksIn, ArraysAsksIn, ByKeyAsksIn, ItemsAsksIn, ObjectFieldsAsksIn, SideFlattened, NodesFlattened, ArraysFlattened, ItemsFlattened, ObjectsFlattened};
 
+use table::tables::Tables;
 use crate::judge::{Judgement, judge};
 use crate::keys::{ObjectPairs, collect_object_pairs, field_sides};
 use crate::preview::{learn_names, preview_binding_plan};
@@ -54,13 +56,8 @@ fn bind_planned(
 }
 
 // A side that binds to the other, its plan still to be made.
-fn bind_unplanned<'a>(
-    nodes: &[u32],
-    children: &[u32],
-    numbers: &[u64],
-    names: &[u32],
-    strings: &'a [u8],
-    text: &'a [u8],
+fn bind_unplanned(
+    tables: &Tables<'_>,
     states: &mut [u8; 128],
     pattern: u32,
     value: u32,
@@ -69,24 +66,19 @@ fn bind_unplanned<'a>(
     plan: &mut [u32],
     at: usize,
 ) -> Flattened
-    requires { SideAsksIn scratch (given nodes children numbers names strings text) states.old pattern value at }
-    ensures { SideFlattened states scratch binders plan (lent nodes children numbers names strings text) pattern value at result }
+    requires { SideAsksIn scratch (contents tables.now) states.old pattern value at }
+    ensures { SideFlattened states scratch binders plan (contents tables.now) pattern value at result }
 {
     let planned = preview_binding_plan(
-        nodes, children, numbers, names, strings, text, states, pattern, 1, binders, scratch,
+        tables, states, pattern, 1, binders, scratch,
     );
     bind_planned(states, value, binders, scratch, planned.count, plan, at)
 }
 
 // Two sides in pairs, from entry `at` on.
 #[cycle(flatten_flatten_arrays_flatten_fields_flatten_items_flatten_objects)]
-fn flatten<'a>(
-    nodes: &[u32],
-    children: &[u32],
-    numbers: &[u64],
-    names: &[u32],
-    strings: &'a [u8],
-    text: &'a [u8],
+fn flatten(
+    tables: &Tables<'_>,
     states: &mut [u8; 128],
     left: u32,
     right: u32,
@@ -95,11 +87,11 @@ fn flatten<'a>(
     plan: &mut [u32],
     at: usize,
 ) -> Flattened
-    requires { FlattenAsksIn scratch (given nodes children numbers names strings text) states.old left right at }
-    ensures { NodesFlattened states plan (lent nodes children numbers names strings text) left right at result × WorkingSpaces binders scratch }
+    requires { FlattenAsksIn scratch (contents tables.now) states.old left right at }
+    ensures { NodesFlattened states plan (contents tables.now) left right at result × WorkingSpaces binders scratch }
 {
     let verdict = judge(
-        nodes, children, numbers, names, strings, text, states, left, right, binders, scratch,
+        tables, states, left, right, binders, scratch,
     );
     let count = verdict.count;
     let way = verdict.way;
@@ -109,15 +101,15 @@ fn flatten<'a>(
             states, right, binders, scratch, count, plan, at,
         ),
         Judgement::BindRight => return bind_unplanned(
-            nodes, children, numbers, names, strings, text, states, right, left, binders, scratch,
+            tables, states, right, left, binders, scratch,
             plan, at,
         ),
         Judgement::Items => return flatten_arrays(
-            nodes, children, numbers, names, strings, text, states, left, right, binders, scratch,
+            tables, states, left, right, binders, scratch,
             plan, at,
         ),
         Judgement::ByKey => return flatten_objects(
-            nodes, children, numbers, names, strings, text, states, left, right, binders, scratch,
+            tables, states, left, right, binders, scratch,
             plan, at,
         ),
         Judgement::Refuse => return Flattened::Refused(
@@ -127,13 +119,8 @@ fn flatten<'a>(
 }
 
 #[cycle(flatten_flatten_arrays_flatten_fields_flatten_items_flatten_objects)]
-fn flatten_arrays<'a>(
-    nodes: &[u32],
-    children: &[u32],
-    numbers: &[u64],
-    names: &[u32],
-    strings: &'a [u8],
-    text: &'a [u8],
+fn flatten_arrays(
+    tables: &Tables<'_>,
     states: &mut [u8; 128],
     left: u32,
     right: u32,
@@ -142,23 +129,18 @@ fn flatten_arrays<'a>(
     plan: &mut [u32],
     at: usize,
 ) -> Flattened
-    requires { ArraysAsksIn scratch (given nodes children numbers names strings text) states.old left right at }
-    ensures { ArraysFlattened states plan (lent nodes children numbers names strings text) left right at result × WorkingSpaces binders scratch }
+    requires { ArraysAsksIn scratch (contents tables.now) states.old left right at }
+    ensures { ArraysFlattened states plan (contents tables.now) left right at result × WorkingSpaces binders scratch }
 {
-    let size = count_of(nodes, left);
-    let other = count_of(nodes, right);
+    let size = count_of(tables.nodes, left);
+    let other = count_of(tables.nodes, right);
     if size != other {
         return Flattened::Refused(PlanAnswer::ArraySizeMismatch { left, size, other });
     }
-    let left_first = first_of(nodes, left) as usize;
-    let right_first = first_of(nodes, right) as usize;
+    let left_first = first_of(tables.nodes, left) as usize;
+    let right_first = first_of(tables.nodes, right) as usize;
     flatten_items(
-        nodes,
-        children,
-        numbers,
-        names,
-        strings,
-        text,
+        tables,
         states,
         left_first,
         right,
@@ -173,13 +155,8 @@ fn flatten_arrays<'a>(
 
 // The items of two arrays, `count` of them from two child entries on.
 #[cycle(flatten_flatten_arrays_flatten_fields_flatten_items_flatten_objects)]
-fn flatten_items<'a>(
-    nodes: &[u32],
-    children: &[u32],
-    numbers: &[u64],
-    names: &[u32],
-    strings: &'a [u8],
-    text: &'a [u8],
+fn flatten_items(
+    tables: &Tables<'_>,
     states: &mut [u8; 128],
     lefts: usize,
     parent: u32,
@@ -190,18 +167,18 @@ fn flatten_items<'a>(
     plan: &mut [u32],
     at: usize,
 ) -> Flattened
-    requires { ItemsAsksIn scratch (given nodes children numbers names strings text) states.old lefts parent rights count at }
-    ensures { ItemsFlattened states plan (lent nodes children numbers names strings text) lefts rights count at result × WorkingSpaces binders scratch }
+    requires { ItemsAsksIn scratch (contents tables.now) states.old lefts parent rights count at }
+    ensures { ItemsFlattened states plan (contents tables.now) lefts rights count at result × WorkingSpaces binders scratch }
 {
     let mut left_place = lefts;
     let mut right_place = rights;
     let mut more = count;
     let mut here = at;
     while 0 < more {
-        let left = child_at(children, left_place);
-        let right = child_at(children, right_place);
+        let left = child_at(tables.children, left_place);
+        let right = child_at(tables.children, right_place);
         match flatten(
-            nodes, children, numbers, names, strings, text, states, left, right, binders, scratch,
+            tables, states, left, right, binders, scratch,
             plan, here,
         ) {
             Flattened::Next { at: next } => here = next,
@@ -215,13 +192,8 @@ fn flatten_items<'a>(
 }
 
 #[cycle(flatten_flatten_arrays_flatten_fields_flatten_items_flatten_objects)]
-fn flatten_objects<'a>(
-    nodes: &[u32],
-    children: &[u32],
-    numbers: &[u64],
-    names: &[u32],
-    strings: &'a [u8],
-    text: &'a [u8],
+fn flatten_objects(
+    tables: &Tables<'_>,
     states: &mut [u8; 128],
     left: u32,
     right: u32,
@@ -230,15 +202,15 @@ fn flatten_objects<'a>(
     plan: &mut [u32],
     at: usize,
 ) -> Flattened
-    requires { ByKeyAsksIn scratch (given nodes children numbers names strings text) states.old left right at }
-    ensures { ObjectsFlattened states plan (lent nodes children numbers names strings text) left right at result × WorkingSpaces binders scratch }
+    requires { ByKeyAsksIn scratch (contents tables.now) states.old left right at }
+    ensures { ObjectsFlattened states plan (contents tables.now) left right at result × WorkingSpaces binders scratch }
 {
     let mut order = [0u8; 256];
     match collect_object_pairs(
-        nodes, children, numbers, names, strings, text, left, right, &mut order,
+        tables, left, right, &mut order,
     ) {
         ObjectPairs::Matched { total } => return flatten_fields(
-            nodes, children, numbers, names, strings, text, states, left, right, &order, total,
+            tables, states, left, right, &order, total,
             binders, scratch, plan, at,
         ),
         ObjectPairs::Refused(answer) => return Flattened::Refused(answer),
@@ -247,13 +219,8 @@ fn flatten_objects<'a>(
 
 // The right object's fields as written, each with the left's value under its key.
 #[cycle(flatten_flatten_arrays_flatten_fields_flatten_items_flatten_objects)]
-fn flatten_fields<'a>(
-    nodes: &[u32],
-    children: &[u32],
-    numbers: &[u64],
-    names: &[u32],
-    strings: &'a [u8],
-    text: &'a [u8],
+fn flatten_fields(
+    tables: &Tables<'_>,
     states: &mut [u8; 128],
     left: u32,
     right: u32,
@@ -264,23 +231,18 @@ fn flatten_fields<'a>(
     plan: &mut [u32],
     at: usize,
 ) -> Flattened
-    requires { ObjectFieldsAsksIn scratch (given nodes children numbers names strings text) states.old left right order.now total at }
-    ensures { ObjectsFlattened states plan (lent nodes children numbers names strings text) left right at result × WorkingSpaces binders scratch }
+    requires { ObjectFieldsAsksIn scratch (contents tables.now) states.old left right order.now total at }
+    ensures { ObjectsFlattened states plan (contents tables.now) left right at result × WorkingSpaces binders scratch }
 {
-    let mut place = first_of(nodes, right) as usize;
-    let mut more = count_of(nodes, right) as usize;
+    let mut place = first_of(tables.nodes, right) as usize;
+    let mut more = count_of(tables.nodes, right) as usize;
     let mut here = at;
     while 0 < more {
         let sides = field_sides(
-            nodes, children, numbers, names, strings, text, left, order, total, place,
+            tables, left, order, total, place,
         );
         match flatten(
-            nodes,
-            children,
-            numbers,
-            names,
-            strings,
-            text,
+            tables,
             states,
             sides.left,
             sides.right,
@@ -299,13 +261,8 @@ fn flatten_fields<'a>(
 }
 
 // The pairs of two sides of a good table, in the lent buffer. The scratch has space for an entry of each node.
-pub(crate) fn flatten_assignment_pairs<'a>(
-    nodes: &[u32],
-    children: &[u32],
-    numbers: &[u64],
-    names: &[u32],
-    strings: &'a [u8],
-    text: &'a [u8],
+pub(crate) fn flatten_assignment_pairs(
+    tables: &Tables<'_>,
     scope: Scope,
     left: u32,
     right: u32,
@@ -313,17 +270,12 @@ pub(crate) fn flatten_assignment_pairs<'a>(
     scratch: &mut [u32],
     plan: &mut [u32],
 ) -> PlanAnswer
-    requires { GoodPairIn scratch (given nodes children numbers names strings text) left right }
-    ensures { AnsweredIn plan (pairs_outcome (lent nodes children numbers names strings text) scope left right) result × WorkingSpaces binders scratch }
+    requires { GoodPairIn scratch (contents tables.now) left right }
+    ensures { AnsweredIn plan (pairs_outcome (contents tables.now) scope left right) result × WorkingSpaces binders scratch }
 {
-    let mut states = name_states(names, text, scope, ScopingMode::RespectParent);
+    let mut states = name_states(tables.names, tables.text, scope, ScopingMode::RespectParent);
     match flatten(
-        nodes,
-        children,
-        numbers,
-        names,
-        strings,
-        text,
+        tables,
         &mut states,
         left,
         right,

@@ -1,10 +1,12 @@
 // What becomes of two sides.
+ghost use Rattle.table.specs.Contents.{contents};
 ghost use Rattle.table.specs.Lent.{given, lent};
 ghost use Rattle.std.specs.Prelude.{◌≡◌, ◌||◌};
 ghost use Rattle.assignment.specs.declared.judge.Pairing.TheVariants.{Whole};
 ghost use Rattle.assignment.specs.code.Judging.{objects_pairing, kinds_pairing, judgement_of, JudgesIn};
 ghost use Rattle.assignment.specs.code.Previewing.{SidesAsksIn};
 
+use table::tables::Tables;
 use crate::keys::literal_keys;
 use crate::preview::preview_sides;
 use table::node_kind;
@@ -123,26 +125,21 @@ fn judge_sides(
 }
 
 // What becomes of two nodes, by the names that are known. The left one's plan and binders stay.
-pub(crate) fn judge<'a>(
-    nodes: &[u32],
-    children: &[u32],
-    numbers: &[u64],
-    names: &[u32],
-    strings: &'a [u8],
-    text: &'a [u8],
+pub(crate) fn judge(
+    tables: &Tables<'_>,
     states: &[u8; 128],
     left: u32,
     right: u32,
     binders: &mut [u32; 128],
     scratch: &mut [u32],
 ) -> JudgedSides
-    requires { SidesAsksIn scratch (given nodes children numbers names strings text) states.now left right }
-    ensures { JudgesIn scratch binders (lent nodes children numbers names strings text) states.now left right result.count result.way }
+    requires { SidesAsksIn scratch (contents tables.now) states.now left right }
+    ensures { JudgesIn scratch binders (contents tables.now) states.now left right result.count result.way }
 {
     let sides = preview_sides(
-        nodes, children, numbers, names, strings, text, states, left, right, 1, binders, scratch,
+        tables, states, left, right, 1, binders, scratch,
     );
-    let way = judge_sides(nodes, children, left, right, sides.left, sides.right);
+    let way = judge_sides(tables.nodes, tables.children, left, right, sides.left, sides.right);
     JudgedSides {
         way,
         count: sides.count,

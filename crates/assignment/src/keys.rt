@@ -1,8 +1,10 @@
 // The keys of two objects, held against each other.
+ghost use Rattle.table.specs.Contents.{contents};
 ghost use Rattle.table.specs.Lent.{given, lent};
 ghost use Rattle.std.specs.Prelude.{◌≡◌};
 ghost use Rattle.assignment.specs.code.KeyMatching.{literal_keys, FindAsks, partner_of, MissingAsks, missing_from, KeysAsks, KeysMatched, FieldAsks, FieldSides};
 
+use table::tables::Tables;
 use literal::Comparison;
 use planner::PlanAnswer;
 use planner::fields::field_at;
@@ -42,31 +44,26 @@ pub(crate) fn literal_keys(nodes: &[u32], children: &[u32], node: u32) -> bool
 }
 
 // The node of an object's last value under a literal key, by binary search, or 0.
-fn find_value<'a>(
-    nodes: &[u32],
-    children: &[u32],
-    numbers: &[u64],
-    names: &[u32],
-    strings: &'a [u8],
-    text: &'a [u8],
+fn find_value(
+    tables: &Tables<'_>,
     object: u32,
     order: &[u8; 256],
     total: usize,
     key: u32,
 ) -> u32
-    requires { FindAsks (given nodes children numbers names strings text) object order.now total key }
-    ensures { result ≡ partner_of (lent nodes children numbers names strings text) object key }
+    requires { FindAsks (contents tables.now) object order.now total key }
+    ensures { result ≡ partner_of (contents tables.now) object key }
 {
-    let first = first_of(nodes, object) as usize;
+    let first = first_of(tables.nodes, object) as usize;
     let mut low: usize = 0;
     let mut high = total;
     while low < high {
         let middle = low + (high - low) / 2;
         let place = first + field_at(order, middle) * 2;
-        let other = child_at(children, place);
-        let way = compare_literals(nodes, numbers, strings, text, key, other);
+        let other = child_at(tables.children, place);
+        let way = compare_literals(tables.nodes, tables.numbers, tables.strings, tables.text, key, other);
         match way {
-            Comparison::Equal => return child_at(children, place + 1),
+            Comparison::Equal => return child_at(tables.children, place + 1),
             Comparison::Less => high = middle,
             Comparison::Greater => low = middle + 1,
             Comparison::NoLiteral => return 0,
@@ -76,28 +73,23 @@ fn find_value<'a>(
 }
 
 // The first key, of `count` fields from child entry `from` on, that the object lacks, or 0.
-fn first_missing<'a>(
-    nodes: &[u32],
-    children: &[u32],
-    numbers: &[u64],
-    names: &[u32],
-    strings: &'a [u8],
-    text: &'a [u8],
+fn first_missing(
+    tables: &Tables<'_>,
     object: u32,
     order: &[u8; 256],
     total: usize,
     from: usize,
     count: usize,
 ) -> u32
-    requires { MissingAsks (given nodes children numbers names strings text) object order.now total from count }
-    ensures { result ≡ missing_from (lent nodes children numbers names strings text) object from count }
+    requires { MissingAsks (contents tables.now) object order.now total from count }
+    ensures { result ≡ missing_from (contents tables.now) object from count }
 {
     let mut place = from;
     let mut more = count;
     while 0 < more {
-        let key = child_at(children, place);
+        let key = child_at(tables.children, place);
         if find_value(
-            nodes, children, numbers, names, strings, text, object, order, total, key,
+            tables, object, order, total, key,
         ) == 0
         {
             return key;
@@ -109,26 +101,21 @@ fn first_missing<'a>(
 }
 
 // The left object's keys in order, if they are the right's.
-pub(crate) fn collect_object_pairs<'a>(
-    nodes: &[u32],
-    children: &[u32],
-    numbers: &[u64],
-    names: &[u32],
-    strings: &'a [u8],
-    text: &'a [u8],
+pub(crate) fn collect_object_pairs(
+    tables: &Tables<'_>,
     left: u32,
     right: u32,
     order: &mut [u8; 256],
 ) -> ObjectPairs
-    requires { KeysAsks (given nodes children numbers names strings text) left right }
-    ensures { KeysMatched (lent nodes children numbers names strings text) left right order.new result }
+    requires { KeysAsks (contents tables.now) left right }
+    ensures { KeysMatched (contents tables.now) left right order.new result }
 {
-    let left_first = first_of(nodes, left) as usize;
-    let left_count = count_of(nodes, left) as usize;
-    let first = first_of(nodes, right) as usize;
-    let count = count_of(nodes, right);
+    let left_first = first_of(tables.nodes, left) as usize;
+    let left_count = count_of(tables.nodes, left) as usize;
+    let first = first_of(tables.nodes, right) as usize;
+    let count = count_of(tables.nodes, right);
     let keys = order_fields(
-        nodes, children, numbers, names, strings, text, left_first, left_count, order,
+        tables, left_first, left_count, order,
     );
     if keys != count {
         return ObjectPairs::Refused(PlanAnswer::ObjectFieldCountMismatch {
@@ -138,12 +125,7 @@ pub(crate) fn collect_object_pairs<'a>(
         });
     }
     let key = first_missing(
-        nodes,
-        children,
-        numbers,
-        names,
-        strings,
-        text,
+        tables,
         left,
         order,
         keys as usize,
@@ -159,26 +141,21 @@ pub(crate) fn collect_object_pairs<'a>(
 }
 
 // The value of the field at a child entry, and the left object's value under its key.
-pub(crate) fn field_sides<'a>(
-    nodes: &[u32],
-    children: &[u32],
-    numbers: &[u64],
-    names: &[u32],
-    strings: &'a [u8],
-    text: &'a [u8],
+pub(crate) fn field_sides(
+    tables: &Tables<'_>,
     left: u32,
     order: &[u8; 256],
     total: usize,
     place: usize,
 ) -> NodePair
-    requires { FieldAsks (given nodes children numbers names strings text) left order.now total place }
-    ensures { FieldSides (lent nodes children numbers names strings text) left place result.left result.right }
+    requires { FieldAsks (contents tables.now) left order.now total place }
+    ensures { FieldSides (contents tables.now) left place result.left result.right }
 {
-    let key = child_at(children, place);
+    let key = child_at(tables.children, place);
     let other = find_value(
-        nodes, children, numbers, names, strings, text, left, order, total, key,
+        tables, left, order, total, key,
     );
-    let value = child_at(children, place + 1);
+    let value = child_at(tables.children, place + 1);
     NodePair {
         left: other,
         right: value,

@@ -1,10 +1,12 @@
 // A side's plan, and the names that it binds.
+ghost use Rattle.table.specs.Contents.{contents};
 ghost use Rattle.table.specs.Lent.{given, lent};
 ghost use Rattle.std.specs.Prelude.{◌<◌, ◌≡◌};
 ghost use Rattle.planner.specs.Layout.{binds_any};
 ghost use Rattle.planner.specs.Entries.{read_entries};
 ghost use Rattle.assignment.specs.code.Previewing.{PreviewAsksIn, PreviewedIn, LearntAt, Learnt, SidesAsksIn, SidesToldIn};
 
+use table::tables::Tables;
 use planner::buffer::{ENTRY_WORDS, clear};
 use planner::entry_kind;
 use planner::inner::destructuring::create_destructuring_plan_with_tracking;
@@ -50,25 +52,20 @@ pub(crate) fn introduces_binding(scratch: &[u32], count: usize) -> bool
 }
 
 // The plan of a side by the states alone, in the scratch: at position 1 below a pair, else at 0.
-pub(crate) fn preview_binding_plan<'a>(
-    nodes: &[u32],
-    children: &[u32],
-    numbers: &[u64],
-    names: &[u32],
-    strings: &'a [u8],
-    text: &'a [u8],
+pub(crate) fn preview_binding_plan(
+    tables: &Tables<'_>,
     states: &[u8; 128],
     node: u32,
     position: u32,
     binders: &mut [u32; 128],
     scratch: &mut [u32],
 ) -> Preview
-    requires { PreviewAsksIn scratch (given nodes children numbers names strings text) states.now node }
-    ensures { PreviewedIn scratch binders (lent nodes children numbers names strings text) states.now node position result.count result.binds }
+    requires { PreviewAsksIn scratch (contents tables.now) states.now node }
+    ensures { PreviewedIn scratch binders (contents tables.now) states.now node position result.count result.binds }
 {
     clear(binders);
     let planned = create_destructuring_plan_with_tracking(
-        nodes, children, numbers, names, strings, text, states, node, position, binders, scratch, 0,
+        tables, states, node, position, binders, scratch, 0,
     );
     let count = planned.next;
     let binds = introduces_binding(scratch, count);
@@ -76,13 +73,8 @@ pub(crate) fn preview_binding_plan<'a>(
 }
 
 // Neither side's preview sees the other's names. The left one's plan and binders stay.
-pub(crate) fn preview_sides<'a>(
-    nodes: &[u32],
-    children: &[u32],
-    numbers: &[u64],
-    names: &[u32],
-    strings: &'a [u8],
-    text: &'a [u8],
+pub(crate) fn preview_sides(
+    tables: &Tables<'_>,
     states: &[u8; 128],
     left: u32,
     right: u32,
@@ -90,14 +82,14 @@ pub(crate) fn preview_sides<'a>(
     binders: &mut [u32; 128],
     scratch: &mut [u32],
 ) -> Sides
-    requires { SidesAsksIn scratch (given nodes children numbers names strings text) states.now left right }
-    ensures { SidesToldIn scratch binders states (lent nodes children numbers names strings text) left right position result.count result.left result.right }
+    requires { SidesAsksIn scratch (contents tables.now) states.now left right }
+    ensures { SidesToldIn scratch binders states (contents tables.now) left right position result.count result.left result.right }
 {
     let other = preview_binding_plan(
-        nodes, children, numbers, names, strings, text, states, right, position, binders, scratch,
+        tables, states, right, position, binders, scratch,
     );
     let one = preview_binding_plan(
-        nodes, children, numbers, names, strings, text, states, left, position, binders, scratch,
+        tables, states, left, position, binders, scratch,
     );
     Sides {
         left: one.binds,

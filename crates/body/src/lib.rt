@@ -6,12 +6,14 @@ pub mod lines;
 mod ready;
 mod sides;
 
+ghost use Rattle.table.specs.Contents.{contents};
 ghost use Rattle.table.specs.Lent.{given, lent};
 ghost use Rattle.std.specs.Prelude.{◌≡◌, true};
 ghost use Rattle.body.specs.Lines.{is_body};
 ghost use Rattle.body.specs.Body.{body_outcome, BodyAnsweredIn};
 ghost use Rattle.body.specs.code.Post.{StatesOf, PlanHeld, SettledIn, LineDoneIn};
 
+use table::tables::Tables;
 use crate::binding::bind_plan;
 use crate::lines::{LINE_WORDS, is_body, line_at};
 use crate::ready::line_unready;
@@ -56,13 +58,8 @@ struct LineStep {
 }
 
 // A line that is planned into the buffer: a name that is not ready refuses it, or what its plan binds is bound in the scope.
-fn settle_line<'a>(
-    nodes: &[u32],
-    children: &[u32],
-    numbers: &[u64],
-    names: &[u32],
-    strings: &'a [u8],
-    text: &'a [u8],
+fn settle_line(
+    tables: &Tables<'_>,
     scope: Scope,
     states: &mut [u8; 128],
     operation: Operation,
@@ -72,11 +69,11 @@ fn settle_line<'a>(
     entries: usize,
     plan: &mut [u32],
 ) -> LineStep
-    requires { PlanHeld (given nodes children numbers names strings text) scope states.old plan.old entries }
-    ensures { SettledIn plan states.new (lent nodes children numbers names strings text) scope operation line form side entries result }
+    requires { PlanHeld (contents tables.now) scope states.old plan.old entries }
+    ensures { SettledIn plan states.new (contents tables.now) scope operation line form side entries result }
 {
     let name = line_unready(
-        nodes, children, numbers, names, strings, text, scope, *states, operation, form, side,
+        tables, scope, *states, operation, form, side,
         plan, entries,
     );
     if name != 0 {
@@ -87,7 +84,7 @@ fn settle_line<'a>(
             scope,
         };
     }
-    let next = bind_plan(nodes, scope, states, plan, entries);
+    let next = bind_plan(tables.nodes, scope, states, plan, entries);
     LineStep {
         planned: true,
         answer: BodyAnswer::Accepted {
@@ -100,24 +97,19 @@ fn settle_line<'a>(
 }
 
 // One line: its own refusals come before a name that is not ready.
-fn plan_line<'a>(
-    nodes: &[u32],
-    children: &[u32],
-    numbers: &[u64],
-    names: &[u32],
-    strings: &'a [u8],
-    text: &'a [u8],
+fn plan_line(
+    tables: &Tables<'_>,
     scope: Scope,
     states: &mut [u8; 128],
     operation: Operation,
     line: u32,
     plan: &mut [u32],
 ) -> LineStep
-    requires { StatesOf (given nodes children numbers names strings text) scope states.old }
-    ensures { LineDoneIn plan states.new (lent nodes children numbers names strings text) scope operation line result }
+    requires { StatesOf (contents tables.now) scope states.old }
+    ensures { LineDoneIn plan states.new (contents tables.now) scope operation line result }
 {
     let answer = operation::plan(
-        nodes, children, numbers, names, strings, text, scope, operation, REGO_V0, plan,
+        tables, scope, operation, REGO_V0, plan,
     );
     let PlanAnswer::Planned {
         form,
@@ -132,40 +124,30 @@ fn plan_line<'a>(
         };
     };
     settle_line(
-        nodes, children, numbers, names, strings, text, scope, states, operation, line, form, side,
+        tables, scope, states, operation, line, form, side,
         entries, plan,
     )
 }
 
 // The lines of a body in turn, up to one that is refused.
-fn plan_lines<'a>(
-    nodes: &[u32],
-    children: &[u32],
-    numbers: &[u64],
-    names: &[u32],
-    strings: &'a [u8],
-    text: &'a [u8],
+fn plan_lines(
+    tables: &Tables<'_>,
     scope: Scope,
     lines: &[u32],
     plan: &mut [u32],
 ) -> BodyPlanned
     requires { is_body lines.now ≡ true }
-    ensures { BodyAnsweredIn plan scope (body_outcome (lent nodes children numbers names strings text) scope lines.now plan.old) result }
+    ensures { BodyAnsweredIn plan scope (body_outcome (contents tables.now) scope lines.now plan.old) result }
 {
     let count = lines.len() / LINE_WORDS;
     let mut here = scope;
-    let mut states = name_states(names, text, scope, ScopingMode::RespectParent);
+    let mut states = name_states(tables.names, tables.text, scope, ScopingMode::RespectParent);
     let mut answer = BodyAnswer::NotABody;
     let mut i: usize = 0;
     while i < count {
         let operation = line_at(lines, i);
         let step = plan_line(
-            nodes,
-            children,
-            numbers,
-            names,
-            strings,
-            text,
+            tables,
             here,
             &mut states,
             operation,
@@ -191,22 +173,17 @@ fn plan_lines<'a>(
 }
 
 // Plans a body's lines in turn. The plan buffer then holds the last line's plan; a refusal leaves it all zeros and returns the scope as given.
-pub fn plan_body<'a>(
-    nodes: &[u32],
-    children: &[u32],
-    numbers: &[u64],
-    names: &[u32],
-    strings: &'a [u8],
-    text: &'a [u8],
+pub fn plan_body(
+    tables: &Tables<'_>,
     scope: Scope,
     lines: &[u32],
     plan: &mut [u32],
 ) -> BodyPlanned
-    ensures { BodyAnsweredIn plan scope (body_outcome (lent nodes children numbers names strings text) scope lines.now plan.old) result }
+    ensures { BodyAnsweredIn plan scope (body_outcome (contents tables.now) scope lines.now plan.old) result }
 {
     if is_body(lines) {
         return plan_lines(
-            nodes, children, numbers, names, strings, text, scope, lines, plan,
+            tables, scope, lines, plan,
         );
     }
     clear(plan);

@@ -1,8 +1,10 @@
 // The first name of a planned line that is not ready: on its value sides, then in its computed keys. Node 0 stands for none.
+ghost use Rattle.table.specs.Contents.{contents};
 ghost use Rattle.table.specs.Lent.{given, lent};
 ghost use Rattle.std.specs.Prelude.{◌≡◌, cond, eqb};
 ghost use Rattle.body.specs.code.Post.{Asks, first_unknown, both_unknown, PlanHeld, pairs_found, keys_found, values_found, line_found};
 
+use table::tables::Tables;
 use crate::binding::{bind_entry, learn_entry};
 use crate::sides::sides_of;
 use operation::Operation;
@@ -14,54 +16,44 @@ use table::node_kind;
 use table::reading::kind_of;
 
 // The node of the first name at or below a node that the scope does not know, or 0.
-fn first_unknown<'a>(
-    nodes: &[u32],
-    children: &[u32],
-    numbers: &[u64],
-    names: &[u32],
-    strings: &'a [u8],
-    text: &'a [u8],
+fn first_unknown(
+    tables: &Tables<'_>,
     scope: Scope,
     states: &[u8; 128],
     node: u32,
 ) -> u32
-    requires { Asks (given nodes children numbers names strings text) scope states.now }
-    ensures { result ≡ first_unknown (lent nodes children numbers names strings text) scope node }
+    requires { Asks (contents tables.now) scope states.now }
+    ensures { result ≡ first_unknown (contents tables.now) scope node }
 {
-    if kind_of(nodes, node) <= node_kind::LAST_LITERAL {
+    if kind_of(tables.nodes, node) <= node_kind::LAST_LITERAL {
         return 0;
     }
     let sets = true;
     let keys = true;
     first_name(
-        nodes, children, numbers, names, strings, text, states, sets, keys, node,
+        tables, states, sets, keys, node,
     )
 }
 
 // In the first of two nodes that has one.
-fn both_unknown<'a>(
-    nodes: &[u32],
-    children: &[u32],
-    numbers: &[u64],
-    names: &[u32],
-    strings: &'a [u8],
-    text: &'a [u8],
+fn both_unknown(
+    tables: &Tables<'_>,
     scope: Scope,
     states: &[u8; 128],
     first: u32,
     second: u32,
 ) -> u32
-    requires { Asks (given nodes children numbers names strings text) scope states.now }
-    ensures { result ≡ both_unknown (lent nodes children numbers names strings text) scope first second }
+    requires { Asks (contents tables.now) scope states.now }
+    ensures { result ≡ both_unknown (contents tables.now) scope first second }
 {
     let found = first_unknown(
-        nodes, children, numbers, names, strings, text, scope, states, first,
+        tables, scope, states, first,
     );
     if found != 0 {
         return found;
     }
     first_unknown(
-        nodes, children, numbers, names, strings, text, scope, states, second,
+        tables, scope, states, second,
     )
 }
 
@@ -76,20 +68,15 @@ fn pair_node(kind: u32, node: u32) -> u32
 }
 
 // On the value sides of a plan's pairs; what a pair binds is bound before the next.
-fn pairs_unready<'a>(
-    nodes: &[u32],
-    children: &[u32],
-    numbers: &[u64],
-    names: &[u32],
-    strings: &'a [u8],
-    text: &'a [u8],
+fn pairs_unready(
+    tables: &Tables<'_>,
     scope: Scope,
     states: [u8; 128],
     plan: &[u32],
     count: usize,
 ) -> u32
-    requires { PlanHeld (given nodes children numbers names strings text) scope states plan.now count }
-    ensures { result ≡ pairs_found (lent nodes children numbers names strings text) scope plan.now count }
+    requires { PlanHeld (contents tables.now) scope states plan.now count }
+    ensures { result ≡ pairs_found (contents tables.now) scope plan.now count }
 {
     let mut here = scope;
     let mut known = states;
@@ -98,12 +85,7 @@ fn pairs_unready<'a>(
         let kind = plan[i * ENTRY_WORDS];
         let node = plan[i * ENTRY_WORDS + 1];
         let found = first_unknown(
-            nodes,
-            children,
-            numbers,
-            names,
-            strings,
-            text,
+            tables,
             here,
             &known,
             pair_node(kind, node),
@@ -111,8 +93,8 @@ fn pairs_unready<'a>(
         if found != 0 {
             return found;
         }
-        let next = bind_entry(nodes, here, kind, node);
-        learn_entry(nodes, &mut known, kind, node);
+        let next = bind_entry(tables.nodes, here, kind, node);
+        learn_entry(tables.nodes, &mut known, kind, node);
         here = next;
         i += 1;
     }
@@ -148,20 +130,15 @@ fn states_from(kind: u32, earlier: &mut [u8; 128], here: &[u8; 128])
 }
 
 // In a plan's computed keys: what earlier pairs bind is known there, what the pair or plan itself binds is not.
-fn keys_unready<'a>(
-    nodes: &[u32],
-    children: &[u32],
-    numbers: &[u64],
-    names: &[u32],
-    strings: &'a [u8],
-    text: &'a [u8],
+fn keys_unready(
+    tables: &Tables<'_>,
     scope: Scope,
     states: [u8; 128],
     plan: &[u32],
     count: usize,
 ) -> u32
-    requires { PlanHeld (given nodes children numbers names strings text) scope states plan.now count }
-    ensures { result ≡ keys_found (lent nodes children numbers names strings text) scope plan.now count }
+    requires { PlanHeld (contents tables.now) scope states plan.now count }
+    ensures { result ≡ keys_found (contents tables.now) scope plan.now count }
 {
     let mut earlier = scope;
     let mut here = scope;
@@ -173,12 +150,7 @@ fn keys_unready<'a>(
         let node = plan[i * ENTRY_WORDS + 1];
         let key = plan[i * ENTRY_WORDS + 3];
         let found = first_unknown(
-            nodes,
-            children,
-            numbers,
-            names,
-            strings,
-            text,
+            tables,
             earlier,
             &ready,
             key_node(kind, key),
@@ -189,21 +161,16 @@ fn keys_unready<'a>(
         let from = scope_from(kind, earlier, here);
         earlier = from;
         states_from(kind, &mut ready, &known);
-        let next = bind_entry(nodes, here, kind, node);
-        learn_entry(nodes, &mut known, kind, node);
+        let next = bind_entry(tables.nodes, here, kind, node);
+        learn_entry(tables.nodes, &mut known, kind, node);
         here = next;
         i += 1;
     }
     0
 }
 
-fn values_unready<'a>(
-    nodes: &[u32],
-    children: &[u32],
-    numbers: &[u64],
-    names: &[u32],
-    strings: &'a [u8],
-    text: &'a [u8],
+fn values_unready(
+    tables: &Tables<'_>,
     scope: Scope,
     states: [u8; 128],
     operation: Operation,
@@ -212,22 +179,17 @@ fn values_unready<'a>(
     plan: &[u32],
     count: usize,
 ) -> u32
-    requires { PlanHeld (given nodes children numbers names strings text) scope states plan.now count }
-    ensures { result ≡ values_found (lent nodes children numbers names strings text) scope operation form side plan.now count }
+    requires { PlanHeld (contents tables.now) scope states plan.now count }
+    ensures { result ≡ values_found (contents tables.now) scope operation form side plan.now count }
 {
     let sides = sides_of(operation, form, side);
     if sides.pairs {
         return pairs_unready(
-            nodes, children, numbers, names, strings, text, scope, states, plan, count,
+            tables, scope, states, plan, count,
         );
     }
     both_unknown(
-        nodes,
-        children,
-        numbers,
-        names,
-        strings,
-        text,
+        tables,
         scope,
         &states,
         sides.first,
@@ -236,13 +198,8 @@ fn values_unready<'a>(
 }
 
 // The node of the first name that is not ready, or 0, of a line that is planned with this form and side and `count` entries.
-pub(crate) fn line_unready<'a>(
-    nodes: &[u32],
-    children: &[u32],
-    numbers: &[u64],
-    names: &[u32],
-    strings: &'a [u8],
-    text: &'a [u8],
+pub(crate) fn line_unready(
+    tables: &Tables<'_>,
     scope: Scope,
     states: [u8; 128],
     operation: Operation,
@@ -251,17 +208,17 @@ pub(crate) fn line_unready<'a>(
     plan: &[u32],
     count: usize,
 ) -> u32
-    requires { PlanHeld (given nodes children numbers names strings text) scope states plan.now count }
-    ensures { result ≡ line_found (lent nodes children numbers names strings text) scope operation form side plan.now count }
+    requires { PlanHeld (contents tables.now) scope states plan.now count }
+    ensures { result ≡ line_found (contents tables.now) scope operation form side plan.now count }
 {
     let found = values_unready(
-        nodes, children, numbers, names, strings, text, scope, states, operation, form, side, plan,
+        tables, scope, states, operation, form, side, plan,
         count,
     );
     if found != 0 {
         return found;
     }
     keys_unready(
-        nodes, children, numbers, names, strings, text, scope, states, plan, count,
+        tables, scope, states, plan, count,
     )
 }

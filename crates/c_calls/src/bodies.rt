@@ -1,4 +1,5 @@
 // The call for a rule body over lent tables.
+ghost use Rattle.table.specs.Contents.{contents};
 ghost use Rattle.table.specs.Lent.{lent};
 ghost use Rattle.std.specs.Prelude.{◌≡◌, cond, eqb};
 ghost use Rattle.base.specs.Refusal.{line, tested_line};
@@ -8,6 +9,7 @@ ghost use Rattle.operation.specs.Rows.{row_line};
 ghost use Rattle.body.specs.Body.{body_line, body_line_of};
 ghost use Rattle.c_calls.specs.Bodies.{words_first, marks_first, marks_in, ToldBody, BodyCalledIn};
 
+use table::tables::Tables;
 use crate::given::{conversion_number, scope_of};
 use body::lines::is_body;
 use body::{BodyAnswer, plan_body};
@@ -31,18 +33,13 @@ fn words_first(scheduler: u32, lines: &[u32]) -> u32
 }
 
 // 1 or 2, or 0.
-fn marks_first<'a>(
-    nodes: &[u32],
-    children: &[u32],
-    numbers: &[u64],
-    names: &[u32],
-    strings: &'a [u8],
-    text: &'a [u8],
+fn marks_first(
+    tables: &Tables<'_>,
     made: ConversionAnswer,
 ) -> u32
-    ensures { line result 0 0 0 ≡ tested_line (marks_first (lent nodes children numbers names strings text) (conversion_of made)) }
+    ensures { line result 0 0 0 ≡ tested_line (marks_first (contents tables.now) (conversion_of made)) }
 {
-    if within_limits(nodes, children, numbers, names, strings, text) {
+    if within_limits(tables) {
         return conversion_number(made);
     }
     1
@@ -119,20 +116,15 @@ fn tell_body(answer: &mut [u32], row: Row, line: u32) -> u32
 }
 
 // Plans a body's lines in turn; after an accepted body the marks are those of the scope returned.
-pub fn teluddru_plan_body<'a>(
-    nodes: &[u32],
-    children: &[u32],
-    numbers: &[u64],
-    names: &[u32],
-    strings: &'a [u8],
-    text: &'a [u8],
+pub fn teluddru_plan_body(
+    tables: &Tables<'_>,
     marks: &mut [u8],
     scheduler: u32,
     lines: &[u32],
     plan: &mut [u32],
     answer: &mut [u32],
 ) -> u32
-    ensures { BodyCalledIn marks plan answer (lent nodes children numbers names strings text) scheduler lines result }
+    ensures { BodyCalledIn marks plan answer (contents tables.now) scheduler lines result }
 {
     let unread = words_first(scheduler, lines);
     if unread != 0 {
@@ -142,13 +134,13 @@ pub fn teluddru_plan_body<'a>(
     let made = scope_of(marks, scheduler);
     let converted = made.answer;
     let scope = made.scope;
-    let before = marks_first(nodes, children, numbers, names, strings, text, converted);
+    let before = marks_first(tables, converted);
     if before != 0 {
         clear(plan);
         return tell_body(answer, row_from(before as u64, 0, 0, 0), 1);
     }
     let done = plan_body(
-        nodes, children, numbers, names, strings, text, scope, lines, plan,
+        tables, scope, lines, plan,
     );
     let reached = done.answer;
     let after = done.scope;

@@ -1,4 +1,5 @@
 // The common example over lent tables: a value that two patterns both match.
+ghost use Rattle.table.specs.Contents.{contents};
 ghost use Rattle.table.specs.Lent.{lent};
 ghost use Rattle.std.specs.Prelude.{◌≡◌};
 ghost use Rattle.scope.specs.Bytes.{conversion_of};
@@ -6,6 +7,7 @@ ghost use Rattle.operation.specs.Rows.{row_line};
 ghost use Rattle.common_example.specs.Common.{example_result};
 ghost use Rattle.c_calls.specs.Examples.{example_line, OfHost, ExampleFirst, SecondRefusedIn, MarkedIn, given_side, ExampleCalledIn};
 
+use table::tables::Tables;
 use crate::answer::refuse;
 use crate::given::{pattern_numbers, refused_first, scope_of};
 use common_example::sides::ScopedPattern;
@@ -65,17 +67,12 @@ fn host_side(marks: &[u8], scheduler: u32, scoping: u32, pattern: u32) -> HostSi
 }
 
 // 7 of either side, then 1 and 2 of the first; or 0.
-fn first_refused<'a>(
-    nodes: &[u32],
-    children: &[u32],
-    numbers: &[u64],
-    names: &[u32],
-    strings: &'a [u8],
-    text: &'a [u8],
+fn first_refused(
+    tables: &Tables<'_>,
     first: HostSide,
     second: HostSide,
 ) -> u32
-    ensures { ExampleFirst (lent nodes children numbers names strings text) first second result }
+    ensures { ExampleFirst (contents tables.now) first second result }
 {
     let other = second.asked;
     if !are_listed(other) {
@@ -83,24 +80,19 @@ fn first_refused<'a>(
     }
     let made = first.made;
     let asked = first.asked;
-    refused_first(nodes, children, numbers, names, strings, text, made, asked)
+    refused_first(tables, made, asked)
 }
 
 // Of a second side whose marks are refused: what the first side is refused for, then 2.
-fn second_refused<'a>(
-    nodes: &[u32],
-    children: &[u32],
-    numbers: &[u64],
-    names: &[u32],
-    strings: &'a [u8],
-    text: &'a [u8],
+fn second_refused(
+    tables: &Tables<'_>,
     first: ScopedPattern,
     values1: &[u32],
 ) -> ExampleAnswer
-    ensures { SecondRefusedIn (lent nodes children numbers names strings text) first values1 result }
+    ensures { SecondRefusedIn (contents tables.now) first values1 result }
 {
     let checked = refused_side(
-        nodes, children, numbers, names, strings, text, first, values1,
+        tables, first, values1,
     );
     match checked {
         Checked::Refused(answer) => answer,
@@ -109,13 +101,8 @@ fn second_refused<'a>(
 }
 
 // `made` is what the conversion of the second side's marks answered.
-fn example_given<'a>(
-    nodes: &[u32],
-    children: &[u32],
-    numbers: &[u64],
-    names: &[u32],
-    strings: &'a [u8],
-    text: &'a [u8],
+fn example_given(
+    tables: &Tables<'_>,
     first: ScopedPattern,
     values1: &[u32],
     made: ConversionAnswer,
@@ -124,17 +111,12 @@ fn example_given<'a>(
     example_nodes: &mut [u32],
     example_children: &mut [u32],
 ) -> ExampleAnswer
-    ensures { let T = lent nodes children numbers names strings text in
+    ensures { let T = contents tables.now in
         MarkedIn T first values1 (conversion_of made) second values2 example_nodes example_children result }
 {
     if let ConversionAnswer::Done = made {
         return common_example(
-            nodes,
-            children,
-            numbers,
-            names,
-            strings,
-            text,
+            tables,
             first,
             values1,
             second,
@@ -146,18 +128,13 @@ fn example_given<'a>(
     clear(example_nodes);
     clear(example_children);
     second_refused(
-        nodes, children, numbers, names, strings, text, first, values1,
+        tables, first, values1,
     )
 }
 
 // Gives a value that both patterns match, or none. Its nodes go on from the tables', its child entries from their child list.
-pub fn teluddru_common_example<'a>(
-    nodes: &[u32],
-    children: &[u32],
-    numbers: &[u64],
-    names: &[u32],
-    strings: &'a [u8],
-    text: &'a [u8],
+pub fn teluddru_common_example(
+    tables: &Tables<'_>,
     marks1: &[u8],
     scheduler1: u32,
     scoping1: u32,
@@ -172,7 +149,7 @@ pub fn teluddru_common_example<'a>(
     example_children: &mut [u32],
     answer: &mut [u32],
 ) -> u32
-    ensures { let T = lent nodes children numbers names strings text in
+    ensures { let T = contents tables.now in
         let first = given_side marks1 scheduler1 scoping1 pattern1 values1 in
         let second = given_side marks2 scheduler2 scoping2 pattern2 values2 in
         ExampleCalledIn T first second example_nodes example_children answer result }
@@ -180,7 +157,7 @@ pub fn teluddru_common_example<'a>(
     let first = host_side(marks1, scheduler1, scoping1, pattern1);
     let second = host_side(marks2, scheduler2, scoping2, pattern2);
     let before = first_refused(
-        nodes, children, numbers, names, strings, text, first, second,
+        tables, first, second,
     );
     if before != 0 {
         clear(example_nodes);
@@ -191,12 +168,7 @@ pub fn teluddru_common_example<'a>(
     let two = second.pattern;
     let marked = second.made;
     let given = example_given(
-        nodes,
-        children,
-        numbers,
-        names,
-        strings,
-        text,
+        tables,
         one,
         values1,
         marked,

@@ -1,10 +1,12 @@
 // Which rule of the tables is broken, and where.
+ghost use Rattle.table.specs.Contents.{contents};
 ghost use Rattle.table.specs.Lent.{lent};
 ghost use Rattle.std.specs.Prelude.{◌≡◌};
 ghost use Rattle.operation.specs.Rows.{row_line};
 ghost use Rattle.table_fault.specs.Fault.{fault_told, fault_line};
 ghost use Rattle.c_calls.specs.Faults.{FaultCalledIn};
 
+use table::tables::Tables;
 use operation::inner::tell;
 use operation::row::{Row, row_from};
 use table::refusal_number;
@@ -24,18 +26,13 @@ fn fault_row(answer: FaultAnswer) -> Row
 }
 
 // The first rule that is broken and its first place, with the number of the table check.
-pub fn teluddru_table_fault<'a>(
-    nodes: &[u32],
-    children: &[u32],
-    numbers: &[u64],
-    names: &[u32],
-    strings: &'a [u8],
-    text: &'a [u8],
+pub fn teluddru_table_fault(
+    tables: &Tables<'_>,
     marks: &[u8],
     answer: &mut [u32],
 ) -> u32
-    ensures { FaultCalledIn answer (lent nodes children numbers names strings text) marks result }
+    ensures { FaultCalledIn answer (contents tables.now) marks result }
 {
-    let found = table_fault(nodes, children, numbers, names, strings, text, marks);
+    let found = table_fault(tables, marks);
     tell(answer, fault_row(found))
 }

@@ -1,10 +1,12 @@
 // What a C host gives beside the tables: marks as bytes, the operation as numbers.
+ghost use Rattle.table.specs.Contents.{contents};
 ghost use Rattle.std.specs.Prelude.{◌≡◌, get_or};
 ghost use Rattle.base.specs.Refusal.{tested_line};
 ghost use Rattle.scope.specs.Bytes.{conversion_of, ConvertedFrom};
 ghost use Rattle.table.specs.Lent.{lent};
 ghost use Rattle.c_calls.specs.Given.{marks_of, byte_scope_of, pattern_numbers, GivenTold};
 
+use table::tables::Tables;
 use operation::numbers::{OperationNumbers, are_listed};
 use scope::{ByteScope, ConversionAnswer, Converted, Scope};
 use table::limits::within_limits;
@@ -66,22 +68,17 @@ pub(crate) fn conversion_number(made: ConversionAnswer) -> u32
 }
 
 // The number of the refusal that comes before the operation's own, or 0.
-pub(crate) fn refused_first<'a>(
-    nodes: &[u32],
-    children: &[u32],
-    numbers: &[u64],
-    names: &[u32],
-    strings: &'a [u8],
-    text: &'a [u8],
+pub(crate) fn refused_first(
+    tables: &Tables<'_>,
     made: ConversionAnswer,
     asked: OperationNumbers,
 ) -> u32
-    ensures { GivenTold (lent nodes children numbers names strings text) (conversion_of made) asked result }
+    ensures { GivenTold (contents tables.now) (conversion_of made) asked result }
 {
     if !are_listed(asked) {
         return 7;
     }
-    if !within_limits(nodes, children, numbers, names, strings, text) {
+    if !within_limits(tables) {
         return 1;
     }
     conversion_number(made)

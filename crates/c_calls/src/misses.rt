@@ -1,10 +1,12 @@
 // The first miss of a run over lent tables.
+ghost use Rattle.table.specs.Contents.{contents};
 ghost use Rattle.table.specs.Lent.{lent};
 ghost use Rattle.std.specs.Prelude.{◌≡◌};
 ghost use Rattle.operation.specs.Rows.{row_line};
 ghost use Rattle.first_miss.specs.Answer.{no_match_lem, miss_result_of};
 ghost use Rattle.c_calls.specs.Misses.{why_number, miss_line, MissCalledIn};
 
+use table::tables::Tables;
 use crate::answer::{refuse, run_row};
 use crate::given::{pattern_numbers, refused_first, scope_of};
 use first_miss::{Miss, MissAnswer, Why, first_miss};
@@ -45,13 +47,8 @@ fn miss_row(answer: MissAnswer) -> Row
 }
 
 // Where the run of the pattern on the value misses first. `values` has for each name number the node of its value, or 0.
-pub fn teluddru_first_miss<'a>(
-    nodes: &[u32],
-    children: &[u32],
-    numbers: &[u64],
-    names: &[u32],
-    strings: &'a [u8],
-    text: &'a [u8],
+pub fn teluddru_first_miss(
+    tables: &Tables<'_>,
     marks: &[u8],
     scheduler: u32,
     scoping: u32,
@@ -60,25 +57,20 @@ pub fn teluddru_first_miss<'a>(
     values: &[u32],
     answer: &mut [u32],
 ) -> u32
-    ensures { let T = lent nodes children numbers names strings text in MissCalledIn values answer T marks scheduler scoping pattern value result }
+    ensures { let T = contents tables.now in MissCalledIn values answer T marks scheduler scoping pattern value result }
 {
     let asked = pattern_numbers(scheduler, scoping, pattern);
     let made = scope_of(marks, scheduler);
     let converted = made.answer;
     let scope = made.scope;
     let before = refused_first(
-        nodes, children, numbers, names, strings, text, converted, asked,
+        tables, converted, asked,
     );
     if before != 0 {
         return refuse(answer, before);
     }
     let missed = first_miss(
-        nodes,
-        children,
-        numbers,
-        names,
-        strings,
-        text,
+        tables,
         scope,
         scoping_of(scoping),
         pattern,

@@ -1,7 +1,9 @@
 // The planning call over lent tables.
+ghost use Rattle.table.specs.Contents.{contents};
 ghost use Rattle.table.specs.Lent.{lent};
 ghost use Rattle.c_calls.specs.Calls.{PlanCalledIn};
 
+use table::tables::Tables;
 use crate::answer::refuse;
 use crate::given::{refused_first, scope_of};
 use operation::inner::tell;
@@ -10,13 +12,8 @@ use operation::row::row_of;
 use planner::buffer::clear;
 
 // Plans the operation into the buffer, for a version of Rego: any but 1 is version 0. Roots that it doesn't use are ignored.
-pub fn teluddru_plan<'a>(
-    nodes: &[u32],
-    children: &[u32],
-    numbers: &[u64],
-    names: &[u32],
-    strings: &'a [u8],
-    text: &'a [u8],
+pub fn teluddru_plan(
+    tables: &Tables<'_>,
     marks: &[u8],
     operation: u32,
     scheduler: u32,
@@ -28,7 +25,7 @@ pub fn teluddru_plan<'a>(
     plan: &mut [u32],
     answer: &mut [u32],
 ) -> u32
-    ensures { PlanCalledIn plan answer (lent nodes children numbers names strings text) marks operation scheduler scoping first second key version result }
+    ensures { PlanCalledIn plan answer (contents tables.now) marks operation scheduler scoping first second key version result }
 {
     let asked = OperationNumbers {
         number: operation,
@@ -42,19 +39,14 @@ pub fn teluddru_plan<'a>(
     let converted = made.answer;
     let scope = made.scope;
     let before = refused_first(
-        nodes, children, numbers, names, strings, text, converted, asked,
+        tables, converted, asked,
     );
     if before != 0 {
         clear(plan);
         return refuse(answer, before);
     }
     let planned = operation::plan(
-        nodes,
-        children,
-        numbers,
-        names,
-        strings,
-        text,
+        tables,
         scope,
         operation_of(asked),
         version,

@@ -1,7 +1,9 @@
 // Run over lent tables.
+ghost use Rattle.table.specs.Contents.{contents};
 ghost use Rattle.table.specs.Lent.{lent};
 ghost use Rattle.c_calls.specs.Calls.{RunCalledIn};
 
+use table::tables::Tables;
 use crate::answer::{refuse, run_row};
 use crate::given::{pattern_numbers, refused_first, scope_of};
 use operation::inner::tell;
@@ -10,13 +12,8 @@ use planner::buffer::clear;
 use run::run;
 
 // Runs the pattern on the value. `values` has for each name number the node of its value, or 0.
-pub fn teluddru_run<'a>(
-    nodes: &[u32],
-    children: &[u32],
-    numbers: &[u64],
-    names: &[u32],
-    strings: &'a [u8],
-    text: &'a [u8],
+pub fn teluddru_run(
+    tables: &Tables<'_>,
     marks: &[u8],
     scheduler: u32,
     scoping: u32,
@@ -26,26 +23,21 @@ pub fn teluddru_run<'a>(
     plan: &mut [u32],
     answer: &mut [u32],
 ) -> u32
-    ensures { let T = lent nodes children numbers names strings text in RunCalledIn values plan answer T marks scheduler scoping pattern value result }
+    ensures { let T = contents tables.now in RunCalledIn values plan answer T marks scheduler scoping pattern value result }
 {
     let asked = pattern_numbers(scheduler, scoping, pattern);
     let made = scope_of(marks, scheduler);
     let converted = made.answer;
     let scope = made.scope;
     let before = refused_first(
-        nodes, children, numbers, names, strings, text, converted, asked,
+        tables, converted, asked,
     );
     if before != 0 {
         clear(plan);
         return refuse(answer, before);
     }
     let ran = run(
-        nodes,
-        children,
-        numbers,
-        names,
-        strings,
-        text,
+        tables,
         scope,
         scoping_of(scoping),
         pattern,

@@ -1,7 +1,9 @@
 // Run over lent tables, with a lowest and a highest number for each node.
+ghost use Rattle.table.specs.Contents.{contents};
 ghost use Rattle.table.specs.Lent.{lent};
 ghost use Rattle.c_calls.specs.Tolerating.{ToleratedIn};
 
+use table::tables::Tables;
 use crate::answer::{refuse, tolerance_row};
 use crate::given::{pattern_numbers, refused_first, scope_of};
 use operation::inner::tell;
@@ -10,13 +12,8 @@ use planner::buffer::clear;
 use tolerance::run_with_tolerance;
 
 // Runs the pattern on the value, whatever numbers from the lowest to the highest its nodes have. Node n has two words of each list, from word (n - 1) * 2 on.
-pub fn teluddru_run_with_tolerance<'a>(
-    nodes: &[u32],
-    children: &[u32],
-    numbers: &[u64],
-    names: &[u32],
-    strings: &'a [u8],
-    text: &'a [u8],
+pub fn teluddru_run_with_tolerance(
+    tables: &Tables<'_>,
     marks: &[u8],
     scheduler: u32,
     scoping: u32,
@@ -28,26 +25,21 @@ pub fn teluddru_run_with_tolerance<'a>(
     plan: &mut [u32],
     answer: &mut [u32],
 ) -> u32
-    ensures { ToleratedIn values lowest highest plan answer (lent nodes children numbers names strings text) marks scheduler scoping pattern value result }
+    ensures { ToleratedIn values lowest highest plan answer (contents tables.now) marks scheduler scoping pattern value result }
 {
     let asked = pattern_numbers(scheduler, scoping, pattern);
     let made = scope_of(marks, scheduler);
     let converted = made.answer;
     let scope = made.scope;
     let before = refused_first(
-        nodes, children, numbers, names, strings, text, converted, asked,
+        tables, converted, asked,
     );
     if before != 0 {
         clear(plan);
         return refuse(answer, before);
     }
     let ran = run_with_tolerance(
-        nodes,
-        children,
-        numbers,
-        names,
-        strings,
-        text,
+        tables,
         scope,
         scoping_of(scoping),
         pattern,

@@ -1,4 +1,5 @@
 // A pattern held against a literal expression (utils.rs).
+ghost use Rattle.table.specs.Contents.{contents};
 ghost use Rattle.table.specs.Lent.{given, lent};
 ghost use Rattle.std.specs.Prelude.{◌≡◌};
 ghost use Rattle.table.specs.Decode.{expr};
@@ -6,6 +7,7 @@ ghost use Rattle.checks.specs.Structure.{structure};
 ghost use Rattle.planner.specs.code.Post.{GoodPair};
 ghost use Rattle.checks.specs.code.Post.{structure_at, items_structure, ItemsAsks, ObjectsAsks, WorkingSpaces, FieldsAsks, fields_structure, FieldAsks, OneMore};
 
+use table::tables::Tables;
 use crate::joining::{FieldsSoFar, is_settled, join, no_field_yet, with_field};
 use crate::partners::{each_paired, partner_place, pattern_at};
 use crate::texts::compare_object_keys;
@@ -15,29 +17,24 @@ use table::reading::{child_at, count_of, first_of, kind_of};
 
 // A pattern against a value. The two arrays are for the objects' key nodes; all levels share them, which keeps the stack small.
 #[cycle(check_field_check_fields_check_items_check_object_check_structure)]
-fn check_structure<'a>(
-    nodes: &[u32],
-    children: &[u32],
-    numbers: &[u64],
-    names: &[u32],
-    strings: &'a [u8],
-    text: &'a [u8],
+fn check_structure(
+    tables: &Tables<'_>,
     pattern: u32,
     value: u32,
     reading: Reading,
     keys: &mut [u32; 256],
     others: &mut [u32; 256],
 ) -> LiteralStructureCheck
-    requires { GoodPair (given nodes children numbers names strings text) pattern value }
-    ensures { let T = lent nodes children numbers names strings text in (result ≡ structure_at reading T pattern value) × WorkingSpaces keys others }
+    requires { GoodPair (contents tables.now) pattern value }
+    ensures { let T = contents tables.now in (result ≡ structure_at reading T pattern value) × WorkingSpaces keys others }
 {
-    let kind = kind_of(nodes, value);
-    if kind_of(nodes, pattern) != kind {
+    let kind = kind_of(tables.nodes, value);
+    if kind_of(tables.nodes, pattern) != kind {
         return LiteralStructureCheck::Unknown;
     }
     if kind == node_kind::ARRAY {
-        let expected = count_of(nodes, pattern);
-        let actual = count_of(nodes, value);
+        let expected = count_of(tables.nodes, pattern);
+        let actual = count_of(tables.nodes, value);
         if actual != expected {
             return LiteralStructureCheck::ArrayMismatch {
                 value,
@@ -45,15 +42,10 @@ fn check_structure<'a>(
                 actual,
             };
         }
-        let at = first_of(nodes, pattern) as usize;
-        let place = first_of(nodes, value) as usize;
+        let at = first_of(tables.nodes, pattern) as usize;
+        let place = first_of(tables.nodes, value) as usize;
         return check_items(
-            nodes,
-            children,
-            numbers,
-            names,
-            strings,
-            text,
+            tables,
             value,
             at,
             place,
@@ -65,7 +57,7 @@ fn check_structure<'a>(
     }
     if kind == node_kind::OBJECT {
         return check_object(
-            nodes, children, numbers, names, strings, text, pattern, value, reading, keys, others,
+            tables, pattern, value, reading, keys, others,
         );
     }
     LiteralStructureCheck::Unknown
@@ -73,13 +65,8 @@ fn check_structure<'a>(
 
 // Items of a pattern from child entry `at` on, and of a value from `place` on.
 #[cycle(check_field_check_fields_check_items_check_object_check_structure)]
-fn check_items<'a>(
-    nodes: &[u32],
-    children: &[u32],
-    numbers: &[u64],
-    names: &[u32],
-    strings: &'a [u8],
-    text: &'a [u8],
+fn check_items(
+    tables: &Tables<'_>,
     value: u32,
     at: usize,
     place: usize,
@@ -88,16 +75,16 @@ fn check_items<'a>(
     keys: &mut [u32; 256],
     others: &mut [u32; 256],
 ) -> LiteralStructureCheck
-    requires { ItemsAsks (given nodes children numbers names strings text) value at place left }
-    ensures { (result ≡ items_structure reading (lent nodes children numbers names strings text) place at left) × WorkingSpaces keys others }
+    requires { ItemsAsks (contents tables.now) value at place left }
+    ensures { (result ≡ items_structure reading (contents tables.now) place at left) × WorkingSpaces keys others }
 {
     let mut so_far = LiteralStructureCheck::Match;
     let mut i: usize = 0;
     while i < left {
-        let pattern = child_at(children, at + i);
-        let item = child_at(children, place + i);
+        let pattern = child_at(tables.children, at + i);
+        let item = child_at(tables.children, place + i);
         let check = check_structure(
-            nodes, children, numbers, names, strings, text, pattern, item, reading, keys, others,
+            tables, pattern, item, reading, keys, others,
         );
         so_far = join(reading, so_far, check);
         if is_settled(reading, so_far) {
@@ -110,25 +97,20 @@ fn check_items<'a>(
 
 // Two objects: their literal keys' texts first.
 #[cycle(check_field_check_fields_check_items_check_object_check_structure)]
-fn check_object<'a>(
-    nodes: &[u32],
-    children: &[u32],
-    numbers: &[u64],
-    names: &[u32],
-    strings: &'a [u8],
-    text: &'a [u8],
+fn check_object(
+    tables: &Tables<'_>,
     pattern: u32,
     value: u32,
     reading: Reading,
     keys: &mut [u32; 256],
     others: &mut [u32; 256],
 ) -> LiteralStructureCheck
-    requires { ObjectsAsks (given nodes children numbers names strings text) pattern value }
-    ensures { let T = lent nodes children numbers names strings text in (result ≡ structure_at reading T pattern value) × WorkingSpaces keys others }
+    requires { ObjectsAsks (contents tables.now) pattern value }
+    ensures { let T = contents tables.now in (result ≡ structure_at reading T pattern value) × WorkingSpaces keys others }
 {
     let mut order = [0u8; 256];
     let compared = compare_object_keys(
-        nodes, children, numbers, names, strings, text, pattern, value, &mut order, keys, others,
+        tables, pattern, value, &mut order, keys, others,
     );
     if compared.total == 0 {
         return LiteralStructureCheck::Match;
@@ -140,12 +122,7 @@ fn check_object<'a>(
         return LiteralStructureCheck::ObjectMismatch { value, pattern };
     }
     check_fields(
-        nodes,
-        children,
-        numbers,
-        names,
-        strings,
-        text,
+        tables,
         pattern,
         value,
         &order,
@@ -159,13 +136,8 @@ fn check_object<'a>(
 
 // The value's fields as written, each with the pattern's of an equal key. In the careful reading the mismatch at the pattern's first place counts.
 #[cycle(check_field_check_fields_check_items_check_object_check_structure)]
-fn check_fields<'a>(
-    nodes: &[u32],
-    children: &[u32],
-    numbers: &[u64],
-    names: &[u32],
-    strings: &'a [u8],
-    text: &'a [u8],
+fn check_fields(
+    tables: &Tables<'_>,
     pattern: u32,
     value: u32,
     order: &[u8; 256],
@@ -175,19 +147,19 @@ fn check_fields<'a>(
     keys: &mut [u32; 256],
     others: &mut [u32; 256],
 ) -> LiteralStructureCheck
-    requires { FieldsAsks (given nodes children numbers names strings text) pattern value order.now literals total }
-    ensures { (result ≡ fields_structure reading (lent nodes children numbers names strings text) pattern value) × WorkingSpaces keys others }
+    requires { FieldsAsks (contents tables.now) pattern value order.now literals total }
+    ensures { (result ≡ fields_structure reading (contents tables.now) pattern value) × WorkingSpaces keys others }
 {
-    let count = count_of(nodes, value) as usize;
+    let count = count_of(tables.nodes, value) as usize;
     let paired = each_paired(
-        nodes, children, numbers, names, strings, text, pattern, value, order, literals, total,
+        tables, pattern, value, order, literals, total,
         reading, keys,
     );
     let mut so_far = no_field_yet(paired, literals, total);
     let mut i: usize = 0;
     while i < count {
         so_far = check_field(
-            nodes, children, numbers, names, strings, text, pattern, value, order, literals, i,
+            tables, pattern, value, order, literals, i,
             reading, so_far, keys, others,
         );
         if so_far.end == 0 {
@@ -200,13 +172,8 @@ fn check_fields<'a>(
 
 // A field whose partner's place no longer counts, or that has none, is passed over.
 #[cycle(check_field_check_fields_check_items_check_object_check_structure)]
-fn check_field<'a>(
-    nodes: &[u32],
-    children: &[u32],
-    numbers: &[u64],
-    names: &[u32],
-    strings: &'a [u8],
-    text: &'a [u8],
+fn check_field(
+    tables: &Tables<'_>,
     pattern: u32,
     value: u32,
     order: &[u8; 256],
@@ -217,51 +184,41 @@ fn check_field<'a>(
     keys: &mut [u32; 256],
     others: &mut [u32; 256],
 ) -> FieldsSoFar
-    requires { FieldAsks (given nodes children numbers names strings text) pattern value order.now literals i before }
-    ensures { OneMore reading (lent nodes children numbers names strings text) pattern value literals i before result × WorkingSpaces keys others }
+    requires { FieldAsks (contents tables.now) pattern value order.now literals i before }
+    ensures { OneMore reading (contents tables.now) pattern value literals i before result × WorkingSpaces keys others }
 {
-    let place = first_of(nodes, value) as usize + i * 2;
-    let key = child_at(children, place);
+    let place = first_of(tables.nodes, value) as usize + i * 2;
+    let key = child_at(tables.children, place);
     let met = partner_place(
-        nodes, children, numbers, names, strings, text, pattern, order, literals, key,
+        tables, pattern, order, literals, key,
     );
     if before.end <= met {
         return before;
     }
     let other = pattern_at(
-        nodes, children, numbers, names, strings, text, pattern, order, literals, met,
+        tables, pattern, order, literals, met,
     );
-    let child = child_at(children, place + 1);
+    let child = child_at(tables.children, place + 1);
     let check = check_structure(
-        nodes, children, numbers, names, strings, text, other, child, reading, keys, others,
+        tables, other, child, reading, keys, others,
     );
     with_field(reading, before, met, check)
 }
 
 // A pattern against a value.
-pub fn check_literal_structure<'a>(
-    nodes: &[u32],
-    children: &[u32],
-    numbers: &[u64],
-    names: &[u32],
-    strings: &'a [u8],
-    text: &'a [u8],
+pub fn check_literal_structure(
+    tables: &Tables<'_>,
     pattern: u32,
     value: u32,
     reading: Reading,
 ) -> LiteralStructureCheck
-    requires { GoodPair (given nodes children numbers names strings text) pattern value }
-    ensures { let T = lent nodes children numbers names strings text in result ≡ structure reading (expr T value) (expr T pattern) }
+    requires { GoodPair (contents tables.now) pattern value }
+    ensures { let T = contents tables.now in result ≡ structure reading (expr T value) (expr T pattern) }
 {
     let mut keys = [0u32; 256];
     let mut others = [0u32; 256];
     check_structure(
-        nodes,
-        children,
-        numbers,
-        names,
-        strings,
-        text,
+        tables,
         pattern,
         value,
         reading,

@@ -1,10 +1,12 @@
 // Fields of two objects under equal literal keys.
+ghost use Rattle.table.specs.Contents.{contents};
 ghost use Rattle.base.specs.Lists.{all_from};
 ghost use Rattle.table.specs.Lent.{given, lent};
 ghost use Rattle.std.specs.Prelude.{◌≡◌, ◌≤◌};
 ghost use Rattle.table.specs.Decode.{literal_at};
 ghost use Rattle.checks.specs.code.Post.{WorkingSpace, patterns_of, FieldsAsks, PartnerAsks, PlaceIs, SlotAsks, SlotIs, is_marked, Unmarked, MarkedAt, Marked, paired_at, paired_by};
 
+use table::tables::Tables;
 use crate::Reading;
 use planner::buffer::clear;
 use planner::fields::field_at;
@@ -13,27 +15,22 @@ use table::Key;
 use table::reading::{child_at, count_of, extract_literal_key, first_of};
 
 // The place, in its order, of a pattern's field under a literal key equal to a value's; `literals` if there is none.
-pub(crate) fn partner_place<'a>(
-    nodes: &[u32],
-    children: &[u32],
-    numbers: &[u64],
-    names: &[u32],
-    strings: &'a [u8],
-    text: &'a [u8],
+pub(crate) fn partner_place(
+    tables: &Tables<'_>,
     pattern: u32,
     order: &[u8; 256],
     literals: usize,
     key: u32,
 ) -> usize
-    requires { PartnerAsks (given nodes children numbers names strings text) pattern order.now literals key }
-    ensures { let T = lent nodes children numbers names strings text in PlaceIs (patterns_of T pattern).literals (literal_at T key) result }
+    requires { PartnerAsks (contents tables.now) pattern order.now literals key }
+    ensures { let T = contents tables.now in PlaceIs (patterns_of T pattern).literals (literal_at T key) result }
 {
-    let Key::Literal(literal) = extract_literal_key(nodes, key) else {
+    let Key::Literal(literal) = extract_literal_key(tables.nodes, key) else {
         return literals;
     };
-    let first = first_of(nodes, pattern) as usize;
+    let first = first_of(tables.nodes, pattern) as usize;
     let found = find_field(
-        nodes, children, numbers, names, strings, text, first, order, literals, literal,
+        tables, first, order, literals, literal,
     );
     if found.equal {
         return found.place;
@@ -42,23 +39,18 @@ pub(crate) fn partner_place<'a>(
 }
 
 // The pattern's node at a place of its order.
-pub(crate) fn pattern_at<'a>(
-    nodes: &[u32],
-    children: &[u32],
-    numbers: &[u64],
-    names: &[u32],
-    strings: &'a [u8],
-    text: &'a [u8],
+pub(crate) fn pattern_at(
+    tables: &Tables<'_>,
     pattern: u32,
     order: &[u8; 256],
     literals: usize,
     place: usize,
 ) -> u32
-    requires { SlotAsks (given nodes children numbers names strings text) pattern order.now literals place }
-    ensures { let T = lent nodes children numbers names strings text in SlotIs T (patterns_of T pattern).literals place result }
+    requires { SlotAsks (contents tables.now) pattern order.now literals place }
+    ensures { let T = contents tables.now in SlotIs T (patterns_of T pattern).literals place result }
 {
-    let first = first_of(nodes, pattern) as usize;
-    child_at(children, first + field_at(order, place) * 2 + 1)
+    let first = first_of(tables.nodes, pattern) as usize;
+    child_at(tables.children, first + field_at(order, place) * 2 + 1)
 }
 
 fn mark(marks: &mut [u32], place: usize)
@@ -70,13 +62,8 @@ fn mark(marks: &mut [u32], place: usize)
 }
 
 // Marks the places of the pattern's fields that have a partner.
-fn mark_partners<'a>(
-    nodes: &[u32],
-    children: &[u32],
-    numbers: &[u64],
-    names: &[u32],
-    strings: &'a [u8],
-    text: &'a [u8],
+fn mark_partners(
+    tables: &Tables<'_>,
     pattern: u32,
     value: u32,
     order: &[u8; 256],
@@ -84,16 +71,16 @@ fn mark_partners<'a>(
     total: usize,
     marks: &mut [u32; 256],
 )
-    requires { FieldsAsks (given nodes children numbers names strings text) pattern value order.now literals total × Unmarked marks.old }
-    ensures { Marked (lent nodes children numbers names strings text) pattern value literals marks.new }
+    requires { FieldsAsks (contents tables.now) pattern value order.now literals total × Unmarked marks.old }
+    ensures { Marked (contents tables.now) pattern value literals marks.new }
 {
-    let first = first_of(nodes, value) as usize;
-    let count = count_of(nodes, value) as usize;
+    let first = first_of(tables.nodes, value) as usize;
+    let count = count_of(tables.nodes, value) as usize;
     let mut i: usize = 0;
     while i < count {
-        let key = child_at(children, first + i * 2);
+        let key = child_at(tables.children, first + i * 2);
         let place = partner_place(
-            nodes, children, numbers, names, strings, text, pattern, order, literals, key,
+            tables, pattern, order, literals, key,
         );
         mark(marks, place);
         i += 1;
@@ -115,13 +102,8 @@ fn all_marked(marks: &[u32; 256], size: usize) -> bool
 }
 
 // Has each of the pattern's literal fields a partner?
-fn all_paired<'a>(
-    nodes: &[u32],
-    children: &[u32],
-    numbers: &[u64],
-    names: &[u32],
-    strings: &'a [u8],
-    text: &'a [u8],
+fn all_paired(
+    tables: &Tables<'_>,
     pattern: u32,
     value: u32,
     order: &[u8; 256],
@@ -129,25 +111,20 @@ fn all_paired<'a>(
     total: usize,
     marks: &mut [u32; 256],
 ) -> bool
-    requires { FieldsAsks (given nodes children numbers names strings text) pattern value order.now literals total }
-    ensures { let T = lent nodes children numbers names strings text in (result ≡ paired_at T pattern value) × WorkingSpace marks }
+    requires { FieldsAsks (contents tables.now) pattern value order.now literals total }
+    ensures { let T = contents tables.now in (result ≡ paired_at T pattern value) × WorkingSpace marks }
 {
     clear(marks);
     mark_partners(
-        nodes, children, numbers, names, strings, text, pattern, value, order, literals, total,
+        tables, pattern, value, order, literals, total,
         marks,
     );
     all_marked(marks, literals)
 }
 
 // The same, asked in the careful reading alone.
-pub(crate) fn each_paired<'a>(
-    nodes: &[u32],
-    children: &[u32],
-    numbers: &[u64],
-    names: &[u32],
-    strings: &'a [u8],
-    text: &'a [u8],
+pub(crate) fn each_paired(
+    tables: &Tables<'_>,
     pattern: u32,
     value: u32,
     order: &[u8; 256],
@@ -156,13 +133,13 @@ pub(crate) fn each_paired<'a>(
     reading: Reading,
     marks: &mut [u32; 256],
 ) -> bool
-    requires { FieldsAsks (given nodes children numbers names strings text) pattern value order.now literals total }
-    ensures { let T = lent nodes children numbers names strings text in (result ≡ paired_by reading T pattern value) × WorkingSpace marks }
+    requires { FieldsAsks (contents tables.now) pattern value order.now literals total }
+    ensures { let T = contents tables.now in (result ≡ paired_by reading T pattern value) × WorkingSpace marks }
 {
     match reading {
         Reading::Present => true,
         Reading::Careful => all_paired(
-            nodes, children, numbers, names, strings, text, pattern, value, order, literals, total,
+            tables, pattern, value, order, literals, total,
             marks,
         ),
     }

@@ -1,4 +1,5 @@
 // The literal keys of two objects, by their texts.
+ghost use Rattle.table.specs.Contents.{contents};
 ghost use Rattle.table.specs.Lent.{given, lent, lent_literal, lent_referred};
 ghost use Rattle.std.specs.Prelude.{◌≡◌, ◌≤◌};
 ghost use Rattle.literal.specs.Text.{texts_compared};
@@ -8,6 +9,7 @@ ghost use Rattle.planner.specs.code.Post.{OrderAsks};
 ghost use Rattle.checks.specs.code.Texts.{is_greater, TextAsksIn, TextPlace, AddKeyAsks, KeyAdded, SortedKeys, ordered_key, OrderedAsks, texts_agree, BothAsks, TextsComparedBy};
 ghost use Rattle.checks.specs.code.Post.{WorkingSpaces, ObjectsAsks, KeysComparedBy};
 
+use table::tables::Tables;
 use base::words::insert_at;
 use literal::{Comparison, LiteralRef};
 use planner::fields::field_at;
@@ -92,52 +94,42 @@ fn add_key<'a>(
 }
 
 // The literal key nodes of fields in an order, sorted by their texts.
-fn sort_ordered<'a>(
-    nodes: &[u32],
-    children: &[u32],
-    numbers: &[u64],
-    names: &[u32],
-    strings: &'a [u8],
-    text: &'a [u8],
+fn sort_ordered(
+    tables: &Tables<'_>,
     first: usize,
     order: &[u8; 256],
     total: usize,
     keys: &mut [u32; 256],
 ) -> usize
-    requires { OrderedAsks (given nodes children numbers names strings text) first order.now total }
-    ensures { let T = lent nodes children numbers names strings text in SortedKeys T (ordered_key T first order.now) total keys.old keys.new result }
+    requires { OrderedAsks (contents tables.now) first order.now total }
+    ensures { let T = contents tables.now in SortedKeys T (ordered_key T first order.now) total keys.old keys.new result }
 {
     let mut size: usize = 0;
     let mut q = total;
     while 0 < q {
         q -= 1;
-        let key = child_at(children, first + field_at(order, q) * 2);
-        size = add_key(nodes, numbers, strings, text, key, keys, size);
+        let key = child_at(tables.children, first + field_at(order, q) * 2);
+        size = add_key(tables.nodes, tables.numbers, tables.strings, tables.text, key, keys, size);
     }
     size
 }
 
 // The same of all fields.
-fn sort_written<'a>(
-    nodes: &[u32],
-    children: &[u32],
-    numbers: &[u64],
-    names: &[u32],
-    strings: &'a [u8],
-    text: &'a [u8],
+fn sort_written(
+    tables: &Tables<'_>,
     first: usize,
     count: usize,
     keys: &mut [u32; 256],
 ) -> usize
-    requires { OrderAsks (given nodes children numbers names strings text) first count }
-    ensures { let T = lent nodes children numbers names strings text in SortedKeys T (field_key T first) count keys.old keys.new result }
+    requires { OrderAsks (contents tables.now) first count }
+    ensures { let T = contents tables.now in SortedKeys T (field_key T first) count keys.old keys.new result }
 {
     let mut size: usize = 0;
     let mut i = count;
     while 0 < i {
         i -= 1;
-        let key = child_at(children, first + i * 2);
-        size = add_key(nodes, numbers, strings, text, key, keys, size);
+        let key = child_at(tables.children, first + i * 2);
+        size = add_key(tables.nodes, tables.numbers, tables.strings, tables.text, key, keys, size);
     }
     size
 }
@@ -172,13 +164,8 @@ fn same_texts<'a>(
 }
 
 // A pattern's fields in an order, and a value's fields as written.
-fn compare_texts<'a>(
-    nodes: &[u32],
-    children: &[u32],
-    numbers: &[u64],
-    names: &[u32],
-    strings: &'a [u8],
-    text: &'a [u8],
+fn compare_texts(
+    tables: &Tables<'_>,
     first: usize,
     order: &[u8; 256],
     total: usize,
@@ -187,16 +174,16 @@ fn compare_texts<'a>(
     keys: &mut [u32; 256],
     others: &mut [u32; 256],
 ) -> ComparedKeys
-    requires { BothAsks (given nodes children numbers names strings text) first order.now total from size }
-    ensures { TextsComparedBy (lent nodes children numbers names strings text) first order.now total from size result × WorkingSpaces keys others }
+    requires { BothAsks (contents tables.now) first order.now total from size }
+    ensures { TextsComparedBy (contents tables.now) first order.now total from size result × WorkingSpaces keys others }
 {
     let literals = sort_ordered(
-        nodes, children, numbers, names, strings, text, first, order, total, keys,
+        tables, first, order, total, keys,
     );
     let count = sort_written(
-        nodes, children, numbers, names, strings, text, from, size, others,
+        tables, from, size, others,
     );
-    let same = same_texts(nodes, numbers, strings, text, keys, literals, others, count);
+    let same = same_texts(tables.nodes, tables.numbers, tables.strings, tables.text, keys, literals, others, count);
     ComparedKeys {
         literals,
         total,
@@ -205,31 +192,26 @@ fn compare_texts<'a>(
 }
 
 // The pattern's fields into `order`, and the keys of the two objects.
-pub(crate) fn compare_object_keys<'a>(
-    nodes: &[u32],
-    children: &[u32],
-    numbers: &[u64],
-    names: &[u32],
-    strings: &'a [u8],
-    text: &'a [u8],
+pub(crate) fn compare_object_keys(
+    tables: &Tables<'_>,
     pattern: u32,
     value: u32,
     order: &mut [u8; 256],
     keys: &mut [u32; 256],
     others: &mut [u32; 256],
 ) -> ComparedKeys
-    requires { ObjectsAsks (given nodes children numbers names strings text) pattern value }
-    ensures { KeysComparedBy (lent nodes children numbers names strings text) pattern value order.new result × WorkingSpaces keys others }
+    requires { ObjectsAsks (contents tables.now) pattern value }
+    ensures { KeysComparedBy (contents tables.now) pattern value order.new result × WorkingSpaces keys others }
 {
-    let first = first_of(nodes, pattern) as usize;
-    let count = count_of(nodes, pattern) as usize;
+    let first = first_of(tables.nodes, pattern) as usize;
+    let count = count_of(tables.nodes, pattern) as usize;
     let total = order_fields(
-        nodes, children, numbers, names, strings, text, first, count, order,
+        tables, first, count, order,
     ) as usize;
-    let from = first_of(nodes, value) as usize;
-    let size = count_of(nodes, value) as usize;
+    let from = first_of(tables.nodes, value) as usize;
+    let size = count_of(tables.nodes, value) as usize;
     compare_texts(
-        nodes, children, numbers, names, strings, text, first, order, total, from, size, keys,
+        tables, first, order, total, from, size, keys,
         others,
     )
 }

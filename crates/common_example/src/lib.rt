@@ -1,6 +1,7 @@
 // The common example of two patterns, a value that both match: both sides checked, unified, and the value written.
 #![tactic(auto)]
 
+ghost use Rattle.table.specs.Contents.{contents};
 ghost use Rattle.table.specs.Lent.{given, lent};
 ghost use Rattle.std.specs.Prelude.{◌≡◌};
 ghost use Rattle.common_example.specs.Answer.{side_tested};
@@ -8,6 +9,7 @@ ghost use Rattle.common_example.specs.Common.{example_result, pattern_side, Comm
 ghost use Rattle.common_example.specs.code.Example.{given_result};
 ghost use Rattle.common_example.specs.code.Common.{SidesCheckedIn, WriteAsks, WrittenIn, GiveAsks, GivenIn, PassedAsks, PassedIn};
 
+use table::tables::Tables;
 use classes::{HEAD_WORDS, LINK_WORDS, PLACES};
 use example::{Given, write_example};
 use graph::node_places::node_place;
@@ -83,58 +85,43 @@ fn answer_of(given: Given) -> ExampleAnswer
 }
 
 // The refusals of one side.
-pub fn refused_side<'a>(
-    nodes: &[u32],
-    children: &[u32],
-    numbers: &[u64],
-    names: &[u32],
-    strings: &'a [u8],
-    text: &'a [u8],
+pub fn refused_side(
+    tables: &Tables<'_>,
     pattern: ScopedPattern,
     values: &[u32],
 ) -> Checked
-    ensures { SideCheckedIn (lent nodes children numbers names strings text) pattern values result }
+    ensures { SideCheckedIn (contents tables.now) pattern values result }
 {
     let answer = check_side(
-        nodes, children, numbers, names, strings, text, pattern, values,
+        tables, pattern, values,
     );
     refusal(answer)
 }
 
 // The first side's refusals, then the second's.
-fn check_sides<'a>(
-    nodes: &[u32],
-    children: &[u32],
-    numbers: &[u64],
-    names: &[u32],
-    strings: &'a [u8],
-    text: &'a [u8],
+fn check_sides(
+    tables: &Tables<'_>,
     first: ScopedPattern,
     values1: &[u32],
     second: ScopedPattern,
     values2: &[u32],
 ) -> Checked
-    ensures { SidesCheckedIn (lent nodes children numbers names strings text) first values1 second values2 result }
+    ensures { SidesCheckedIn (contents tables.now) first values1 second values2 result }
 {
     let one = refused_side(
-        nodes, children, numbers, names, strings, text, first, values1,
+        tables, first, values1,
     );
     if let Checked::Refused(answer) = one {
         return Checked::Refused(answer);
     }
     refused_side(
-        nodes, children, numbers, names, strings, text, second, values2,
+        tables, second, values2,
     )
 }
 
 // The value of the joined roots' class.
-fn write_joined<'a>(
-    nodes: &[u32],
-    children: &[u32],
-    numbers: &[u64],
-    names: &[u32],
-    strings: &'a [u8],
-    text: &'a [u8],
+fn write_joined(
+    tables: &Tables<'_>,
     held1: &[u32; 128],
     root1: u32,
     heads: &[u32; HEAD_WORDS],
@@ -143,15 +130,15 @@ fn write_joined<'a>(
     example_nodes: &mut [u32],
     example_children: &mut [u32],
 ) -> ExampleAnswer
-    requires { WriteAsks (given nodes children numbers names strings text) held1.now root1 heads.now links.now classes.now }
-    ensures { let T = lent nodes children numbers names strings text in WrittenIn T held1 root1 heads links classes example_nodes example_children result }
+    requires { WriteAsks (contents tables.now) held1.now root1 heads.now links.now classes.now }
+    ensures { let T = contents tables.now in WrittenIn T held1 root1 heads links classes example_nodes example_children result }
 {
     let place = node_place(
-        nodes, children, numbers, names, strings, text, held1, root1, 0,
+        tables, held1, root1, 0,
     );
-    let entries = children.len() as u32;
+    let entries = tables.children.len() as u32;
     let given = write_example(
-        nodes,
+        tables.nodes,
         heads,
         links,
         classes,
@@ -164,13 +151,8 @@ fn write_joined<'a>(
 }
 
 // `held1` and `held2` have for each name number the node of its value on that side, or 0.
-fn give_example<'a>(
-    nodes: &[u32],
-    children: &[u32],
-    numbers: &[u64],
-    names: &[u32],
-    strings: &'a [u8],
-    text: &'a [u8],
+fn give_example(
+    tables: &Tables<'_>,
     held1: &[u32; 128],
     held2: &[u32; 128],
     root1: u32,
@@ -178,19 +160,14 @@ fn give_example<'a>(
     example_nodes: &mut [u32],
     example_children: &mut [u32],
 ) -> ExampleAnswer
-    requires { GiveAsks (given nodes children numbers names strings text) held1.now held2.now root1 root2 }
-    ensures { let T = lent nodes children numbers names strings text in GivenIn T held1 held2 root1 root2 example_nodes example_children result }
+    requires { GiveAsks (contents tables.now) held1.now held2.now root1 root2 }
+    ensures { let T = contents tables.now in GivenIn T held1 held2 root1 root2 example_nodes example_children result }
 {
     let mut heads = [0u32; HEAD_WORDS];
     let mut links = [0u32; LINK_WORDS];
     let mut classes = [0u32; PLACES];
     let unified = unify_patterns(
-        nodes,
-        children,
-        numbers,
-        names,
-        strings,
-        text,
+        tables,
         held1,
         held2,
         root1,
@@ -205,12 +182,7 @@ fn give_example<'a>(
         return ExampleAnswer::NoValue;
     }
     write_joined(
-        nodes,
-        children,
-        numbers,
-        names,
-        strings,
-        text,
+        tables,
         held1,
         root1,
         &heads,
@@ -222,13 +194,8 @@ fn give_example<'a>(
 }
 
 // Of two sides that passed their checks.
-fn example_of<'a>(
-    nodes: &[u32],
-    children: &[u32],
-    numbers: &[u64],
-    names: &[u32],
-    strings: &'a [u8],
-    text: &'a [u8],
+fn example_of(
+    tables: &Tables<'_>,
     first: ScopedPattern,
     values1: &[u32],
     second: ScopedPattern,
@@ -236,22 +203,17 @@ fn example_of<'a>(
     example_nodes: &mut [u32],
     example_children: &mut [u32],
 ) -> ExampleAnswer
-    requires { PassedAsks (given nodes children numbers names strings text) (pattern_side first values1.now) (pattern_side second values2.now) }
-    ensures { let T = lent nodes children numbers names strings text in PassedIn T first values1 second values2 example_nodes example_children result }
+    requires { PassedAsks (contents tables.now) (pattern_side first values1.now) (pattern_side second values2.now) }
+    ensures { let T = contents tables.now in PassedIn T first values1 second values2 example_nodes example_children result }
 {
     let scope1 = first.scope;
     let scoping1 = first.scoping;
     let scope2 = second.scope;
     let scoping2 = second.scoping;
-    let held1 = start_list(names, scope1, scoping1, values1);
-    let held2 = start_list(names, scope2, scoping2, values2);
+    let held1 = start_list(tables.names, scope1, scoping1, values1);
+    let held2 = start_list(tables.names, scope2, scoping2, values2);
     give_example(
-        nodes,
-        children,
-        numbers,
-        names,
-        strings,
-        text,
+        tables,
         &held1,
         &held2,
         first.root,
@@ -262,13 +224,8 @@ fn example_of<'a>(
 }
 
 // The example's nodes go on from the tables' and its child entries from their child list; both lists are zeros past it, and throughout where there is none.
-pub fn common_example<'a>(
-    nodes: &[u32],
-    children: &[u32],
-    numbers: &[u64],
-    names: &[u32],
-    strings: &'a [u8],
-    text: &'a [u8],
+pub fn common_example(
+    tables: &Tables<'_>,
     first: ScopedPattern,
     values1: &[u32],
     second: ScopedPattern,
@@ -276,10 +233,10 @@ pub fn common_example<'a>(
     example_nodes: &mut [u32],
     example_children: &mut [u32],
 ) -> ExampleAnswer
-    ensures { let T = lent nodes children numbers names strings text in CommonIn T first values1 second values2 example_nodes example_children result }
+    ensures { let T = contents tables.now in CommonIn T first values1 second values2 example_nodes example_children result }
 {
     let checked = check_sides(
-        nodes, children, numbers, names, strings, text, first, values1, second, values2,
+        tables, first, values1, second, values2,
     );
     if let Checked::Refused(answer) = checked {
         clear(example_nodes);
@@ -287,12 +244,7 @@ pub fn common_example<'a>(
         return answer;
     }
     example_of(
-        nodes,
-        children,
-        numbers,
-        names,
-        strings,
-        text,
+        tables,
         first,
         values1,
         second,

@@ -1,7 +1,9 @@
 // The graph of two patterns of a checked table, and its classes with the two roots joined.
+ghost use Rattle.table.specs.Contents.{contents};
 ghost use Rattle.table.specs.Lent.{given, lent};
 ghost use Rattle.common_example.specs.code.arrays.Unifying.{LinksFrom, LinksMade, GraphAsks, GraphMade, PatternsAsks, Unifies};
 
+use table::tables::Tables;
 use crate::classes::{HEAD_WORDS, LINK_WORDS, PLACES};
 use crate::graph::key_order::order_children;
 use crate::graph::likes::like_nodes;
@@ -10,60 +12,45 @@ use crate::graph::words::{head_words, link_words};
 use crate::roots::unify_roots;
 use value::inner::admitted::mark_nodes;
 
-fn graph_links<'a>(
-    nodes: &[u32],
-    children: &[u32],
-    numbers: &[u64],
-    names: &[u32],
-    strings: &'a [u8],
-    text: &'a [u8],
+fn graph_links(
+    tables: &Tables<'_>,
     held1: &[u32; 128],
     held2: &[u32; 128],
     marks: &[u8; 512],
     like: &[u32; 512],
     links: &mut [u32; LINK_WORDS],
 )
-    requires { LinksFrom (given nodes children numbers names strings text) held1.now held2.now marks.now }
-    ensures { LinksMade (lent nodes children numbers names strings text) held1.now held2.now like.now links.new }
+    requires { LinksFrom (contents tables.now) held1.now held2.now marks.now }
+    ensures { LinksMade (contents tables.now) held1.now held2.now like.now links.new }
 {
-    let ordered = order_children(nodes, children, numbers, names, strings, text, marks);
-    let first = side_places(nodes, children, numbers, names, strings, text, held1, 0);
-    let second = side_places(nodes, children, numbers, names, strings, text, held2, 1);
+    let ordered = order_children(tables, marks);
+    let first = side_places(tables, held1, 0);
+    let second = side_places(tables, held2, 1);
     link_words(&ordered, &first, &second, like, links);
 }
 
 // `held1` and `held2` have for each name number the node of its value on that side, or 0.
-pub(crate) fn make_graph<'a>(
-    nodes: &[u32],
-    children: &[u32],
-    numbers: &[u64],
-    names: &[u32],
-    strings: &'a [u8],
-    text: &'a [u8],
+pub(crate) fn make_graph(
+    tables: &Tables<'_>,
     held1: &[u32; 128],
     held2: &[u32; 128],
     heads: &mut [u32; HEAD_WORDS],
     links: &mut [u32; LINK_WORDS],
 )
-    requires { GraphAsks (given nodes children numbers names strings text) held1.now held2.now }
-    ensures { GraphMade (lent nodes children numbers names strings text) held1.now held2.now heads.new links.new }
+    requires { GraphAsks (contents tables.now) held1.now held2.now }
+    ensures { GraphMade (contents tables.now) held1.now held2.now heads.new links.new }
 {
-    let marks = mark_nodes(nodes, children, numbers, names, strings, text, true);
-    let like = like_nodes(nodes, numbers, strings, text);
-    head_words(nodes, &marks, &like, heads);
+    let marks = mark_nodes(tables, true);
+    let like = like_nodes(tables.nodes, tables.numbers, tables.strings, tables.text);
+    head_words(tables.nodes, &marks, &like, heads);
     graph_links(
-        nodes, children, numbers, names, strings, text, held1, held2, &marks, &like, links,
+        tables, held1, held2, &marks, &like, links,
     );
 }
 
 // False where no value is matched by both.
-pub(crate) fn unify_patterns<'a>(
-    nodes: &[u32],
-    children: &[u32],
-    numbers: &[u64],
-    names: &[u32],
-    strings: &'a [u8],
-    text: &'a [u8],
+pub(crate) fn unify_patterns(
+    tables: &Tables<'_>,
     held1: &[u32; 128],
     held2: &[u32; 128],
     root1: u32,
@@ -72,17 +59,17 @@ pub(crate) fn unify_patterns<'a>(
     links: &mut [u32; LINK_WORDS],
     classes: &mut [u32; PLACES],
 ) -> bool
-    requires { PatternsAsks (given nodes children numbers names strings text) held1.now held2.now root1 root2 }
-    ensures { Unifies (lent nodes children numbers names strings text) held1.now held2.now root1 root2 heads.new links.new classes.new result }
+    requires { PatternsAsks (contents tables.now) held1.now held2.now root1 root2 }
+    ensures { Unifies (contents tables.now) held1.now held2.now root1 root2 heads.new links.new classes.new result }
 {
     make_graph(
-        nodes, children, numbers, names, strings, text, held1, held2, heads, links,
+        tables, held1, held2, heads, links,
     );
     let a = node_place(
-        nodes, children, numbers, names, strings, text, held1, root1, 0,
+        tables, held1, root1, 0,
     );
     let b = node_place(
-        nodes, children, numbers, names, strings, text, held2, root2, 1,
+        tables, held2, root2, 1,
     );
     unify_roots(heads, links, classes, a, b)
 }

@@ -1,9 +1,11 @@
 // The key sets of a pattern's object and a value's: a key that is missing, or one too many.
+ghost use Rattle.table.specs.Contents.{contents};
 ghost use Rattle.table.specs.Lent.{given, lent, lent_literal};
 ghost use Rattle.std.specs.Prelude.{◌≡◌};
 ghost use Rattle.value.specs.code.Post.{KeySetsAsks};
 ghost use Rattle.first_miss.specs.code.Post.{comes_before, LesserAsks, LesserTold, MissingTold, OtherTold};
 
+use table::tables::Tables;
 use literal::Comparison;
 use table::reading::{child_at, compare_literals, count_of, first_of};
 use value::inner::fields::value_under;
@@ -29,23 +31,18 @@ fn comes_before<'a>(
 }
 
 // The least missing key so far, or 0, once a key is looked for in an object, at first at `position`.
-fn lesser_missing<'a>(
-    nodes: &[u32],
-    children: &[u32],
-    numbers: &[u64],
-    names: &[u32],
-    strings: &'a [u8],
-    text: &'a [u8],
+fn lesser_missing(
+    tables: &Tables<'_>,
     object: u32,
     position: usize,
     key: u32,
     least: u32,
 ) -> u32
-    requires { LesserAsks (given nodes children numbers names strings text) object key least }
-    ensures { LesserTold (lent nodes children numbers names strings text) object key least result }
+    requires { LesserAsks (contents tables.now) object key least }
+    ensures { LesserTold (contents tables.now) object key least result }
 {
     let value = value_under(
-        nodes, children, numbers, names, strings, text, object, position, key,
+        tables, object, position, key,
     );
     if value != 0 {
         return least;
@@ -53,59 +50,49 @@ fn lesser_missing<'a>(
     if least == 0 {
         return key;
     }
-    if comes_before(nodes, numbers, strings, text, key, least) {
+    if comes_before(tables.nodes, tables.numbers, tables.strings, tables.text, key, least) {
         return key;
     }
     least
 }
 
 // The least key of one object that another lacks, or 0.
-pub(crate) fn missing_key<'a>(
-    nodes: &[u32],
-    children: &[u32],
-    numbers: &[u64],
-    names: &[u32],
-    strings: &'a [u8],
-    text: &'a [u8],
+pub(crate) fn missing_key(
+    tables: &Tables<'_>,
     a: u32,
     b: u32,
 ) -> u32
-    requires { KeySetsAsks (given nodes children numbers names strings text) a b }
-    ensures { MissingTold (lent nodes children numbers names strings text) a b result }
+    requires { KeySetsAsks (contents tables.now) a b }
+    ensures { MissingTold (contents tables.now) a b result }
 {
-    let first = first_of(nodes, a) as usize;
-    let mut left = count_of(nodes, a) as usize;
+    let first = first_of(tables.nodes, a) as usize;
+    let mut left = count_of(tables.nodes, a) as usize;
     let mut least = 0;
     while 0 < left {
         left -= 1;
-        let key = child_at(children, first + left * 2);
+        let key = child_at(tables.children, first + left * 2);
         least = lesser_missing(
-            nodes, children, numbers, names, strings, text, b, left, key, least,
+            tables, b, left, key, least,
         );
     }
     least
 }
 
 // The first key, as written, of one object that another lacks, or 0.
-pub(crate) fn other_key<'a>(
-    nodes: &[u32],
-    children: &[u32],
-    numbers: &[u64],
-    names: &[u32],
-    strings: &'a [u8],
-    text: &'a [u8],
+pub(crate) fn other_key(
+    tables: &Tables<'_>,
     a: u32,
     b: u32,
 ) -> u32
-    requires { KeySetsAsks (given nodes children numbers names strings text) a b }
-    ensures { OtherTold (lent nodes children numbers names strings text) a b result }
+    requires { KeySetsAsks (contents tables.now) a b }
+    ensures { OtherTold (contents tables.now) a b result }
 {
-    let first = first_of(nodes, a) as usize;
-    let count = count_of(nodes, a) as usize;
+    let first = first_of(tables.nodes, a) as usize;
+    let count = count_of(tables.nodes, a) as usize;
     let mut i: usize = 0;
     while i < count {
-        let key = child_at(children, first + i * 2);
-        let value = value_under(nodes, children, numbers, names, strings, text, b, i, key);
+        let key = child_at(tables.children, first + i * 2);
+        let value = value_under(tables, b, i, key);
         if value == 0 {
             return key;
         }

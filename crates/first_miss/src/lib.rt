@@ -1,9 +1,11 @@
 // Where a run misses: the run of a pattern on a value again, with its first miss kept.
 #![tactic(auto)]
 
+ghost use Rattle.table.specs.Contents.{contents};
 ghost use Rattle.table.specs.Lent.{lent};
 ghost use Rattle.first_miss.specs.Operations.{MissToldIn};
 
+use table::tables::Tables;
 use run::RunAnswer;
 use run::inner::names::start_list;
 use run::inner::refusals::{RunCheck, check_run};
@@ -41,30 +43,25 @@ pub enum MissAnswer {
 }
 
 // Where the run of the pattern on the value misses first. `values` has for each name number the node of its value, or 0.
-pub fn first_miss<'a>(
-    nodes: &[u32],
-    children: &[u32],
-    numbers: &[u64],
-    names: &[u32],
-    strings: &'a [u8],
-    text: &'a [u8],
+pub fn first_miss(
+    tables: &Tables<'_>,
     scope: Scope,
     scoping: ScopingMode,
     pattern: u32,
     value: u32,
     values: &[u32],
 ) -> MissAnswer
-    ensures { MissToldIn values (lent nodes children numbers names strings text) scope scoping pattern value result }
+    ensures { MissToldIn values (contents tables.now) scope scoping pattern value result }
 {
     let checked = check_run(
-        nodes, children, numbers, names, strings, text, scope, scoping, pattern, value, values,
+        tables, scope, scoping, pattern, value, values,
     );
     if let RunCheck::Refused(answer) = checked {
         return MissAnswer::Refused(answer);
     }
-    let mut list = start_list(names, scope, scoping, values);
+    let mut list = start_list(tables.names, scope, scoping, values);
     let walked = walk(
-        nodes, children, numbers, names, strings, text, &mut list, pattern, value,
+        tables, &mut list, pattern, value,
     );
     match walked {
         Walked::Matched => MissAnswer::Match,

@@ -1,8 +1,10 @@
 // The run again, as a walk over the pattern: a name that has no value is set, one that has is compared.
+ghost use Rattle.table.specs.Contents.{contents};
 ghost use Rattle.table.specs.Lent.{given, lent};
 ghost use Rattle.std.specs.Prelude.{◌≡◌};
 ghost use Rattle.first_miss.specs.code.Post.{literal_walked, array_walked, ObjectTold, LiteralAsks, ObjectAsks, WalkAsks, NameAsks, ItemsAsks, FieldsAsks, walk_nodes, walk_listed, walk_under, CameIn};
 
+use table::tables::Tables;
 use crate::keys::{missing_key, other_key};
 use crate::{Miss, Why};
 use run::inner::names::is_wildcard;
@@ -19,20 +21,15 @@ pub enum Walked {
 }
 
 // A literal of the pattern and a value.
-fn walk_literal<'a>(
-    nodes: &[u32],
-    children: &[u32],
-    numbers: &[u64],
-    names: &[u32],
-    strings: &'a [u8],
-    text: &'a [u8],
+fn walk_literal(
+    tables: &Tables<'_>,
     a: u32,
     b: u32,
 ) -> Walked
-    requires { LiteralAsks (given nodes children numbers names strings text) a b }
-    ensures { result ≡ literal_walked (lent nodes children numbers names strings text) a b }
+    requires { LiteralAsks (contents tables.now) a b }
+    ensures { result ≡ literal_walked (contents tables.now) a b }
 {
-    if same_value(nodes, children, numbers, names, strings, text, a, b) {
+    if same_value(tables, a, b) {
         return Walked::Matched;
     }
     Walked::Missed(Miss {
@@ -43,22 +40,17 @@ fn walk_literal<'a>(
 }
 
 // A name of the pattern and a value.
-fn walk_name<'a>(
-    nodes: &[u32],
-    children: &[u32],
-    numbers: &[u64],
-    names: &[u32],
-    strings: &'a [u8],
-    text: &'a [u8],
+fn walk_name(
+    tables: &Tables<'_>,
     list: &mut [u32; 128],
     a: u32,
     b: u32,
 ) -> Walked
-    requires { NameAsks (given nodes children numbers names strings text) a b list.old }
-    ensures { let T = lent nodes children numbers names strings text in CameIn list T (walk_nodes T a b) result }
+    requires { NameAsks (contents tables.now) a b list.old }
+    ensures { let T = contents tables.now in CameIn list T (walk_nodes T a b) result }
 {
-    let name = first_of(nodes, a);
-    if is_wildcard(names, text, name) {
+    let name = first_of(tables.nodes, a);
+    if is_wildcard(tables.names, tables.text, name) {
         return Walked::Matched;
     }
     let place = name as usize - 1;
@@ -67,7 +59,7 @@ fn walk_name<'a>(
         list[place] = b;
         return Walked::Matched;
     }
-    if same_value(nodes, children, numbers, names, strings, text, held, b) {
+    if same_value(tables, held, b) {
         return Walked::Matched;
     }
     Walked::Missed(Miss {
@@ -99,27 +91,22 @@ fn walk_array(nodes: &[u32], a: u32, b: u32) -> Walked
 }
 
 // Is a value an object of the pattern's keys?
-fn walk_object<'a>(
-    nodes: &[u32],
-    children: &[u32],
-    numbers: &[u64],
-    names: &[u32],
-    strings: &'a [u8],
-    text: &'a [u8],
+fn walk_object(
+    tables: &Tables<'_>,
     a: u32,
     b: u32,
 ) -> Walked
-    requires { ObjectAsks (given nodes children numbers names strings text) a b }
-    ensures { ObjectTold (lent nodes children numbers names strings text) a b result }
+    requires { ObjectAsks (contents tables.now) a b }
+    ensures { ObjectTold (contents tables.now) a b result }
 {
-    if kind_of(nodes, b) != node_kind::OBJECT {
+    if kind_of(tables.nodes, b) != node_kind::OBJECT {
         return Walked::Missed(Miss {
             why: Why::NoObject,
             value: b,
             pattern: a,
         });
     }
-    let missing = missing_key(nodes, children, numbers, names, strings, text, a, b);
+    let missing = missing_key(tables, a, b);
     if missing != 0 {
         return Walked::Missed(Miss {
             why: Why::KeyMissing,
@@ -127,7 +114,7 @@ fn walk_object<'a>(
             pattern: missing,
         });
     }
-    let other = other_key(nodes, children, numbers, names, strings, text, b, a);
+    let other = other_key(tables, b, a);
     if other != 0 {
         return Walked::Missed(Miss {
             why: Why::KeyTooMany,
@@ -139,66 +126,56 @@ fn walk_object<'a>(
 }
 
 #[cycle(walk_walk_fields_walk_items)]
-pub(crate) fn walk<'a>(
-    nodes: &[u32],
-    children: &[u32],
-    numbers: &[u64],
-    names: &[u32],
-    strings: &'a [u8],
-    text: &'a [u8],
+pub(crate) fn walk(
+    tables: &Tables<'_>,
     list: &mut [u32; 128],
     a: u32,
     b: u32,
 ) -> Walked
-    requires { WalkAsks (given nodes children numbers names strings text) a b list.old }
-    ensures { let T = lent nodes children numbers names strings text in CameIn list T (walk_nodes T a b) result }
+    requires { WalkAsks (contents tables.now) a b list.old }
+    ensures { let T = contents tables.now in CameIn list T (walk_nodes T a b) result }
 {
-    let kind = kind_of(nodes, a);
+    let kind = kind_of(tables.nodes, a);
     if kind <= node_kind::LAST_LITERAL {
-        return walk_literal(nodes, children, numbers, names, strings, text, a, b);
+        return walk_literal(tables, a, b);
     }
     if kind == node_kind::NAME {
-        return walk_name(nodes, children, numbers, names, strings, text, list, a, b);
+        return walk_name(tables, list, a, b);
     }
     if kind == node_kind::ARRAY {
-        let array = walk_array(nodes, a, b);
+        let array = walk_array(tables.nodes, a, b);
         if let Walked::Missed(miss) = array {
             return Walked::Missed(miss);
         }
-        return walk_items(nodes, children, numbers, names, strings, text, list, a, b);
+        return walk_items(tables, list, a, b);
     }
-    let object = walk_object(nodes, children, numbers, names, strings, text, a, b);
+    let object = walk_object(tables, a, b);
     if let Walked::Missed(miss) = object {
         return Walked::Missed(miss);
     }
-    walk_fields(nodes, children, numbers, names, strings, text, list, a, b)
+    walk_fields(tables, list, a, b)
 }
 
 // The items of two arrays of one length.
 #[cycle(walk_walk_fields_walk_items)]
-fn walk_items<'a>(
-    nodes: &[u32],
-    children: &[u32],
-    numbers: &[u64],
-    names: &[u32],
-    strings: &'a [u8],
-    text: &'a [u8],
+fn walk_items(
+    tables: &Tables<'_>,
     list: &mut [u32; 128],
     a: u32,
     b: u32,
 ) -> Walked
-    requires { ItemsAsks (given nodes children numbers names strings text) a b list.old }
-    ensures { let T = lent nodes children numbers names strings text in CameIn list T (walk_listed T a b) result }
+    requires { ItemsAsks (contents tables.now) a b list.old }
+    ensures { let T = contents tables.now in CameIn list T (walk_listed T a b) result }
 {
-    let at = first_of(nodes, a) as usize;
-    let from = first_of(nodes, b) as usize;
-    let count = count_of(nodes, a) as usize;
+    let at = first_of(tables.nodes, a) as usize;
+    let from = first_of(tables.nodes, b) as usize;
+    let count = count_of(tables.nodes, a) as usize;
     let mut i: usize = 0;
     while i < count {
-        let item = child_at(children, at + i);
-        let part = child_at(children, from + i);
+        let item = child_at(tables.children, at + i);
+        let part = child_at(tables.children, from + i);
         let walked = walk(
-            nodes, children, numbers, names, strings, text, list, item, part,
+            tables, list, item, part,
         );
         if let Walked::Missed(miss) = walked {
             return Walked::Missed(miss);
@@ -210,30 +187,25 @@ fn walk_items<'a>(
 
 // The fields of two objects of the same keys, as the pattern has them.
 #[cycle(walk_walk_fields_walk_items)]
-fn walk_fields<'a>(
-    nodes: &[u32],
-    children: &[u32],
-    numbers: &[u64],
-    names: &[u32],
-    strings: &'a [u8],
-    text: &'a [u8],
+fn walk_fields(
+    tables: &Tables<'_>,
     list: &mut [u32; 128],
     a: u32,
     b: u32,
 ) -> Walked
-    requires { FieldsAsks (given nodes children numbers names strings text) a b list.old }
-    ensures { let T = lent nodes children numbers names strings text in CameIn list T (walk_under T a b) result }
+    requires { FieldsAsks (contents tables.now) a b list.old }
+    ensures { let T = contents tables.now in CameIn list T (walk_under T a b) result }
 {
-    let first = first_of(nodes, a) as usize;
-    let count = count_of(nodes, a) as usize;
+    let first = first_of(tables.nodes, a) as usize;
+    let count = count_of(tables.nodes, a) as usize;
     let mut i: usize = 0;
     while i < count {
         let place = first + i * 2;
-        let key = child_at(children, place);
-        let value = child_at(children, place + 1);
-        let part = value_under(nodes, children, numbers, names, strings, text, b, i, key);
+        let key = child_at(tables.children, place);
+        let value = child_at(tables.children, place + 1);
+        let part = value_under(tables, b, i, key);
         let walked = walk(
-            nodes, children, numbers, names, strings, text, list, value, part,
+            tables, list, value, part,
         );
         if let Walked::Missed(miss) = walked {
             return Walked::Missed(miss);

@@ -1,4 +1,5 @@
 // Each asks for a checked table. A plan is carried out entry by entry; an entry's children are taken by their positions, so items and fields as written.
+ghost use Rattle.table.specs.Contents.{contents};
 ghost use Rattle.table.specs.Lent.{given, lent};
 ghost use Rattle.std.specs.Prelude.{◌-◌, ◌≡◌, set};
 ghost use Rattle.table.specs.Tables.{first_word_of};
@@ -7,6 +8,7 @@ ghost use Rattle.value.specs.Value.{value_of, same};
 ghost use Rattle.planner.specs.code.Post.{NameNumber};
 ghost use Rattle.matching.specs.code.Post.{held_value, EntryAsks, ItemsAsks, FieldsAsks, CameIn, CompareAsks, PatternAsks, PatternCame};
 
+use table::tables::Tables;
 use crate::links::{entry_number, link_entries};
 use planner::buffer::{ENTRY_WORDS, PATTERN_WORDS};
 use planner::entry_kind;
@@ -25,34 +27,24 @@ fn bind_name(nodes: &[u32], list: &mut [u32; 128], node: u32, value: u32)
 }
 
 // Is a value equal to that of the name at a node?
-fn equals_name<'a>(
-    nodes: &[u32],
-    children: &[u32],
-    numbers: &[u64],
-    names: &[u32],
-    strings: &'a [u8],
-    text: &'a [u8],
+fn equals_name(
+    tables: &Tables<'_>,
     list: &[u32; 128],
     node: u32,
     value: u32,
 ) -> bool
-    requires { CompareAsks (given nodes children numbers names strings text) list.now node value }
-    ensures { let T = lent nodes children numbers names strings text in result ≡ same (held_value T list.now node) (value_of (expr T value)) }
+    requires { CompareAsks (contents tables.now) list.now node value }
+    ensures { let T = contents tables.now in result ≡ same (held_value T list.now node) (value_of (expr T value)) }
 {
-    let name = first_of(nodes, node) as usize;
+    let name = first_of(tables.nodes, node) as usize;
     let held = list[name - 1];
-    same_value(nodes, children, numbers, names, strings, text, held, value)
+    same_value(tables, held, value)
 }
 
 // One entry, carried out on a value: `rest` levels of depth are left.
 #[cycle(match_entry_match_fields_match_items)]
-fn match_entry<'a>(
-    nodes: &[u32],
-    children: &[u32],
-    numbers: &[u64],
-    names: &[u32],
-    strings: &'a [u8],
-    text: &'a [u8],
+fn match_entry(
+    tables: &Tables<'_>,
     scratch: &[u32; PATTERN_WORDS],
     starts: &[u16; 512],
     links: &[u16; 512],
@@ -61,13 +53,13 @@ fn match_entry<'a>(
     rest: usize,
     list: &mut [u32; 128],
 ) -> bool
-    requires { EntryAsks (given nodes children numbers names strings text) scratch.now starts.now links.now at value rest list.old }
-    ensures { let T = lent nodes children numbers names strings text in CameIn list T scratch.now at value result }
+    requires { EntryAsks (contents tables.now) scratch.now starts.now links.now at value rest list.old }
+    ensures { let T = contents tables.now in CameIn list T scratch.now at value result }
 {
     let kind = scratch[at * ENTRY_WORDS];
     let node = scratch[at * ENTRY_WORDS + 1];
     if kind == entry_kind::BIND {
-        bind_name(nodes, list, node, value);
+        bind_name(tables.nodes, list, node, value);
         return true;
     }
     if kind == entry_kind::IGNORE {
@@ -75,21 +67,16 @@ fn match_entry<'a>(
     }
     if kind == entry_kind::COMPARE_EXPRESSION {
         return equals_name(
-            nodes, children, numbers, names, strings, text, list, node, value,
+            tables, list, node, value,
         );
     }
     if kind == entry_kind::COMPARE_LITERAL {
-        return same_value(nodes, children, numbers, names, strings, text, node, value);
+        return same_value(tables, node, value);
     }
     let count = scratch[at * ENTRY_WORDS + 2];
     if kind == entry_kind::ARRAY {
         return match_items(
-            nodes,
-            children,
-            numbers,
-            names,
-            strings,
-            text,
+            tables,
             scratch,
             starts,
             links,
@@ -101,12 +88,7 @@ fn match_entry<'a>(
         );
     }
     match_fields(
-        nodes,
-        children,
-        numbers,
-        names,
-        strings,
-        text,
+        tables,
         scratch,
         starts,
         links,
@@ -120,13 +102,8 @@ fn match_entry<'a>(
 
 // An array needs an array of its length, then takes the items.
 #[cycle(match_entry_match_fields_match_items)]
-fn match_items<'a>(
-    nodes: &[u32],
-    children: &[u32],
-    numbers: &[u64],
-    names: &[u32],
-    strings: &'a [u8],
-    text: &'a [u8],
+fn match_items(
+    tables: &Tables<'_>,
     scratch: &[u32; PATTERN_WORDS],
     starts: &[u16; 512],
     links: &[u16; 512],
@@ -136,23 +113,23 @@ fn match_items<'a>(
     rest: usize,
     list: &mut [u32; 128],
 ) -> bool
-    requires { ItemsAsks (given nodes children numbers names strings text) scratch.now starts.now links.now at count value rest list.old }
-    ensures { let T = lent nodes children numbers names strings text in CameIn list T scratch.now at value result }
+    requires { ItemsAsks (contents tables.now) scratch.now starts.now links.now at count value rest list.old }
+    ensures { let T = contents tables.now in CameIn list T scratch.now at value result }
 {
-    if kind_of(nodes, value) != node_kind::ARRAY {
+    if kind_of(tables.nodes, value) != node_kind::ARRAY {
         return false;
     }
-    if count_of(nodes, value) != count {
+    if count_of(tables.nodes, value) != count {
         return false;
     }
     let start = entry_number(starts[at]);
-    let from = first_of(nodes, value) as usize;
+    let from = first_of(tables.nodes, value) as usize;
     let mut i: u32 = 0;
     while i < count {
         let item = entry_number(links[start + i as usize]);
-        let part = child_at(children, from + i as usize);
+        let part = child_at(tables.children, from + i as usize);
         if !match_entry(
-            nodes, children, numbers, names, strings, text, scratch, starts, links, item, part,
+            tables, scratch, starts, links, item, part,
             rest, list,
         ) {
             return false;
@@ -164,13 +141,8 @@ fn match_items<'a>(
 
 // An object needs an object of equal key set, then takes the fields as written.
 #[cycle(match_entry_match_fields_match_items)]
-fn match_fields<'a>(
-    nodes: &[u32],
-    children: &[u32],
-    numbers: &[u64],
-    names: &[u32],
-    strings: &'a [u8],
-    text: &'a [u8],
+fn match_fields(
+    tables: &Tables<'_>,
     scratch: &[u32; PATTERN_WORDS],
     starts: &[u16; 512],
     links: &[u16; 512],
@@ -180,14 +152,14 @@ fn match_fields<'a>(
     rest: usize,
     list: &mut [u32; 128],
 ) -> bool
-    requires { FieldsAsks (given nodes children numbers names strings text) scratch.now starts.now links.now at count value rest list.old }
-    ensures { let T = lent nodes children numbers names strings text in CameIn list T scratch.now at value result }
+    requires { FieldsAsks (contents tables.now) scratch.now starts.now links.now at count value rest list.old }
+    ensures { let T = contents tables.now in CameIn list T scratch.now at value result }
 {
-    if kind_of(nodes, value) != node_kind::OBJECT {
+    if kind_of(tables.nodes, value) != node_kind::OBJECT {
         return false;
     }
     let node = scratch[at * ENTRY_WORDS + 1];
-    if !same_key_sets(nodes, children, numbers, names, strings, text, node, value) {
+    if !same_key_sets(tables, node, value) {
         return false;
     }
     let start = entry_number(starts[at]);
@@ -196,10 +168,10 @@ fn match_fields<'a>(
         let field = entry_number(links[start + i as usize]);
         let key = scratch[field * ENTRY_WORDS + 3];
         let part = value_under(
-            nodes, children, numbers, names, strings, text, value, i as usize, key,
+            tables, value, i as usize, key,
         );
         if !match_entry(
-            nodes, children, numbers, names, strings, text, scratch, starts, links, field, part,
+            tables, scratch, starts, links, field, part,
             rest, list,
         ) {
             return false;
@@ -217,27 +189,22 @@ pub struct Matched {
 }
 
 // The first `count` entries of the scratch, carried out from the first one on.
-pub fn match_pattern<'a>(
-    nodes: &[u32],
-    children: &[u32],
-    numbers: &[u64],
-    names: &[u32],
-    strings: &'a [u8],
-    text: &'a [u8],
+pub fn match_pattern(
+    tables: &Tables<'_>,
     scratch: &[u32; PATTERN_WORDS],
     count: usize,
     value: u32,
     start: [u32; 128],
 ) -> Matched
-    requires { PatternAsks (given nodes children numbers names strings text) scratch.now count value start }
-    ensures { PatternCame (lent nodes children numbers names strings text) scratch.now count value start result }
+    requires { PatternAsks (contents tables.now) scratch.now count value start }
+    ensures { PatternCame (contents tables.now) scratch.now count value start result }
 {
     let linked = link_entries(scratch, count);
     let starts = linked.starts;
     let links = linked.entries;
     let mut list = start;
     let matched = match_entry(
-        nodes, children, numbers, names, strings, text, scratch, &starts, &links, 0, value, 32,
+        tables, scratch, &starts, &links, 0, value, 32,
         &mut list,
     );
     if matched {

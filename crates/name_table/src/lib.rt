@@ -1,6 +1,7 @@
 // Adding a name to the lent name table.
 #![tactic(auto)]
 
+ghost use Rattle.table.specs.Contents.{contents};
 ghost use Rattle.table.specs.Lent.{lent};
 ghost use Rattle.table.specs.Tables.{tables};
 ghost use Rattle.table.specs.Check.{tested_of};
@@ -8,6 +9,7 @@ ghost use Rattle.std.specs.Prelude.{◌≡◌, ◌≤◌};
 ghost use Rattle.name_table.specs.Adding.{has_names, checked_in_use, allowed, number_from, at_end, add_outcome};
 ghost use Rattle.name_table.specs.Answer.{NameAddedIn};
 
+use table::tables::Tables;
 use scope::Scope;
 use table::limits::within_limits;
 use table::reading::{name_bytes, same_bytes};
@@ -33,33 +35,28 @@ fn has_names(names: &[u32], used: u32) -> bool
 }
 
 // The table check of the names in use, which are the first of the lent table.
-fn check_in_use<'a>(
-    nodes: &[u32],
-    children: &[u32],
-    numbers: &[u64],
-    names: &[u32],
-    strings: &'a [u8],
-    text: &'a [u8],
+fn check_in_use(
+    tables: &Tables<'_>,
     used: u32,
 ) -> TableAnswer
-    ensures { tested_of result ≡ checked_in_use (lent nodes children numbers names strings text) used }
+    ensures { tested_of result ≡ checked_in_use (contents tables.now) used }
 {
     if 128 < used {
         return TableAnswer::Refused(TableRefusal::OverLimit);
     }
-    if has_names(names, used) {
+    if has_names(tables.names, used) {
         let words = used as usize * 2;
         return check(
-            nodes,
-            children,
-            numbers,
-            &names[..words],
-            strings,
-            text,
+            tables.nodes,
+            tables.children,
+            tables.numbers,
+            &tables.names[..words],
+            tables.strings,
+            tables.text,
             Scope::new(0, false),
         );
     }
-    if within_limits(nodes, children, numbers, &names[..0], strings, text) {
+    if within_limits(tables.nodes, tables.children, tables.numbers, &tables.names[..0], tables.strings, tables.text) {
         return TableAnswer::Refused(TableRefusal::BreaksRules);
     }
     TableAnswer::Refused(TableRefusal::OverLimit)

@@ -7,11 +7,13 @@ mod patterns;
 pub mod row;
 mod version;
 
+ghost use Rattle.table.specs.Contents.{contents};
 ghost use Rattle.table.specs.Lent.{lent};
 ghost use Rattle.planner.specs.Operations.{AnsweredIn};
 ghost use Rattle.operation.specs.Operation.{operation_outcome};
 ghost use Rattle.operation.specs.Version.{version_outcome};
 
+use table::tables::Tables;
 use crate::version::refusing_name;
 use assignment::AssignOp;
 use assignment::assignment::create_assignment_binding_plan;
@@ -61,34 +63,24 @@ pub enum Operation {
 }
 
 // Version 0.
-fn plan_v0<'a>(
-    nodes: &[u32],
-    children: &[u32],
-    numbers: &[u64],
-    names: &[u32],
-    strings: &'a [u8],
-    text: &'a [u8],
+fn plan_v0(
+    tables: &Tables<'_>,
     scope: Scope,
     operation: Operation,
     plan: &mut [u32],
 ) -> PlanAnswer
-    ensures { AnsweredIn plan (operation_outcome (lent nodes children numbers names strings text) scope operation) result }
+    ensures { AnsweredIn plan (operation_outcome (contents tables.now) scope operation) result }
 {
     match operation {
         Operation::Pattern { scoping, root } => create_destructuring_plan(
-            nodes, children, numbers, names, strings, text, scope, scoping, root, plan,
+            tables, scope, scoping, root, plan,
         ),
         Operation::ColonEquals {
             left,
             right,
             reading,
         } => create_assignment_binding_plan(
-            nodes,
-            children,
-            numbers,
-            names,
-            strings,
-            text,
+            tables,
             scope,
             AssignOp::ColEq,
             left,
@@ -101,12 +93,7 @@ fn plan_v0<'a>(
             right,
             reading,
         } => create_assignment_binding_plan(
-            nodes,
-            children,
-            numbers,
-            names,
-            strings,
-            text,
+            tables,
             scope,
             AssignOp::Eq,
             left,
@@ -120,41 +107,36 @@ fn plan_v0<'a>(
             key,
             reading,
         } => create_some_in_binding_plan(
-            nodes, children, numbers, names, strings, text, scope, value, collection, key, reading,
+            tables, scope, value, collection, key, reading,
             plan,
         ),
         Operation::Index { root } => create_loop_index_binding_plan(
-            nodes, children, numbers, names, strings, text, scope, root, plan,
+            tables, scope, root, plan,
         ),
         Operation::Parameter { scoping, root } => create_parameter_binding_plan(
-            nodes, children, numbers, names, strings, text, scope, scoping, root, plan,
+            tables, scope, scoping, root, plan,
         ),
     }
 }
 
 // Plans the operation into the buffer, for a version of Rego: any but 1 is version 0.
-pub fn plan<'a>(
-    nodes: &[u32],
-    children: &[u32],
-    numbers: &[u64],
-    names: &[u32],
-    strings: &'a [u8],
-    text: &'a [u8],
+pub fn plan(
+    tables: &Tables<'_>,
     scope: Scope,
     operation: Operation,
     version: u32,
     plan: &mut [u32],
 ) -> PlanAnswer
-    ensures { AnsweredIn plan (version_outcome (lent nodes children numbers names strings text) scope version operation) result }
+    ensures { AnsweredIn plan (version_outcome (contents tables.now) scope version operation) result }
 {
     let name = refusing_name(
-        nodes, children, numbers, names, strings, text, scope, operation, version,
+        tables, scope, operation, version,
     );
     if name != 0 {
         clear(plan);
         return PlanAnswer::ReservedName { name };
     }
     plan_v0(
-        nodes, children, numbers, names, strings, text, scope, operation, plan,
+        tables, scope, operation, plan,
     )
 }

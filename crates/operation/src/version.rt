@@ -1,4 +1,5 @@
 // Version 1 of Rego reserves `input` and `data`.
+ghost use Rattle.table.specs.Contents.{contents};
 ghost use Rattle.table.specs.Lent.{given, lent};
 ghost use Rattle.std.specs.Prelude.{◌≡◌};
 ghost use Rattle.table.specs.Tables.{name_bytes};
@@ -7,6 +8,7 @@ ghost use Rattle.planner.specs.code.Post.{GoodRoot};
 ghost use Rattle.operation.specs.Version.{reserved_in, first_reserved};
 ghost use Rattle.operation.specs.code.Reserved.{reserved_state, reserved_states, ReservedAsks, refusing_name};
 
+use table::tables::Tables;
 use crate::patterns::{patterns_of, roots_are_nodes};
 use crate::{Operation, REGO_V1};
 use planner::context::name_states;
@@ -42,51 +44,36 @@ fn reserved_states(names: &[u32], text: &[u8], scope: Scope, scoping: ScopingMod
 }
 
 // The node of the first reserved name that the pattern would plan, or 0.
-fn reserved_in<'a>(
-    nodes: &[u32],
-    children: &[u32],
-    numbers: &[u64],
-    names: &[u32],
-    strings: &'a [u8],
-    text: &'a [u8],
+fn reserved_in(
+    tables: &Tables<'_>,
     scope: Scope,
     scoping: ScopingMode,
     root: u32,
 ) -> u32
-    requires { GoodRoot (given nodes children numbers names strings text) root }
-    ensures { result ≡ reserved_in (lent nodes children numbers names strings text) scope scoping root }
+    requires { GoodRoot (contents tables.now) root }
+    ensures { result ≡ reserved_in (contents tables.now) scope scoping root }
 {
-    let reserved = reserved_states(names, text, scope, scoping);
+    let reserved = reserved_states(tables.names, tables.text, scope, scoping);
     let sets = false;
     let keys = false;
     first_name(
-        nodes, children, numbers, names, strings, text, &reserved, sets, keys, root,
+        tables, &reserved, sets, keys, root,
     )
 }
 
 // That of the first pattern that has one.
-fn first_reserved<'a>(
-    nodes: &[u32],
-    children: &[u32],
-    numbers: &[u64],
-    names: &[u32],
-    strings: &'a [u8],
-    text: &'a [u8],
+fn first_reserved(
+    tables: &Tables<'_>,
     scope: Scope,
     operation: Operation,
 ) -> u32
-    requires { ReservedAsks (given nodes children numbers names strings text) operation }
-    ensures { result ≡ first_reserved (lent nodes children numbers names strings text) scope operation }
+    requires { ReservedAsks (contents tables.now) operation }
+    ensures { result ≡ first_reserved (contents tables.now) scope operation }
 {
     let patterns = patterns_of(operation);
     let scoping = patterns.scoping;
     let node = reserved_in(
-        nodes,
-        children,
-        numbers,
-        names,
-        strings,
-        text,
+        tables,
         scope,
         scoping,
         patterns.first,
@@ -98,12 +85,7 @@ fn first_reserved<'a>(
         return 0;
     }
     reserved_in(
-        nodes,
-        children,
-        numbers,
-        names,
-        strings,
-        text,
+        tables,
         scope,
         scoping,
         patterns.second,
@@ -111,30 +93,25 @@ fn first_reserved<'a>(
 }
 
 // The node of the name that refuses the operation, or 0: under version 1, where table check and roots don't refuse it.
-pub(crate) fn refusing_name<'a>(
-    nodes: &[u32],
-    children: &[u32],
-    numbers: &[u64],
-    names: &[u32],
-    strings: &'a [u8],
-    text: &'a [u8],
+pub(crate) fn refusing_name(
+    tables: &Tables<'_>,
     scope: Scope,
     operation: Operation,
     version: u32,
 ) -> u32
-    ensures { result ≡ refusing_name (lent nodes children numbers names strings text) scope version operation }
+    ensures { result ≡ refusing_name (contents tables.now) scope version operation }
 {
     if version != REGO_V1 {
         return 0;
     }
-    let checked = check(nodes, children, numbers, names, strings, text, scope);
+    let checked = check(tables, scope);
     if let TableAnswer::Refused(refused) = checked {
         return 0;
     }
-    if !roots_are_nodes(nodes, operation) {
+    if !roots_are_nodes(tables.nodes, operation) {
         return 0;
     }
     first_reserved(
-        nodes, children, numbers, names, strings, text, scope, operation,
+        tables, scope, operation,
     )
 }

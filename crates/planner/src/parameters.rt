@@ -1,32 +1,24 @@
 // Plans of loop indices and function parameters (parameters.rs).
+ghost use Rattle.table.specs.Contents.{contents};
 ghost use Rattle.table.specs.Lent.{lent};
 ghost use Rattle.planner.specs.Operations.{index_outcome, parameter_outcome, AnsweredIn};
 
+use table::tables::Tables;
 use crate::PlanAnswer;
 use crate::destructuring::{create_destructuring_plan, create_plan};
 use scope::{Scope, ScopingMode};
 
 // The loop index call: its plan respects the parent scope.
-pub fn create_loop_index_binding_plan<'a>(
-    nodes: &[u32],
-    children: &[u32],
-    numbers: &[u64],
-    names: &[u32],
-    strings: &'a [u8],
-    text: &'a [u8],
+pub fn create_loop_index_binding_plan(
+    tables: &Tables<'_>,
     scope: Scope,
     root: u32,
     plan: &mut [u32],
 ) -> PlanAnswer
-    ensures { AnsweredIn plan (index_outcome (lent nodes children numbers names strings text) scope root) result }
+    ensures { AnsweredIn plan (index_outcome (contents tables.now) scope root) result }
 {
     create_destructuring_plan(
-        nodes,
-        children,
-        numbers,
-        names,
-        strings,
-        text,
+        tables,
         scope,
         ScopingMode::RespectParent,
         root,
@@ -35,29 +27,24 @@ pub fn create_loop_index_binding_plan<'a>(
 }
 
 // The parameter call: only AllowShadowing parameters are validated.
-pub fn create_parameter_binding_plan<'a>(
-    nodes: &[u32],
-    children: &[u32],
-    numbers: &[u64],
-    names: &[u32],
-    strings: &'a [u8],
-    text: &'a [u8],
+pub fn create_parameter_binding_plan(
+    tables: &Tables<'_>,
     scope: Scope,
     scoping: ScopingMode,
     root: u32,
     plan: &mut [u32],
 ) -> PlanAnswer
-    ensures { AnsweredIn plan (parameter_outcome (lent nodes children numbers names strings text) scope scoping root) result }
+    ensures { AnsweredIn plan (parameter_outcome (contents tables.now) scope scoping root) result }
 {
     match scoping {
         ScopingMode::RespectParent => {
             create_plan(
-                nodes, children, numbers, names, strings, text, scope, scoping, false, root, plan,
+                tables, scope, scoping, false, root, plan,
             )
         }
         ScopingMode::AllowShadowing => {
             create_plan(
-                nodes, children, numbers, names, strings, text, scope, scoping, true, root, plan,
+                tables, scope, scoping, true, root, plan,
             )
         }
     }

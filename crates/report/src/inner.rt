@@ -1,4 +1,5 @@
 // The names that a pattern meets. Each function that asks something asks for a checked table.
+ghost use Rattle.table.specs.Contents.{contents};
 ghost use Rattle.table.specs.Lent.{given, lent};
 ghost use Rattle.std.specs.Prelude.{◌≡◌, length};
 ghost use Rattle.table.specs.Decode.{expr};
@@ -6,6 +7,7 @@ ghost use Rattle.base.specs.Lists.{tabulate};
 ghost use Rattle.planner.specs.code.Post.{GoodRoot};
 ghost use Rattle.report.specs.code.Post.{met_words, met_mark};
 
+use table::tables::Tables;
 use planner::buffer::PATTERN_WORDS;
 use planner::inner::destructuring::plan_pattern;
 use scope::{Scope, ScopingMode};
@@ -35,28 +37,18 @@ pub(crate) fn mark_met(met: &[u32; 128], list: &mut [u32])
 }
 
 // 2 for each name that a pattern meets, else 0: they are those that it would plan if none were known.
-pub fn names_met<'a>(
-    nodes: &[u32],
-    children: &[u32],
-    numbers: &[u64],
-    names: &[u32],
-    strings: &'a [u8],
-    text: &'a [u8],
+pub fn names_met(
+    tables: &Tables<'_>,
     pattern: u32,
 ) -> [u32; 128]
-    requires { GoodRoot (given nodes children numbers names strings text) pattern }
-    ensures { result ≡ met_words (expr (lent nodes children numbers names strings text) pattern) }
+    requires { GoodRoot (contents tables.now) pattern }
+    ensures { result ≡ met_words (expr (contents tables.now) pattern) }
 {
     let mut binders = [0u32; 128];
     let mut scratch = [0u32; PATTERN_WORDS];
     let none_known = Scope::new(0, false);
     plan_pattern(
-        nodes,
-        children,
-        numbers,
-        names,
-        strings,
-        text,
+        tables,
         none_known,
         ScopingMode::AllowShadowing,
         pattern,

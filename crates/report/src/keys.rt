@@ -1,4 +1,5 @@
 // The names that stand as computed keys of a checked table's pattern.
+ghost use Rattle.table.specs.Contents.{contents};
 ghost use Rattle.table.specs.Lent.{given, lent};
 ghost use Rattle.std.specs.Prelude.{◌≡◌};
 ghost use Rattle.table.specs.Decode.{expr, fields_of};
@@ -6,6 +7,7 @@ ghost use Rattle.planner.specs.code.Post.{Walks, WalksChildren, GoodRoot};
 ghost use Rattle.report.specs.ComputedKeys.{key_name, key_names, names_as_keys};
 ghost use Rattle.report.specs.code.Post.{report_words, marked, keys_below, ObjectAsks};
 
+use table::tables::Tables;
 use crate::inner::names_met;
 use planner::context::name_states;
 use scope::{Scope, ScopingMode};
@@ -13,22 +15,17 @@ use table::node_kind;
 use table::reading::{child_at, count_of, first_of, kind_of};
 
 // 2 for a key that is a name; `_`, and no other name, has state 2.
-fn mark_key<'a>(
-    nodes: &[u32],
-    children: &[u32],
-    numbers: &[u64],
-    names: &[u32],
-    strings: &'a [u8],
-    text: &'a [u8],
+fn mark_key(
+    tables: &Tables<'_>,
     states: &[u8; 128],
     key: u32,
     met: &mut [u32; 128],
 )
-    requires { Walks (given nodes children numbers names strings text) states.now key }
-    ensures { met.new ≡ marked (key_name (expr (lent nodes children numbers names strings text) key)) met.old }
+    requires { Walks (contents tables.now) states.now key }
+    ensures { met.new ≡ marked (key_name (expr (contents tables.now) key)) met.old }
 {
-    if kind_of(nodes, key) == node_kind::NAME {
-        let at = first_of(nodes, key) as usize - 1;
+    if kind_of(tables.nodes, key) == node_kind::NAME {
+        let at = first_of(tables.nodes, key) as usize - 1;
         if states[at] != 2 {
             met[at] = 2;
         }
@@ -36,26 +33,21 @@ fn mark_key<'a>(
 }
 
 // Those of one object.
-fn mark_object_keys<'a>(
-    nodes: &[u32],
-    children: &[u32],
-    numbers: &[u64],
-    names: &[u32],
-    strings: &'a [u8],
-    text: &'a [u8],
+fn mark_object_keys(
+    tables: &Tables<'_>,
     states: &[u8; 128],
     object: u32,
     met: &mut [u32; 128],
 )
-    requires { ObjectAsks (given nodes children numbers names strings text) states.now object }
-    ensures { met.new ≡ marked (key_names (fields_of (lent nodes children numbers names strings text) object)) met.old }
+    requires { ObjectAsks (contents tables.now) states.now object }
+    ensures { met.new ≡ marked (key_names (fields_of (contents tables.now) object)) met.old }
 {
-    let mut place = first_of(nodes, object) as usize;
-    let mut more = count_of(nodes, object) as usize;
+    let mut place = first_of(tables.nodes, object) as usize;
+    let mut more = count_of(tables.nodes, object) as usize;
     while 0 < more {
-        let key = child_at(children, place);
+        let key = child_at(tables.children, place);
         mark_key(
-            nodes, children, numbers, names, strings, text, states, key, met,
+            tables, states, key, met,
         );
         place += 2;
         more -= 1;
@@ -64,49 +56,39 @@ fn mark_object_keys<'a>(
 
 // Those of the objects at a node and below it, through arrays and object values.
 #[cycle(mark_keys_mark_keys_below)]
-fn mark_keys<'a>(
-    nodes: &[u32],
-    children: &[u32],
-    numbers: &[u64],
-    names: &[u32],
-    strings: &'a [u8],
-    text: &'a [u8],
+fn mark_keys(
+    tables: &Tables<'_>,
     states: &[u8; 128],
     node: u32,
     met: &mut [u32; 128],
 )
-    requires { Walks (given nodes children numbers names strings text) states.now node }
-    ensures { met.new ≡ marked (names_as_keys (expr (lent nodes children numbers names strings text) node)) met.old }
+    requires { Walks (contents tables.now) states.now node }
+    ensures { met.new ≡ marked (names_as_keys (expr (contents tables.now) node)) met.old }
 {
-    let kind = kind_of(nodes, node);
-    let at = first_of(nodes, node) as usize;
-    let left = count_of(nodes, node) as usize;
+    let kind = kind_of(tables.nodes, node);
+    let at = first_of(tables.nodes, node) as usize;
+    let left = count_of(tables.nodes, node) as usize;
     if kind == node_kind::ARRAY {
         mark_keys_below(
-            nodes, children, numbers, names, strings, text, states, node, at, 1, left, met,
+            tables, states, node, at, 1, left, met,
         );
         return;
     }
     if kind == node_kind::OBJECT {
         mark_object_keys(
-            nodes, children, numbers, names, strings, text, states, node, met,
+            tables, states, node, met,
         );
         let values = at + 1;
         mark_keys_below(
-            nodes, children, numbers, names, strings, text, states, node, values, 2, left, met,
+            tables, states, node, values, 2, left, met,
         );
     }
 }
 
 // In the children of `parent` at `at`, `at + step` and so on, `left` of them.
 #[cycle(mark_keys_mark_keys_below)]
-fn mark_keys_below<'a>(
-    nodes: &[u32],
-    children: &[u32],
-    numbers: &[u64],
-    names: &[u32],
-    strings: &'a [u8],
-    text: &'a [u8],
+fn mark_keys_below(
+    tables: &Tables<'_>,
     states: &[u8; 128],
     parent: u32,
     at: usize,
@@ -114,15 +96,15 @@ fn mark_keys_below<'a>(
     left: usize,
     met: &mut [u32; 128],
 )
-    requires { WalksChildren (given nodes children numbers names strings text) states.now parent at step left }
-    ensures { met.new ≡ marked (keys_below (lent nodes children numbers names strings text) at step left) met.old }
+    requires { WalksChildren (contents tables.now) states.now parent at step left }
+    ensures { met.new ≡ marked (keys_below (contents tables.now) at step left) met.old }
 {
     let mut place = at;
     let mut more = left;
     while 0 < more {
-        let child = child_at(children, place);
+        let child = child_at(tables.children, place);
         mark_keys(
-            nodes, children, numbers, names, strings, text, states, child, met,
+            tables, states, child, met,
         );
         place += step;
         more -= 1;
@@ -130,23 +112,18 @@ fn mark_keys_below<'a>(
 }
 
 // 2 for each name that a pattern meets or that stands as a computed key in it, else 0.
-pub(crate) fn names_reported<'a>(
-    nodes: &[u32],
-    children: &[u32],
-    numbers: &[u64],
-    names: &[u32],
-    strings: &'a [u8],
-    text: &'a [u8],
+pub(crate) fn names_reported(
+    tables: &Tables<'_>,
     pattern: u32,
 ) -> [u32; 128]
-    requires { GoodRoot (given nodes children numbers names strings text) pattern }
-    ensures { result ≡ report_words (expr (lent nodes children numbers names strings text) pattern) }
+    requires { GoodRoot (contents tables.now) pattern }
+    ensures { result ≡ report_words (expr (contents tables.now) pattern) }
 {
     let none_known = Scope::new(0, false);
-    let states = name_states(names, text, none_known, ScopingMode::AllowShadowing);
-    let mut met = names_met(nodes, children, numbers, names, strings, text, pattern);
+    let states = name_states(tables.names, tables.text, none_known, ScopingMode::AllowShadowing);
+    let mut met = names_met(tables, pattern);
     mark_keys(
-        nodes, children, numbers, names, strings, text, &states, pattern, &mut met,
+        tables, &states, pattern, &mut met,
     );
     met
 }

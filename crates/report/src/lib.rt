@@ -1,11 +1,13 @@
 // The report of a pattern's names.
 #![tactic(auto)]
 
+ghost use Rattle.table.specs.Contents.{contents};
 ghost use Rattle.table.specs.Lent.{given, lent};
 ghost use Rattle.std.specs.Prelude.{◌≡◌};
 ghost use Rattle.report.specs.Report.{ReportedIn};
 ghost use Rattle.report.specs.code.Post.{EntryBound, marked_by, BoundAsks, BoundMarked, ReportAsks, PlannedMarked, ReportMarked};
 
+use table::tables::Tables;
 use inner::mark_met;
 use keys::names_reported;
 use planner::buffer::{ENTRY_WORDS, PATTERN_WORDS, clear};
@@ -52,30 +54,20 @@ fn mark_bound(nodes: &[u32], scratch: &[u32; PATTERN_WORDS], count: usize, list:
 }
 
 // 1 for each name that the pattern's plan binds.
-fn mark_planned<'a>(
-    nodes: &[u32],
-    children: &[u32],
-    numbers: &[u64],
-    names: &[u32],
-    strings: &'a [u8],
-    text: &'a [u8],
+fn mark_planned(
+    tables: &Tables<'_>,
     scope: Scope,
     scoping: ScopingMode,
     pattern: u32,
     list: &mut [u32],
 )
-    requires { ReportAsks (given nodes children numbers names strings text) pattern list.old }
-    ensures { PlannedMarked (lent nodes children numbers names strings text) scope scoping pattern list.old list.new }
+    requires { ReportAsks (contents tables.now) pattern list.old }
+    ensures { PlannedMarked (contents tables.now) scope scoping pattern list.old list.new }
 {
     let mut binders = [0u32; 128];
     let mut scratch = [0u32; PATTERN_WORDS];
     let planned = plan_pattern(
-        nodes,
-        children,
-        numbers,
-        names,
-        strings,
-        text,
+        tables,
         scope,
         scoping,
         pattern,
@@ -84,62 +76,52 @@ fn mark_planned<'a>(
         0,
     );
     let count = planned.next;
-    mark_bound(nodes, &scratch, count, list);
+    mark_bound(tables.nodes, &scratch, count, list);
 }
 
 // The report of a pattern of a good table, into a list that is long enough.
-fn report_names<'a>(
-    nodes: &[u32],
-    children: &[u32],
-    numbers: &[u64],
-    names: &[u32],
-    strings: &'a [u8],
-    text: &'a [u8],
+fn report_names(
+    tables: &Tables<'_>,
     scope: Scope,
     scoping: ScopingMode,
     pattern: u32,
     list: &mut [u32],
 )
-    requires { ReportAsks (given nodes children numbers names strings text) pattern list.old }
-    ensures { ReportMarked (lent nodes children numbers names strings text) scope scoping pattern list.old list.new }
+    requires { ReportAsks (contents tables.now) pattern list.old }
+    ensures { ReportMarked (contents tables.now) scope scoping pattern list.old list.new }
 {
-    let met = names_reported(nodes, children, numbers, names, strings, text, pattern);
+    let met = names_reported(tables, pattern);
     mark_met(&met, list);
     mark_planned(
-        nodes, children, numbers, names, strings, text, scope, scoping, pattern, list,
+        tables, scope, scoping, pattern, list,
     );
 }
 
 // For each name 1 bound in the pattern's plan, 2 met or a computed key but not bound there, else 0.
-pub fn names_report<'a>(
-    nodes: &[u32],
-    children: &[u32],
-    numbers: &[u64],
-    names: &[u32],
-    strings: &'a [u8],
-    text: &'a [u8],
+pub fn names_report(
+    tables: &Tables<'_>,
     scope: Scope,
     scoping: ScopingMode,
     pattern: u32,
     list: &mut [u32],
 ) -> ReportAnswer
-    ensures { ReportedIn list (lent nodes children numbers names strings text) scope scoping pattern result }
+    ensures { ReportedIn list (contents tables.now) scope scoping pattern result }
 {
-    let checked = check(nodes, children, numbers, names, strings, text, scope);
+    let checked = check(tables, scope);
     if let TableAnswer::Refused(refused) = checked {
         clear(list);
         return ReportAnswer::TableRefused(refused);
     }
-    if !is_node(nodes, pattern) {
+    if !is_node(tables.nodes, pattern) {
         clear(list);
         return ReportAnswer::RootOutside;
     }
-    if list.len() < names.len() / 2 {
+    if list.len() < tables.names.len() / 2 {
         clear(list);
         return ReportAnswer::ListTooShort;
     }
     report_names(
-        nodes, children, numbers, names, strings, text, scope, scoping, pattern, list,
+        tables, scope, scoping, pattern, list,
     );
     ReportAnswer::Reported
 }

@@ -1,10 +1,12 @@
 // Run: a pattern's plan, carried out on a value.
 #![tactic(auto)]
 
+ghost use Rattle.table.specs.Contents.{contents};
 ghost use Rattle.table.specs.Lent.{given, lent};
 ghost use Rattle.run.specs.Operations.{RanIn};
 ghost use Rattle.run.specs.code.Post.{RunAsks, MatchValuesAsks, ValuesCameIn, CarriedIn};
 
+use table::tables::Tables;
 use inner::names::{set_names, start_list};
 use inner::refusals::{RunCheck, check_run};
 use matching::inner::match_pattern;
@@ -29,13 +31,8 @@ pub enum RunAnswer {
 }
 
 // The plan in the scratch, carried out from the values in the list; a match sets the names with a binder.
-fn match_values<'a>(
-    nodes: &[u32],
-    children: &[u32],
-    numbers: &[u64],
-    names: &[u32],
-    strings: &'a [u8],
-    text: &'a [u8],
+fn match_values(
+    tables: &Tables<'_>,
     scope: Scope,
     scoping: ScopingMode,
     scratch: &[u32; PATTERN_WORDS],
@@ -44,29 +41,24 @@ fn match_values<'a>(
     value: u32,
     values: &mut [u32],
 ) -> RunAnswer
-    requires { MatchValuesAsks (given nodes children numbers names strings text) scope scoping scratch.now count value values.old }
-    ensures { let T = lent nodes children numbers names strings text in ValuesCameIn values T scope scoping scratch.now count binders.now value result }
+    requires { MatchValuesAsks (contents tables.now) scope scoping scratch.now count value values.old }
+    ensures { let T = contents tables.now in ValuesCameIn values T scope scoping scratch.now count binders.now value result }
 {
-    let start = start_list(names, scope, scoping, values);
+    let start = start_list(tables.names, scope, scoping, values);
     let done = match_pattern(
-        nodes, children, numbers, names, strings, text, scratch, count, value, start,
+        tables, scratch, count, value, start,
     );
     if !done.matched {
         return RunAnswer::NoMatch;
     }
     let list = done.list;
-    set_names(names, binders, &list, values);
+    set_names(tables.names, binders, &list, values);
     RunAnswer::Match
 }
 
 // A run that no check refused: the plan in the buffer, if it has space, then carried out.
-fn carry_out<'a>(
-    nodes: &[u32],
-    children: &[u32],
-    numbers: &[u64],
-    names: &[u32],
-    strings: &'a [u8],
-    text: &'a [u8],
+fn carry_out(
+    tables: &Tables<'_>,
     scope: Scope,
     scoping: ScopingMode,
     pattern: u32,
@@ -74,18 +66,13 @@ fn carry_out<'a>(
     values: &mut [u32],
     plan: &mut [u32],
 ) -> RunAnswer
-    requires { RunAsks (given nodes children numbers names strings text) scope scoping pattern value values.old }
-    ensures { CarriedIn values plan (lent nodes children numbers names strings text) scope scoping pattern value result }
+    requires { RunAsks (contents tables.now) scope scoping pattern value values.old }
+    ensures { CarriedIn values plan (contents tables.now) scope scoping pattern value result }
 {
     let mut binders = [0u32; 128];
     let mut scratch = [0u32; PATTERN_WORDS];
     let planned = plan_pattern(
-        nodes,
-        children,
-        numbers,
-        names,
-        strings,
-        text,
+        tables,
         scope,
         scoping,
         pattern,
@@ -100,19 +87,14 @@ fn carry_out<'a>(
         return RunAnswer::PlanTooLarge { needed: count };
     }
     match_values(
-        nodes, children, numbers, names, strings, text, scope, scoping, &scratch, count, &binders,
+        tables, scope, scoping, &scratch, count, &binders,
         value, values,
     )
 }
 
 // Plans the pattern into the buffer and carries the plan out on the value. `values` has for each name number the node of its value, or 0.
-pub fn run<'a>(
-    nodes: &[u32],
-    children: &[u32],
-    numbers: &[u64],
-    names: &[u32],
-    strings: &'a [u8],
-    text: &'a [u8],
+pub fn run(
+    tables: &Tables<'_>,
     scope: Scope,
     scoping: ScopingMode,
     pattern: u32,
@@ -120,17 +102,17 @@ pub fn run<'a>(
     values: &mut [u32],
     plan: &mut [u32],
 ) -> RunAnswer
-    ensures { RanIn values plan (lent nodes children numbers names strings text) scope scoping pattern value result }
+    ensures { RanIn values plan (contents tables.now) scope scoping pattern value result }
 {
     let checked = check_run(
-        nodes, children, numbers, names, strings, text, scope, scoping, pattern, value, values,
+        tables, scope, scoping, pattern, value, values,
     );
     if let RunCheck::Refused(answer) = checked {
         clear(plan);
         return answer;
     }
     carry_out(
-        nodes, children, numbers, names, strings, text, scope, scoping, pattern, value, values,
+        tables, scope, scoping, pattern, value, values,
         plan,
     )
 }

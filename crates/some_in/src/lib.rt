@@ -3,12 +3,14 @@
 
 mod collection;
 
+ghost use Rattle.table.specs.Contents.{contents};
 ghost use Rattle.table.specs.Lent.{given, lent};
 ghost use Rattle.planner.specs.Operations.{AnsweredIn};
 ghost use Rattle.planner.specs.code.Post.{GoodPair};
 ghost use Rattle.some_in.specs.SomeIn.{some_in_planned, some_in_outcome};
 ghost use Rattle.some_in.specs.code.Post.{PlaceAsks, Validated, SomeInClosed, ValueAsks, ValueAnswered, KeyAsks};
 
+use table::tables::Tables;
 use crate::collection::check_collection;
 use checks::{LiteralStructureCheck, Reading};
 use planner::PlanAnswer;
@@ -26,29 +28,19 @@ struct ValidatedPlan {
     pub name: u32,
 }
 
-fn plan_validated<'a>(
-    nodes: &[u32],
-    children: &[u32],
-    numbers: &[u64],
-    names: &[u32],
-    strings: &'a [u8],
-    text: &'a [u8],
+fn plan_validated(
+    tables: &Tables<'_>,
     scope: Scope,
     root: u32,
     plan: &mut [u32],
     at: usize,
 ) -> ValidatedPlan
-    requires { PlaceAsks (given nodes children numbers names strings text) root at }
-    ensures { Validated (lent nodes children numbers names strings text) scope root at plan.old plan.new result.end result.name }
+    requires { PlaceAsks (contents tables.now) root at }
+    ensures { Validated (contents tables.now) scope root at plan.old plan.new result.end result.name }
 {
     let mut binders = [0u32; 128];
     let planned = plan_pattern(
-        nodes,
-        children,
-        numbers,
-        names,
-        strings,
-        text,
+        tables,
         scope,
         ScopingMode::RespectParent,
         root,
@@ -58,7 +50,7 @@ fn plan_validated<'a>(
     );
     let end = planned.next;
     let name = validate_pattern_bindings(
-        nodes, children, numbers, names, strings, text, scope, &binders, root,
+        tables, scope, &binders, root,
     );
     ValidatedPlan { end, name }
 }
@@ -95,13 +87,8 @@ fn deliver_some_in(
 }
 
 // The value, after a key whose entries stand before `at`.
-fn plan_value<'a>(
-    nodes: &[u32],
-    children: &[u32],
-    numbers: &[u64],
-    names: &[u32],
-    strings: &'a [u8],
-    text: &'a [u8],
+fn plan_value(
+    tables: &Tables<'_>,
     scope: Scope,
     value: u32,
     collection: u32,
@@ -110,11 +97,11 @@ fn plan_value<'a>(
     plan: &mut [u32],
     at: usize,
 ) -> PlanAnswer
-    requires { ValueAsks (given nodes children numbers names strings text) value collection at }
-    ensures { ValueAnswered (lent nodes children numbers names strings text) scope value collection form reading at plan.old plan.new result }
+    requires { ValueAsks (contents tables.now) value collection at }
+    ensures { ValueAnswered (contents tables.now) scope value collection form reading at plan.old plan.new result }
 {
     let value_plan = plan_validated(
-        nodes, children, numbers, names, strings, text, scope, value, plan, at,
+        tables, scope, value, plan, at,
     );
     if value_plan.name != 0 {
         clear(plan);
@@ -123,18 +110,13 @@ fn plan_value<'a>(
         };
     }
     let check = check_collection(
-        nodes, children, numbers, names, strings, text, value, collection, reading,
+        tables, value, collection, reading,
     );
     deliver_some_in(plan, form, check, value_plan.end)
 }
 
-fn plan_key<'a>(
-    nodes: &[u32],
-    children: &[u32],
-    numbers: &[u64],
-    names: &[u32],
-    strings: &'a [u8],
-    text: &'a [u8],
+fn plan_key(
+    tables: &Tables<'_>,
     scope: Scope,
     value: u32,
     collection: u32,
@@ -142,11 +124,11 @@ fn plan_key<'a>(
     reading: Reading,
     plan: &mut [u32],
 ) -> PlanAnswer
-    requires { KeyAsks (given nodes children numbers names strings text) value collection key }
-    ensures { AnsweredIn plan (some_in_planned (lent nodes children numbers names strings text) scope value collection key reading) result }
+    requires { KeyAsks (contents tables.now) value collection key }
+    ensures { AnsweredIn plan (some_in_planned (contents tables.now) scope value collection key reading) result }
 {
     let key_plan = plan_validated(
-        nodes, children, numbers, names, strings, text, scope, key, plan, 0,
+        tables, scope, key, plan, 0,
     );
     if key_plan.name != 0 {
         clear(plan);
@@ -155,12 +137,7 @@ fn plan_key<'a>(
         };
     }
     plan_value(
-        nodes,
-        children,
-        numbers,
-        names,
-        strings,
-        text,
+        tables,
         scope,
         value,
         collection,
@@ -171,36 +148,26 @@ fn plan_key<'a>(
     )
 }
 
-fn plan_without_key<'a>(
-    nodes: &[u32],
-    children: &[u32],
-    numbers: &[u64],
-    names: &[u32],
-    strings: &'a [u8],
-    text: &'a [u8],
+fn plan_without_key(
+    tables: &Tables<'_>,
     scope: Scope,
     value: u32,
     collection: u32,
     reading: Reading,
     plan: &mut [u32],
 ) -> PlanAnswer
-    requires { GoodPair (given nodes children numbers names strings text) value collection }
-    ensures { AnsweredIn plan (some_in_planned (lent nodes children numbers names strings text) scope value collection 0 reading) result }
+    requires { GoodPair (contents tables.now) value collection }
+    ensures { AnsweredIn plan (some_in_planned (contents tables.now) scope value collection 0 reading) result }
 {
     plan_value(
-        nodes, children, numbers, names, strings, text, scope, value, collection, 0, reading, plan,
+        tables, scope, value, collection, 0, reading, plan,
         0,
     )
 }
 
 // Key root 0 says that there is no key.
-pub fn create_some_in_binding_plan<'a>(
-    nodes: &[u32],
-    children: &[u32],
-    numbers: &[u64],
-    names: &[u32],
-    strings: &'a [u8],
-    text: &'a [u8],
+pub fn create_some_in_binding_plan(
+    tables: &Tables<'_>,
     scope: Scope,
     value: u32,
     collection: u32,
@@ -208,32 +175,32 @@ pub fn create_some_in_binding_plan<'a>(
     reading: Reading,
     plan: &mut [u32],
 ) -> PlanAnswer
-    ensures { AnsweredIn plan (some_in_outcome (lent nodes children numbers names strings text) scope value collection key reading) result }
+    ensures { AnsweredIn plan (some_in_outcome (contents tables.now) scope value collection key reading) result }
 {
-    let checked = check(nodes, children, numbers, names, strings, text, scope);
+    let checked = check(tables, scope);
     if let TableAnswer::Refused(refused) = checked {
         clear(plan);
         return PlanAnswer::TableRefused(refused);
     }
-    if !is_node(nodes, value) {
+    if !is_node(tables.nodes, value) {
         clear(plan);
         return PlanAnswer::RootOutside;
     }
-    if !is_node(nodes, collection) {
+    if !is_node(tables.nodes, collection) {
         clear(plan);
         return PlanAnswer::RootOutside;
     }
     if key == 0 {
         return plan_without_key(
-            nodes, children, numbers, names, strings, text, scope, value, collection, reading, plan,
+            tables, scope, value, collection, reading, plan,
         );
     }
-    if !is_node(nodes, key) {
+    if !is_node(tables.nodes, key) {
         clear(plan);
         return PlanAnswer::RootOutside;
     }
     plan_key(
-        nodes, children, numbers, names, strings, text, scope, value, collection, key, reading,
+        tables, scope, value, collection, key, reading,
         plan,
     )
 }

@@ -1,6 +1,7 @@
 pub mod Tables
 pub mod Expr
 pub mod Decode
+pub mod Contents
 pub mod Lent
 pub mod Names
 pub mod Rules

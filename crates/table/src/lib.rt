@@ -1,10 +1,12 @@
 // The node table of a rule: its check and its reading.
 #![tactic(auto)]
 
+ghost use Rattle.table.specs.Contents.{contents};
 ghost use Rattle.table.specs.Lent.{lent};
 ghost use Rattle.std.specs.Prelude.{◌≡◌};
 ghost use Rattle.table.specs.Check.{TableAnswered, table_refused};
 
+use crate::tables::Tables;
 use inner::depth::depths_ok;
 use limits::within_limits;
 use literal::LiteralRef;
@@ -20,6 +22,7 @@ pub mod node_kind;
 mod nodes;
 pub mod reading;
 pub mod rules;
+pub mod tables;
 
 #[derive(Clone, Copy)]
 pub enum TableRefusal {
@@ -63,27 +66,19 @@ pub enum NameClass {
 }
 
 // The first that holds: over a limit, breaks a rule, too deep, two names of equal bytes.
-pub fn check<'a>(
-    nodes: &[u32],
-    children: &[u32],
-    numbers: &[u64],
-    names: &[u32],
-    strings: &'a [u8],
-    text: &'a [u8],
-    scope: Scope,
-) -> TableAnswer
-    ensures { TableAnswered (lent nodes children numbers names strings text) scope result }
+pub fn check(tables: &Tables<'_>, scope: Scope) -> TableAnswer
+    ensures { TableAnswered (contents tables.now) scope result }
 {
-    if !within_limits(nodes, children, numbers, names, strings, text) {
+    if !within_limits(tables) {
         return TableAnswer::Refused(TableRefusal::OverLimit);
     }
-    if !follows_rules(nodes, children, numbers, names, strings, text, scope) {
+    if !follows_rules(tables, scope) {
         return TableAnswer::Refused(TableRefusal::BreaksRules);
     }
-    if !depths_ok(nodes, children, nodes.len() / 5) {
+    if !depths_ok(tables.nodes, tables.children, tables.nodes.len() / 5) {
         return TableAnswer::Refused(TableRefusal::TooDeep);
     }
-    if !names_differ(names, text) {
+    if !names_differ(tables.names, tables.text) {
         return TableAnswer::Refused(TableRefusal::EqualNames);
     }
     TableAnswer::Sound

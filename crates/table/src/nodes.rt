@@ -1,31 +1,28 @@
 // The table rules that speak of the nodes.
+ghost use Rattle.table.specs.Contents.{contents};
 ghost use Rattle.table.specs.Lent.{given, lent};
 ghost use Rattle.std.specs.Prelude.{◌≡◌, [], ◌/◌, ◌≤◌, length};
 ghost use Rattle.table.specs.Tables.{tables};
 ghost use Rattle.base.specs.Lists.{all_from};
 ghost use Rattle.table.specs.code.Passes.{head_ok_at, children_below_at, NodesAsks, nodes_ok};
 
+use crate::tables::Tables;
 use crate::distinct::{distinct_entries, places_apart};
 use crate::inner::node::{children_below, span_ok, words_ok};
 
-fn heads_ok<'a>(
-    nodes: &[u32],
-    children: &[u32],
-    numbers: &[u64],
-    names: &[u32],
-    strings: &'a [u8],
-    text: &'a [u8],
+fn heads_ok(
+    tables: &Tables<'_>,
 ) -> bool
-    requires { length nodes.now / 5 ≤ 512 }
-    ensures { result ≡ all_from (head_ok_at (lent nodes children numbers names strings text)) 0 (length nodes.now / 5) }
+    requires { length tables.now.nodes.now / 5 ≤ 512 }
+    ensures { result ≡ all_from (head_ok_at (contents tables.now)) 0 (length tables.now.nodes.now / 5) }
 {
-    let total = nodes.len() / 5;
+    let total = tables.nodes.len() / 5;
     let mut i: usize = 0;
     while i < total {
-        if !span_ok(nodes, text, i) {
+        if !span_ok(tables.nodes, tables.text, i) {
             return false;
         }
-        if !words_ok(nodes, children, numbers, names, strings, text, i) {
+        if !words_ok(tables, i) {
             return false;
         }
         i += 1;
@@ -49,25 +46,20 @@ fn all_below(nodes: &[u32], children: &[u32]) -> bool
 }
 
 // The children come last: by then no child entry serves two nodes, so each is looked at once.
-pub(crate) fn nodes_ok<'a>(
-    nodes: &[u32],
-    children: &[u32],
-    numbers: &[u64],
-    names: &[u32],
-    strings: &'a [u8],
-    text: &'a [u8],
+pub(crate) fn nodes_ok(
+    tables: &Tables<'_>,
 ) -> bool
-    requires { NodesAsks (given nodes children numbers names strings text) }
-    ensures { result ≡ nodes_ok (lent nodes children numbers names strings text) }
+    requires { NodesAsks (contents tables.now) }
+    ensures { result ≡ nodes_ok (contents tables.now) }
 {
-    if !heads_ok(nodes, children, numbers, names, strings, text) {
+    if !heads_ok(tables) {
         return false;
     }
-    if !distinct_entries(children) {
+    if !distinct_entries(tables.children) {
         return false;
     }
-    if !places_apart(nodes) {
+    if !places_apart(tables.nodes) {
         return false;
     }
-    all_below(nodes, children)
+    all_below(tables.nodes, tables.children)
 }

@@ -1,4 +1,5 @@
 // The table rules that speak of the lists and the scope.
+ghost use Rattle.table.specs.Contents.{contents};
 ghost use Rattle.table.specs.Lent.{given, lent};
 ghost use Rattle.std.specs.Prelude.{◌≡◌, true, [], ◌/◌, ◌≤◌, length};
 ghost use Rattle.table.specs.Tables.{tables};
@@ -6,6 +7,7 @@ ghost use Rattle.base.specs.Lists.{all_from};
 ghost use Rattle.table.specs.Rules.{within_limits, whole_records, name_ok, name_ok_at, number_ok, entry_ok, scope_ok, follows_rules};
 ghost use Rattle.table.specs.code.Passes.{lists_ok};
 
+use crate::tables::Tables;
 use crate::inner::node::in_range;
 use crate::nodes::nodes_ok;
 use crate::reading::{is_node, name_bytes, name_length, name_start, same_bytes};
@@ -111,23 +113,18 @@ fn scope_ok(names: &[u32], text: &[u8], scope: Scope) -> bool
     same_bytes(name_bytes(names, text, underscore), b"_")
 }
 
-pub(crate) fn follows_rules<'a>(
-    nodes: &[u32],
-    children: &[u32],
-    numbers: &[u64],
-    names: &[u32],
-    strings: &'a [u8],
-    text: &'a [u8],
+pub(crate) fn follows_rules(
+    tables: &Tables<'_>,
     scope: Scope,
 ) -> bool
-    requires { within_limits (given nodes children numbers names strings text) ≡ true }
-    ensures { result ≡ follows_rules (lent nodes children numbers names strings text) scope }
+    requires { within_limits (contents tables.now) ≡ true }
+    ensures { result ≡ follows_rules (contents tables.now) scope }
 {
-    if !lists_ok(nodes, children, numbers, names, text) {
+    if !lists_ok(tables.nodes, tables.children, tables.numbers, tables.names, tables.text) {
         return false;
     }
-    if !nodes_ok(nodes, children, numbers, names, strings, text) {
+    if !nodes_ok(tables) {
         return false;
     }
-    scope_ok(names, text, scope)
+    scope_ok(tables.names, tables.text, scope)
 }

@@ -1,12 +1,14 @@
 // Which rule of the tables is broken, and where.
 #![tactic(auto)]
 
+ghost use Rattle.table.specs.Contents.{contents};
 ghost use Rattle.table.specs.Lent.{given, lent};
 ghost use Rattle.table.specs.Check.{table_refused};
 ghost use Rattle.std.specs.Prelude.{◌≡◌};
 ghost use Rattle.table_fault.specs.Fault.{FaultAnswered, broken_place};
 ghost use Rattle.table_fault.specs.code.Asking.{numbered, Reached, place_told, refusal_by};
 
+use table::tables::Tables;
 use kept::is_kept;
 use places::{count_places, first_place};
 use table::TableRefusal;
@@ -51,25 +53,20 @@ fn refusal_of(rule: u32) -> TableRefusal
 }
 
 // The first place at which a rule is broken. All rules before it are kept.
-fn first_broken<'a>(
-    nodes: &[u32],
-    children: &[u32],
-    numbers: &[u64],
-    names: &[u32],
-    strings: &'a [u8],
-    text: &'a [u8],
+fn first_broken(
+    tables: &Tables<'_>,
     marks: &[u8],
     rule: u32,
 ) -> BrokenPlace
-    requires { Reached (given nodes children numbers names strings text) marks.now rule }
-    ensures { place_told result ≡ broken_place (numbered (lent nodes children numbers names strings text) marks.now rule) }
+    requires { Reached (contents tables.now) marks.now rule }
+    ensures { place_told result ≡ broken_place (numbered (contents tables.now) marks.now rule) }
 {
     let first = first_place(rule);
-    let end = first as usize + count_places(nodes, children, numbers, names, rule);
+    let end = first as usize + count_places(tables.nodes, tables.children, tables.numbers, tables.names, rule);
     let mut place = first;
     while (place as usize) < end {
         if !is_kept(
-            nodes, children, numbers, names, strings, text, marks, rule, place,
+            tables, marks, rule, place,
         ) {
             return BrokenPlace::At { place };
         }
@@ -79,20 +76,15 @@ fn first_broken<'a>(
 }
 
 // The first rule that is broken, at its first place; the marks as bytes, 0 for those that are not lent.
-pub fn table_fault<'a>(
-    nodes: &[u32],
-    children: &[u32],
-    numbers: &[u64],
-    names: &[u32],
-    strings: &'a [u8],
-    text: &'a [u8],
+pub fn table_fault(
+    tables: &Tables<'_>,
     marks: &[u8],
 ) -> FaultAnswer
-    ensures { FaultAnswered (lent nodes children numbers names strings text) marks.now result }
+    ensures { FaultAnswered (contents tables.now) marks.now result }
 {
     let mut rule: u32 = 1;
     while rule <= rule::LAST {
-        let found = first_broken(nodes, children, numbers, names, strings, text, marks, rule);
+        let found = first_broken(tables, marks, rule);
         if let BrokenPlace::At { place } = found {
             return FaultAnswer::Broken {
                 refused: refusal_of(rule),

@@ -1,10 +1,12 @@
 // What the rules say of one node's words.
+ghost use Rattle.table.specs.Contents.{contents};
 ghost use Rattle.table.specs.Lent.{lent};
 ghost use Rattle.std.specs.Prelude.{◌≡◌, true, cond, ◌&&◌, [], ◌/◌, ◌≤◌, eqb, leb, length};
 ghost use Rattle.table.specs.Tables.{tables, kind_of};
 ghost use Rattle.table.specs.Rules.{name_text_ok};
 ghost use Rattle.table_fault.specs.Rules.{kind_listed, unused_zero, node_range_ok};
 
+use table::tables::Tables;
 use table::inner::node::{in_range, name_text_ok};
 use table::node_kind;
 use table::reading::{count_of, first_of, kind_of};
@@ -51,28 +53,23 @@ fn is_name(name: usize, names: usize) -> bool
 }
 
 // Do first and count lie within what they point into?
-pub(crate) fn range_ok<'a>(
-    nodes: &[u32],
-    children: &[u32],
-    numbers: &[u64],
-    names: &[u32],
-    strings: &'a [u8],
-    text: &'a [u8],
+pub(crate) fn range_ok(
+    tables: &Tables<'_>,
     node: u32,
 ) -> bool
-    ensures { result ≡ node_range_ok (lent nodes children numbers names strings text) node }
+    ensures { result ≡ node_range_ok (contents tables.now) node }
 {
-    let first = first_of(nodes, node) as usize;
-    let count = count_of(nodes, node) as usize;
-    match kind_of(nodes, node) {
-        node_kind::STRING => in_range(first, count, strings.len()),
-        node_kind::RAW_STRING => in_range(first, count, text.len()),
-        node_kind::NUMBER => first < numbers.len() / 2,
+    let first = first_of(tables.nodes, node) as usize;
+    let count = count_of(tables.nodes, node) as usize;
+    match kind_of(tables.nodes, node) {
+        node_kind::STRING => in_range(first, count, tables.strings.len()),
+        node_kind::RAW_STRING => in_range(first, count, tables.text.len()),
+        node_kind::NUMBER => first < tables.numbers.len() / 2,
         node_kind::BOOL => first <= 1,
-        node_kind::NAME => is_name(first, names.len() / 2),
-        node_kind::ARRAY => in_range(first, count, children.len()),
-        node_kind::SET => in_range(first, count, children.len()),
-        node_kind::OBJECT => in_range(first, count * 2, children.len()),
+        node_kind::NAME => is_name(first, tables.names.len() / 2),
+        node_kind::ARRAY => in_range(first, count, tables.children.len()),
+        node_kind::SET => in_range(first, count, tables.children.len()),
+        node_kind::OBJECT => in_range(first, count * 2, tables.children.len()),
         _ => true,
     }
 }

@@ -1,8 +1,10 @@
 // Always, sometimes or never: a pattern met with a value, from the ranges of the value's numbers.
+ghost use Rattle.table.specs.Contents.{contents};
 ghost use Rattle.table.specs.Lent.{given, lent};
 ghost use Rattle.std.specs.Prelude.{◌≡◌, cond};
 ghost use Rattle.tolerance.specs.code.Post.{OwnLabels, EndsFrom, DecideAsks, DecidedIn};
 
+use table::tables::Tables;
 use crate::ToleranceAnswer;
 use crate::classes::all_free;
 use crate::meeting::meet;
@@ -46,21 +48,16 @@ fn ends_of(lowest: &[u64], highest: &[u64], ends: &[u64]) -> [u64; 1026]
 }
 
 // The list has the known names' values, and at a match those of all names.
-pub(crate) fn decide<'a>(
-    nodes: &[u32],
-    children: &[u32],
-    numbers: &[u64],
-    names: &[u32],
-    strings: &'a [u8],
-    text: &'a [u8],
+pub(crate) fn decide(
+    tables: &Tables<'_>,
     lowest: &[u64],
     highest: &[u64],
     list: &mut [u32; 128],
     pattern: u32,
     value: u32,
 ) -> ToleranceAnswer
-    requires { DecideAsks (given nodes children numbers names strings text) pattern value list.old }
-    ensures { let T = lent nodes children numbers names strings text in DecidedIn list T lowest.now highest.now pattern value result }
+    requires { DecideAsks (contents tables.now) pattern value list.old }
+    ensures { let T = contents tables.now in DecidedIn list T lowest.now highest.now pattern value result }
 {
     let mut labels = own_labels();
     let low = ends_of(lowest, highest, lowest);
@@ -68,12 +65,7 @@ pub(crate) fn decide<'a>(
     let mut lows = low;
     let mut highs = high;
     if !meet(
-        nodes,
-        children,
-        numbers,
-        names,
-        strings,
-        text,
+        tables,
         list,
         &mut labels,
         &mut lows,

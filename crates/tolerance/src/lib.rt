@@ -1,11 +1,13 @@
 // A run on values whose numbers have a tolerance.
 #![tactic(auto)]
 
+ghost use Rattle.table.specs.Contents.{contents};
 ghost use Rattle.table.specs.Lent.{given, lent};
 ghost use Rattle.std.specs.Prelude.{◌≡◌};
 ghost use Rattle.tolerance.specs.Operations.{JudgedIn};
 ghost use Rattle.tolerance.specs.code.Post.{ToJudge, GivenAsks, given_ok};
 
+use table::tables::Tables;
 use deciding::decide;
 use names::{known_values, set_names};
 use planner::buffer::{ENTRY_WORDS, clear, close};
@@ -31,45 +33,35 @@ pub enum ToleranceAnswer {
 }
 
 // Has every number of the value and of the known names' values, object keys aside, a range?
-fn ranges_given<'a>(
-    nodes: &[u32],
-    children: &[u32],
-    numbers: &[u64],
-    names: &[u32],
-    strings: &'a [u8],
-    text: &'a [u8],
+fn ranges_given(
+    tables: &Tables<'_>,
     value: u32,
     lowest: &[u64],
     highest: &[u64],
     list: &[u32; 128],
 ) -> bool
-    requires { GivenAsks (given nodes children numbers names strings text) value list.now }
-    ensures { let T = lent nodes children numbers names strings text in result ≡ given_ok T value lowest.now highest.now list.now }
+    requires { GivenAsks (contents tables.now) value list.now }
+    ensures { let T = contents tables.now in result ≡ given_ok T value lowest.now highest.now list.now }
 {
-    if lowest.len() / 2 < nodes.len() / 5 {
+    if lowest.len() / 2 < tables.nodes.len() / 5 {
         return false;
     }
-    if highest.len() / 2 < nodes.len() / 5 {
+    if highest.len() / 2 < tables.nodes.len() / 5 {
         return false;
     }
     if !numbers_ok(
-        nodes, children, numbers, names, strings, text, lowest, highest, value,
+        tables, lowest, highest, value,
     ) {
         return false;
     }
     names_ok(
-        nodes, children, numbers, names, strings, text, lowest, highest, list,
+        tables, lowest, highest, list,
     )
 }
 
 // A run that nothing refuses: the plan in the buffer, then the answer.
-fn judge<'a>(
-    nodes: &[u32],
-    children: &[u32],
-    numbers: &[u64],
-    names: &[u32],
-    strings: &'a [u8],
-    text: &'a [u8],
+fn judge(
+    tables: &Tables<'_>,
     scope: Scope,
     scoping: ScopingMode,
     pattern: u32,
@@ -80,17 +72,12 @@ fn judge<'a>(
     known: [u32; 128],
     plan: &mut [u32],
 ) -> ToleranceAnswer
-    requires { ToJudge (given nodes children numbers names strings text) scope scoping pattern value values.old lowest.now highest.now known plan.old }
-    ensures { JudgedIn values lowest highest plan (lent nodes children numbers names strings text) scope scoping pattern value result }
+    requires { ToJudge (contents tables.now) scope scoping pattern value values.old lowest.now highest.now known plan.old }
+    ensures { JudgedIn values lowest highest plan (contents tables.now) scope scoping pattern value result }
 {
     let mut binders = [0u32; 128];
     let planned = plan_pattern(
-        nodes,
-        children,
-        numbers,
-        names,
-        strings,
-        text,
+        tables,
         scope,
         scoping,
         pattern,
@@ -101,23 +88,18 @@ fn judge<'a>(
     close(plan, 0, planned.next);
     let mut list = known;
     let answer = decide(
-        nodes, children, numbers, names, strings, text, lowest, highest, &mut list, pattern, value,
+        tables, lowest, highest, &mut list, pattern, value,
     );
     if let ToleranceAnswer::Always = answer {
-        set_names(names, &list, values);
+        set_names(tables.names, &list, values);
         return answer;
     }
     answer
 }
 
 // Runs the pattern on the value for all choices of a number from the lowest to the highest of each node, two words a node in each list.
-pub fn run_with_tolerance<'a>(
-    nodes: &[u32],
-    children: &[u32],
-    numbers: &[u64],
-    names: &[u32],
-    strings: &'a [u8],
-    text: &'a [u8],
+pub fn run_with_tolerance(
+    tables: &Tables<'_>,
     scope: Scope,
     scoping: ScopingMode,
     pattern: u32,
@@ -127,21 +109,21 @@ pub fn run_with_tolerance<'a>(
     highest: &[u64],
     plan: &mut [u32],
 ) -> ToleranceAnswer
-    ensures { JudgedIn values lowest highest plan (lent nodes children numbers names strings text) scope scoping pattern value result }
+    ensures { JudgedIn values lowest highest plan (contents tables.now) scope scoping pattern value result }
 {
     // Without space for a plan a run is refused with 6, unless it is with another number.
     let mut none = [0u32; 1];
     let asked = run(
-        nodes, children, numbers, names, strings, text, scope, scoping, pattern, value, values,
+        tables, scope, scoping, pattern, value, values,
         &mut none,
     );
     let RunAnswer::PlanTooLarge { needed } = asked else {
         clear(plan);
         return ToleranceAnswer::Refused(asked);
     };
-    let known = known_values(names, text, scope, scoping, values);
+    let known = known_values(tables.names, tables.text, scope, scoping, values);
     if !ranges_given(
-        nodes, children, numbers, names, strings, text, value, lowest, highest, &known,
+        tables, value, lowest, highest, &known,
     ) {
         clear(plan);
         return ToleranceAnswer::RangeWrong;
@@ -151,7 +133,7 @@ pub fn run_with_tolerance<'a>(
         return ToleranceAnswer::Refused(asked);
     }
     judge(
-        nodes, children, numbers, names, strings, text, scope, scoping, pattern, value, values,
+        tables, scope, scoping, pattern, value, values,
         lowest, highest, known, plan,
     )
 }

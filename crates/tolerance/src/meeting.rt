@@ -1,8 +1,10 @@
 // Can a pattern, or a value, be equal to a value? Structure aside, each two numbers that must be equal are put into one class; a name is set to the node that it meets first.
+ghost use Rattle.table.specs.Contents.{contents};
 ghost use Rattle.table.specs.Lent.{given, lent};
 ghost use Rattle.std.specs.Prelude.{◌≡◌, true, get_or};
 ghost use Rattle.tolerance.specs.code.Post.{EquatedIn, LiteralAsks, MeetAsks, NameAsks, MeetItemsAsks, MeetFieldsAsks, MetIn, conditions_at, meets_nodes, meets_listed, meets_under};
 
+use table::tables::Tables;
 use crate::classes::{fix_node, join_nodes};
 use run::inner::names::is_wildcard;
 use table::node_kind;
@@ -20,13 +22,8 @@ pub(crate) fn word_of(words: &[u64], i: usize) -> u64
 }
 
 // A literal and a value. A number of the pattern keeps its own size.
-fn meet_literals<'a>(
-    nodes: &[u32],
-    children: &[u32],
-    numbers: &[u64],
-    names: &[u32],
-    strings: &'a [u8],
-    text: &'a [u8],
+fn meet_literals(
+    tables: &Tables<'_>,
     labels: &mut [u32; 513],
     lows: &mut [u64; 1026],
     highs: &mut [u64; 1026],
@@ -34,32 +31,27 @@ fn meet_literals<'a>(
     a: u32,
     b: u32,
 ) -> bool
-    requires { LiteralAsks (given nodes children numbers names strings text) a b labels.old lows.old highs.old }
-    ensures { let T = lent nodes children numbers names strings text in EquatedIn labels lows highs (conditions_at T pattern a b) result }
+    requires { LiteralAsks (contents tables.now) a b labels.old lows.old highs.old }
+    ensures { let T = contents tables.now in EquatedIn labels lows highs (conditions_at T pattern a b) result }
 {
-    if kind_of(nodes, a) != node_kind::NUMBER {
-        return same_literals(nodes, numbers, strings, text, a, b);
+    if kind_of(tables.nodes, a) != node_kind::NUMBER {
+        return same_literals(tables.nodes, tables.numbers, tables.strings, tables.text, a, b);
     }
-    if kind_of(nodes, b) != node_kind::NUMBER {
-        return same_literals(nodes, numbers, strings, text, a, b);
+    if kind_of(tables.nodes, b) != node_kind::NUMBER {
+        return same_literals(tables.nodes, tables.numbers, tables.strings, tables.text, a, b);
     }
     if pattern {
-        let place = first_of(nodes, a) as usize * 2;
-        let sign = word_of(numbers, place);
-        let size = word_of(numbers, place + 1);
+        let place = first_of(tables.nodes, a) as usize * 2;
+        let sign = word_of(tables.numbers, place);
+        let size = word_of(tables.numbers, place + 1);
         return fix_node(labels, lows, highs, b, sign, size);
     }
     join_nodes(labels, lows, highs, a, b)
 }
 
 #[cycle(meet_meet_fields_meet_items_meet_name)]
-pub(crate) fn meet<'a>(
-    nodes: &[u32],
-    children: &[u32],
-    numbers: &[u64],
-    names: &[u32],
-    strings: &'a [u8],
-    text: &'a [u8],
+pub(crate) fn meet(
+    tables: &Tables<'_>,
     list: &mut [u32; 128],
     labels: &mut [u32; 513],
     lows: &mut [u64; 1026],
@@ -68,37 +60,32 @@ pub(crate) fn meet<'a>(
     a: u32,
     b: u32,
 ) -> bool
-    requires { MeetAsks (given nodes children numbers names strings text) pattern a b list.old labels.old lows.old highs.old }
-    ensures { let T = lent nodes children numbers names strings text in MetIn list labels lows highs T (meets_nodes T pattern a b) result }
+    requires { MeetAsks (contents tables.now) pattern a b list.old labels.old lows.old highs.old }
+    ensures { let T = contents tables.now in MetIn list labels lows highs T (meets_nodes T pattern a b) result }
 {
-    let kind = kind_of(nodes, a);
+    let kind = kind_of(tables.nodes, a);
     if kind <= node_kind::LAST_LITERAL {
         return meet_literals(
-            nodes, children, numbers, names, strings, text, labels, lows, highs, pattern, a, b,
+            tables, labels, lows, highs, pattern, a, b,
         );
     }
     if kind == node_kind::NAME {
         return meet_name(
-            nodes, children, numbers, names, strings, text, list, labels, lows, highs, a, b,
+            tables, list, labels, lows, highs, a, b,
         );
     }
-    if kind_of(nodes, b) != kind {
+    if kind_of(tables.nodes, b) != kind {
         return false;
     }
-    let count = count_of(nodes, a);
-    if count_of(nodes, b) != count {
+    let count = count_of(tables.nodes, a);
+    if count_of(tables.nodes, b) != count {
         return false;
     }
     if kind == node_kind::ARRAY {
-        let at = first_of(nodes, a) as usize;
-        let from = first_of(nodes, b) as usize;
+        let at = first_of(tables.nodes, a) as usize;
+        let from = first_of(tables.nodes, b) as usize;
         return meet_items(
-            nodes,
-            children,
-            numbers,
-            names,
-            strings,
-            text,
+            tables,
             list,
             labels,
             lows,
@@ -111,19 +98,14 @@ pub(crate) fn meet<'a>(
         );
     }
     meet_fields(
-        nodes, children, numbers, names, strings, text, list, labels, lows, highs, pattern, a, b,
+        tables, list, labels, lows, highs, pattern, a, b,
     )
 }
 
 // A name of the pattern and a value.
 #[cycle(meet_meet_fields_meet_items_meet_name)]
-fn meet_name<'a>(
-    nodes: &[u32],
-    children: &[u32],
-    numbers: &[u64],
-    names: &[u32],
-    strings: &'a [u8],
-    text: &'a [u8],
+fn meet_name(
+    tables: &Tables<'_>,
     list: &mut [u32; 128],
     labels: &mut [u32; 513],
     lows: &mut [u64; 1026],
@@ -131,11 +113,11 @@ fn meet_name<'a>(
     a: u32,
     b: u32,
 ) -> bool
-    requires { NameAsks (given nodes children numbers names strings text) a b list.old labels.old lows.old highs.old }
-    ensures { let T = lent nodes children numbers names strings text in MetIn list labels lows highs T (meets_nodes T true a b) result }
+    requires { NameAsks (contents tables.now) a b list.old labels.old lows.old highs.old }
+    ensures { let T = contents tables.now in MetIn list labels lows highs T (meets_nodes T true a b) result }
 {
-    let name = first_of(nodes, a);
-    if is_wildcard(names, text, name) {
+    let name = first_of(tables.nodes, a);
+    if is_wildcard(tables.names, tables.text, name) {
         return true;
     }
     let place = name as usize - 1;
@@ -145,19 +127,14 @@ fn meet_name<'a>(
         return true;
     }
     meet(
-        nodes, children, numbers, names, strings, text, list, labels, lows, highs, false, held, b,
+        tables, list, labels, lows, highs, false, held, b,
     )
 }
 
 // `left` items from child entries `at` and `from` on.
 #[cycle(meet_meet_fields_meet_items_meet_name)]
-fn meet_items<'a>(
-    nodes: &[u32],
-    children: &[u32],
-    numbers: &[u64],
-    names: &[u32],
-    strings: &'a [u8],
-    text: &'a [u8],
+fn meet_items(
+    tables: &Tables<'_>,
     list: &mut [u32; 128],
     labels: &mut [u32; 513],
     lows: &mut [u64; 1026],
@@ -168,15 +145,15 @@ fn meet_items<'a>(
     from: usize,
     left: usize,
 ) -> bool
-    requires { MeetItemsAsks (given nodes children numbers names strings text) pattern parent at from left list.old labels.old lows.old highs.old }
-    ensures { let T = lent nodes children numbers names strings text in MetIn list labels lows highs T (meets_listed T pattern at from left) result }
+    requires { MeetItemsAsks (contents tables.now) pattern parent at from left list.old labels.old lows.old highs.old }
+    ensures { let T = contents tables.now in MetIn list labels lows highs T (meets_listed T pattern at from left) result }
 {
     let mut i: usize = 0;
     while i < left {
-        let a = child_at(children, at + i);
-        let b = child_at(children, from + i);
+        let a = child_at(tables.children, at + i);
+        let b = child_at(tables.children, from + i);
         if !meet(
-            nodes, children, numbers, names, strings, text, list, labels, lows, highs, pattern, a,
+            tables, list, labels, lows, highs, pattern, a,
             b,
         ) {
             return false;
@@ -188,13 +165,8 @@ fn meet_items<'a>(
 
 // The fields of two objects of as many fields, by the first one's keys.
 #[cycle(meet_meet_fields_meet_items_meet_name)]
-fn meet_fields<'a>(
-    nodes: &[u32],
-    children: &[u32],
-    numbers: &[u64],
-    names: &[u32],
-    strings: &'a [u8],
-    text: &'a [u8],
+fn meet_fields(
+    tables: &Tables<'_>,
     list: &mut [u32; 128],
     labels: &mut [u32; 513],
     lows: &mut [u64; 1026],
@@ -203,22 +175,22 @@ fn meet_fields<'a>(
     a: u32,
     b: u32,
 ) -> bool
-    requires { MeetFieldsAsks (given nodes children numbers names strings text) pattern a b list.old labels.old lows.old highs.old }
-    ensures { let T = lent nodes children numbers names strings text in MetIn list labels lows highs T (meets_under T pattern a b) result }
+    requires { MeetFieldsAsks (contents tables.now) pattern a b list.old labels.old lows.old highs.old }
+    ensures { let T = contents tables.now in MetIn list labels lows highs T (meets_under T pattern a b) result }
 {
-    let first = first_of(nodes, a) as usize;
-    let count = count_of(nodes, a) as usize;
+    let first = first_of(tables.nodes, a) as usize;
+    let count = count_of(tables.nodes, a) as usize;
     let mut i: usize = 0;
     while i < count {
         let place = first + i * 2;
-        let key = child_at(children, place);
-        let value = child_at(children, place + 1);
-        let other = value_under(nodes, children, numbers, names, strings, text, b, i, key);
+        let key = child_at(tables.children, place);
+        let value = child_at(tables.children, place + 1);
+        let other = value_under(tables, b, i, key);
         if other == 0 {
             return false;
         }
         if !meet(
-            nodes, children, numbers, names, strings, text, list, labels, lows, highs, pattern,
+            tables, list, labels, lows, highs, pattern,
             value, other,
         ) {
             return false;

@@ -1,4 +1,5 @@
 // The ranges of nodes: are they allowed, and the classes that they start from.
+ghost use Rattle.table.specs.Contents.{contents};
 ghost use Rattle.table.specs.Lent.{given, lent};
 ghost use Rattle.std.specs.Prelude.{◌≡◌, cond, eqb};
 ghost use Rattle.base.specs.Lists.{all_from};
@@ -6,6 +7,7 @@ ghost use Rattle.table.specs.Tables.{record_word};
 ghost use Rattle.tolerance.specs.Operations.{range_ok};
 ghost use Rattle.tolerance.specs.code.Post.{RangesAsks, ListedAsks, NamesAsks, numbers_ok, numbers_ok_in};
 
+use table::tables::Tables;
 use crate::classes::at_most;
 use crate::meeting::word_of;
 use literal::is_number;
@@ -59,21 +61,16 @@ fn step_of(kind: u32) -> usize
 }
 
 // Has each number of a value, object keys aside, such a range?
-pub(crate) fn numbers_ok<'a>(
-    nodes: &[u32],
-    children: &[u32],
-    numbers: &[u64],
-    names: &[u32],
-    strings: &'a [u8],
-    text: &'a [u8],
+pub(crate) fn numbers_ok(
+    tables: &Tables<'_>,
     lowest: &[u64],
     highest: &[u64],
     node: u32,
 ) -> bool
-    requires { RangesAsks (given nodes children numbers names strings text) node }
-    ensures { result ≡ numbers_ok (lent nodes children numbers names strings text) lowest.now highest.now node }
+    requires { RangesAsks (contents tables.now) node }
+    ensures { result ≡ numbers_ok (contents tables.now) lowest.now highest.now node }
 {
-    let kind = kind_of(nodes, node);
+    let kind = kind_of(tables.nodes, node);
     if kind == node_kind::NUMBER {
         return range_ok(lowest, highest, node);
     }
@@ -81,13 +78,13 @@ pub(crate) fn numbers_ok<'a>(
         return true;
     }
     let step = step_of(kind);
-    let first = first_of(nodes, node) as usize + step - 1;
-    let count = count_of(nodes, node) as usize;
+    let first = first_of(tables.nodes, node) as usize + step - 1;
+    let count = count_of(tables.nodes, node) as usize;
     let mut i: usize = 0;
     while i < count {
-        let child = child_at(children, first + i * step);
+        let child = child_at(tables.children, first + i * step);
         if !numbers_ok(
-            nodes, children, numbers, names, strings, text, lowest, highest, child,
+            tables, lowest, highest, child,
         ) {
             return false;
         }
@@ -97,49 +94,39 @@ pub(crate) fn numbers_ok<'a>(
 }
 
 // A name's value, if there is one.
-fn listed_ok<'a>(
-    nodes: &[u32],
-    children: &[u32],
-    numbers: &[u64],
-    names: &[u32],
-    strings: &'a [u8],
-    text: &'a [u8],
+fn listed_ok(
+    tables: &Tables<'_>,
     lowest: &[u64],
     highest: &[u64],
     list: &[u32; 128],
     i: usize,
 ) -> bool
-    requires { ListedAsks (given nodes children numbers names strings text) list.now i }
-    ensures { result ≡ numbers_ok_in (lent nodes children numbers names strings text) lowest.now highest.now list.now i }
+    requires { ListedAsks (contents tables.now) list.now i }
+    ensures { result ≡ numbers_ok_in (contents tables.now) lowest.now highest.now list.now i }
 {
     let node = list[i];
     if node == 0 {
         return true;
     }
     numbers_ok(
-        nodes, children, numbers, names, strings, text, lowest, highest, node,
+        tables, lowest, highest, node,
     )
 }
 
 // Has each number of the names' values such a range?
-pub(crate) fn names_ok<'a>(
-    nodes: &[u32],
-    children: &[u32],
-    numbers: &[u64],
-    names: &[u32],
-    strings: &'a [u8],
-    text: &'a [u8],
+pub(crate) fn names_ok(
+    tables: &Tables<'_>,
     lowest: &[u64],
     highest: &[u64],
     list: &[u32; 128],
 ) -> bool
-    requires { NamesAsks (given nodes children numbers names strings text) list.now }
-    ensures { let T = lent nodes children numbers names strings text in result ≡ all_from (numbers_ok_in T lowest.now highest.now list.now) 0 128 }
+    requires { NamesAsks (contents tables.now) list.now }
+    ensures { let T = contents tables.now in result ≡ all_from (numbers_ok_in T lowest.now highest.now list.now) 0 128 }
 {
     let mut i: usize = 0;
     while i < 128 {
         if !listed_ok(
-            nodes, children, numbers, names, strings, text, lowest, highest, list, i,
+            tables, lowest, highest, list, i,
         ) {
             return false;
         }

@@ -1,10 +1,11 @@
+use Rattle.table.specs.Contents.{contents}
 use Prim.Native.Nat.{◌-◌}
 use Rattle.table.specs.Tables.{tables}
 use Rattle.body.proofs.BodySteps.{BodyLeft}
 use Rattle.body.proofs.plan_lines.Given as goal
 
 abbrev pub invariant-loop-i : goal.invariant-loop-i
-invariant-loop-i l = BodyLeft (tables l.nodes l.children l.numbers l.names l.strings l.text) l.initial.here l.lines l.initial.plan l.i l.here l.answer l.plan l.states
+invariant-loop-i l = BodyLeft (contents l.tables) l.initial.here l.lines l.initial.plan l.i l.here l.answer l.plan l.states
 
 abbrev pub decreases-loop-i : goal.decreases-loop-i
 decreases-loop-i l = l.count - l.i

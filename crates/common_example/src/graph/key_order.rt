@@ -1,10 +1,12 @@
 // The child list with the fields of each object that is a simple pattern in key order, as a plan has them.
+ghost use Rattle.table.specs.Contents.{contents};
 ghost use Rattle.table.specs.Lent.{given, lent};
 ghost use Rattle.std.specs.Prelude.{◌≡◌};
 ghost use Rattle.base.specs.Lists.{tabulate};
 ghost use Rattle.table.specs.Tables.{child_at};
 ghost use Rattle.common_example.specs.code.arrays.KeyOrder.{CopyAsks, FieldsCopied, OrderObjectAsks, OrderNodeAsks, NodeOrdered, OrderChildrenAsks, ChildrenOrdered};
 
+use table::tables::Tables;
 use planner::fields::field_at;
 use planner::inner::fields::order_fields;
 use table::node_kind;
@@ -44,77 +46,57 @@ fn copy_fields(
 }
 
 // An object that is a simple pattern: as many fields in order as it has.
-fn order_object<'a>(
-    nodes: &[u32],
-    children: &[u32],
-    numbers: &[u64],
-    names: &[u32],
-    strings: &'a [u8],
-    text: &'a [u8],
+fn order_object(
+    tables: &Tables<'_>,
     node: u32,
     entries: &mut [u32; 512],
 )
-    requires { OrderObjectAsks (given nodes children numbers names strings text) node entries.old }
-    ensures { NodeOrdered (lent nodes children numbers names strings text) node entries.old entries.new }
+    requires { OrderObjectAsks (contents tables.now) node entries.old }
+    ensures { NodeOrdered (contents tables.now) node entries.old entries.new }
 {
-    let first = first_of(nodes, node) as usize;
-    let count = count_of(nodes, node) as usize;
+    let first = first_of(tables.nodes, node) as usize;
+    let count = count_of(tables.nodes, node) as usize;
     let mut order = [0u8; 256];
     let total = order_fields(
-        nodes, children, numbers, names, strings, text, first, count, &mut order,
+        tables, first, count, &mut order,
     );
-    copy_fields(children, &order, first, total as usize, entries);
+    copy_fields(tables.children, &order, first, total as usize, entries);
 }
 
 // `marks` has 1 for each simple pattern.
-fn order_node<'a>(
-    nodes: &[u32],
-    children: &[u32],
-    numbers: &[u64],
-    names: &[u32],
-    strings: &'a [u8],
-    text: &'a [u8],
+fn order_node(
+    tables: &Tables<'_>,
     marks: &[u8; 512],
     node: u32,
     entries: &mut [u32; 512],
 )
-    requires { OrderNodeAsks (given nodes children numbers names strings text) marks.now node entries.old }
-    ensures { NodeOrdered (lent nodes children numbers names strings text) node entries.old entries.new }
+    requires { OrderNodeAsks (contents tables.now) marks.now node entries.old }
+    ensures { NodeOrdered (contents tables.now) node entries.old entries.new }
 {
     if marks[node as usize - 1] != 1 {
         return;
     }
-    if kind_of(nodes, node) != node_kind::OBJECT {
+    if kind_of(tables.nodes, node) != node_kind::OBJECT {
         return;
     }
     order_object(
-        nodes, children, numbers, names, strings, text, node, entries,
+        tables, node, entries,
     );
 }
 
-pub(crate) fn order_children<'a>(
-    nodes: &[u32],
-    children: &[u32],
-    numbers: &[u64],
-    names: &[u32],
-    strings: &'a [u8],
-    text: &'a [u8],
+pub(crate) fn order_children(
+    tables: &Tables<'_>,
     marks: &[u8; 512],
 ) -> [u32; 512]
-    requires { OrderChildrenAsks (given nodes children numbers names strings text) marks.now }
-    ensures { ChildrenOrdered (lent nodes children numbers names strings text) result }
+    requires { OrderChildrenAsks (contents tables.now) marks.now }
+    ensures { ChildrenOrdered (contents tables.now) result }
 {
-    let mut entries = copy_children(children);
-    let count = nodes.len() / 5;
+    let mut entries = copy_children(tables.children);
+    let count = tables.nodes.len() / 5;
     let mut n: usize = 0;
     while n < count {
         order_node(
-            nodes,
-            children,
-            numbers,
-            names,
-            strings,
-            text,
+            tables,
             marks,
             (n + 1) as u32,
             &mut entries,

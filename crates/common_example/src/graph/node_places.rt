@@ -1,10 +1,12 @@
 // The place of a node's value on a side: n * 4 is node n on the first, n * 4 + 1 on the second; n * 4 + 2 and n * 4 + 3 are name n.
+ghost use Rattle.table.specs.Contents.{contents};
 ghost use Rattle.table.specs.Lent.{given};
 ghost use Rattle.std.specs.Prelude.{◌≡◌};
 ghost use Rattle.table.specs.Tables.{name_bytes};
 ghost use Rattle.table.specs.Names.{same_bytes, underscore_bytes};
 ghost use Rattle.common_example.specs.code.arrays.NodePlaces.{NamePlaceAsks, name_place_in, NodePlaceAsks, node_place, SidePlacesAsks, side_places};
 
+use table::tables::Tables;
 use table::reading::{first_of, kind_of, name_class};
 use table::{NameClass, node_kind};
 
@@ -34,51 +36,36 @@ fn name_place(names: &[u32], text: &[u8], held: &[u32; 128], name: u32, node: u3
     value * 4 + side
 }
 
-pub(crate) fn node_place<'a>(
-    nodes: &[u32],
-    children: &[u32],
-    numbers: &[u64],
-    names: &[u32],
-    strings: &'a [u8],
-    text: &'a [u8],
+pub(crate) fn node_place(
+    tables: &Tables<'_>,
     held: &[u32; 128],
     node: u32,
     side: u32,
 ) -> u32
-    requires { NodePlaceAsks (given nodes children numbers names strings text) held.now node side }
-    ensures { result ≡ node_place nodes.now names.now text.now held.now node side }
+    requires { NodePlaceAsks (contents tables.now) held.now node side }
+    ensures { result ≡ node_place tables.now.nodes.now tables.now.names.now tables.now.text.now held.now node side }
 {
-    if kind_of(nodes, node) == node_kind::NAME {
-        return name_place(names, text, held, first_of(nodes, node), node, side);
+    if kind_of(tables.nodes, node) == node_kind::NAME {
+        return name_place(tables.names, tables.text, held, first_of(tables.nodes, node), node, side);
     }
     node * 4 + side
 }
 
 // The places of all nodes on a side: node n at place n - 1, and 0 past the nodes.
-pub(crate) fn side_places<'a>(
-    nodes: &[u32],
-    children: &[u32],
-    numbers: &[u64],
-    names: &[u32],
-    strings: &'a [u8],
-    text: &'a [u8],
+pub(crate) fn side_places(
+    tables: &Tables<'_>,
     held: &[u32; 128],
     side: u32,
 ) -> [u32; 512]
-    requires { SidePlacesAsks (given nodes children numbers names strings text) held.now side }
-    ensures { result ≡ side_places nodes.now names.now text.now held.now side }
+    requires { SidePlacesAsks (contents tables.now) held.now side }
+    ensures { result ≡ side_places tables.now.nodes.now tables.now.names.now tables.now.text.now held.now side }
 {
     let mut places = [0u32; 512];
-    let count = nodes.len() / 5;
+    let count = tables.nodes.len() / 5;
     let mut i: usize = 0;
     while i < count {
         places[i] = node_place(
-            nodes,
-            children,
-            numbers,
-            names,
-            strings,
-            text,
+            tables,
             held,
             (i + 1) as u32,
             side,

@@ -1,4 +1,5 @@
 // The plan of a pattern of a checked table: the first pass, in written order, finds the node that binds each name. Each pass counts the nodes that it goes into.
+ghost use Rattle.table.specs.Contents.{contents};
 ghost use Rattle.table.specs.Lent.{given, lent};
 ghost use Rattle.std.specs.Prelude.{◌≡◌};
 ghost use Rattle.table.specs.Decode.{expr};
@@ -7,6 +8,7 @@ ghost use Rattle.planner.specs.Steps.{written_steps, steps};
 ghost use Rattle.planner.specs.code.Post.{NameNumber, Walks, WalksChildren, StepRoom, Counts, PlanAsks, PlannedIn, PatternAsks, PatternPlannedIn};
 ghost use Rattle.planner.specs.code.Passes.{unbound_in, bind_name, binders_of, binders_below, steps_below};
 
+use table::tables::Tables;
 use crate::context::name_states;
 use crate::inner::names::span_of;
 use crate::inner::plans::lay_out;
@@ -35,47 +37,37 @@ fn decide_name(states: &[u8; 128], binders: &mut [u32; 128], node: u32, name: u3
 }
 
 #[cycle(decide_decide_children)]
-fn decide<'a>(
-    nodes: &[u32],
-    children: &[u32],
-    numbers: &[u64],
-    names: &[u32],
-    strings: &'a [u8],
-    text: &'a [u8],
+fn decide(
+    tables: &Tables<'_>,
     states: &[u8; 128],
     binders: &mut [u32; 128],
     node: u32,
     steps: &mut usize,
 )
-    requires walks { Walks (given nodes children numbers names strings text) states.now node }
-    requires room { StepRoom steps.old (written_steps (expr (given nodes children numbers names strings text) node)) }
-    ensures bound { binders.new ≡ binders_of (unbound_in states.now) (expr (lent nodes children numbers names strings text) node) binders.old }
-    ensures counted { Counts steps (written_steps (expr (lent nodes children numbers names strings text) node)) }
+    requires walks { Walks (contents tables.now) states.now node }
+    requires room { StepRoom steps.old (written_steps (expr (contents tables.now) node)) }
+    ensures bound { binders.new ≡ binders_of (unbound_in states.now) (expr (contents tables.now) node) binders.old }
+    ensures counted { Counts steps (written_steps (expr (contents tables.now) node)) }
 {
     *steps += 1;
-    if kind_of(nodes, node) == node_kind::NAME {
-        decide_name(states, binders, node, first_of(nodes, node));
+    if kind_of(tables.nodes, node) == node_kind::NAME {
+        decide_name(states, binders, node, first_of(tables.nodes, node));
         return;
     }
-    let span = span_of(nodes, node, false, false);
+    let span = span_of(tables.nodes, node, false, false);
     let at = span.at;
     let step = span.step;
     let left = span.left;
     decide_children(
-        nodes, children, numbers, names, strings, text, states, binders, node, at, step, left,
+        tables, states, binders, node, at, step, left,
         steps,
     );
 }
 
 // The children of `parent` at `at`, `at + step` and so on, `left` of them.
 #[cycle(decide_decide_children)]
-fn decide_children<'a>(
-    nodes: &[u32],
-    children: &[u32],
-    numbers: &[u64],
-    names: &[u32],
-    strings: &'a [u8],
-    text: &'a [u8],
+fn decide_children(
+    tables: &Tables<'_>,
     states: &[u8; 128],
     binders: &mut [u32; 128],
     parent: u32,
@@ -84,17 +76,17 @@ fn decide_children<'a>(
     left: usize,
     steps: &mut usize,
 )
-    requires walks { WalksChildren (given nodes children numbers names strings text) states.now parent at step left }
-    requires room { StepRoom steps.old (steps_below (given nodes children numbers names strings text) at step left) }
-    ensures bound { binders.new ≡ binders_below states.now (lent nodes children numbers names strings text) at step left binders.old }
-    ensures counted { Counts steps (steps_below (lent nodes children numbers names strings text) at step left) }
+    requires walks { WalksChildren (contents tables.now) states.now parent at step left }
+    requires room { StepRoom steps.old (steps_below (contents tables.now) at step left) }
+    ensures bound { binders.new ≡ binders_below states.now (contents tables.now) at step left binders.old }
+    ensures counted { Counts steps (steps_below (contents tables.now) at step left) }
 {
     let mut place = at;
     let mut more = left;
     while 0 < more {
-        let child = child_at(children, place);
+        let child = child_at(tables.children, place);
         decide(
-            nodes, children, numbers, names, strings, text, states, binders, child, steps,
+            tables, states, binders, child, steps,
         );
         place += step;
         more -= 1;
@@ -102,13 +94,8 @@ fn decide_children<'a>(
 }
 
 // A pattern's plan from no names, at a written position below a pair, or 0: its entries from entry `at` on, as far as they fit.
-pub fn create_destructuring_plan_with_tracking<'a>(
-    nodes: &[u32],
-    children: &[u32],
-    numbers: &[u64],
-    names: &[u32],
-    strings: &'a [u8],
-    text: &'a [u8],
+pub fn create_destructuring_plan_with_tracking(
+    tables: &Tables<'_>,
     states: &[u8; 128],
     root: u32,
     position: u32,
@@ -116,29 +103,24 @@ pub fn create_destructuring_plan_with_tracking<'a>(
     plan: &mut [u32],
     at: usize,
 ) -> Progress
-    requires { PlanAsks (given nodes children numbers names strings text) states.now root binders.old at }
-    ensures planned { PlannedIn plan binders (lent nodes children numbers names strings text) states.now root position at result.next }
-    ensures counted { result.steps ≡ steps (unbound_in states.now) (expr (lent nodes children numbers names strings text) root) }
+    requires { PlanAsks (contents tables.now) states.now root binders.old at }
+    ensures planned { PlannedIn plan binders (contents tables.now) states.now root position at result.next }
+    ensures counted { result.steps ≡ steps (unbound_in states.now) (expr (contents tables.now) root) }
 {
     let mut steps: usize = 0;
     decide(
-        nodes, children, numbers, names, strings, text, states, binders, root, &mut steps,
+        tables, states, binders, root, &mut steps,
     );
     let next = lay_out(
-        nodes, children, numbers, names, strings, text, states, binders, root, 0, position, plan,
+        tables, states, binders, root, 0, position, plan,
         at, &mut steps,
     );
     Progress { next, steps }
 }
 
 // The plan of a pattern under a scope.
-pub fn plan_pattern<'a>(
-    nodes: &[u32],
-    children: &[u32],
-    numbers: &[u64],
-    names: &[u32],
-    strings: &'a [u8],
-    text: &'a [u8],
+pub fn plan_pattern(
+    tables: &Tables<'_>,
     scope: Scope,
     scoping: ScopingMode,
     root: u32,
@@ -146,12 +128,12 @@ pub fn plan_pattern<'a>(
     plan: &mut [u32],
     at: usize,
 ) -> Progress
-    requires { PatternAsks (given nodes children numbers names strings text) root binders.old at }
-    ensures planned { PatternPlannedIn plan binders (lent nodes children numbers names strings text) scope scoping root at result.next }
-    ensures counted { result.steps ≡ steps (is_unbound scope scoping) (expr (lent nodes children numbers names strings text) root) }
+    requires { PatternAsks (contents tables.now) root binders.old at }
+    ensures planned { PatternPlannedIn plan binders (contents tables.now) scope scoping root at result.next }
+    ensures counted { result.steps ≡ steps (is_unbound scope scoping) (expr (contents tables.now) root) }
 {
-    let states = name_states(names, text, scope, scoping);
+    let states = name_states(tables.names, tables.text, scope, scoping);
     create_destructuring_plan_with_tracking(
-        nodes, children, numbers, names, strings, text, &states, root, 0, binders, plan, at,
+        tables, &states, root, 0, binders, plan, at,
     )
 }

@@ -1,4 +1,5 @@
 // The fields of a checked table's object in plan order: literal keys in key order, the last of a repeated key, then computed ones as written.
+ghost use Rattle.table.specs.Contents.{contents};
 ghost use Rattle.table.specs.Lent.{given, lent, lent_literal, lent_referred};
 ghost use Rattle.std.specs.Prelude.{◌≡◌, ◌+◌, ◌*◌, ◌<◌, ◌^◌};
 ghost use Rattle.literal.specs.Order.{compared};
@@ -6,6 +7,7 @@ ghost use Rattle.table.specs.Tables.{child_at};
 ghost use Rattle.planner.specs.code.Post.{OrderAsks, Arranged};
 ghost use Rattle.planner.specs.code.Ordering.{FieldAdded, FindAsks, FoundIn, AddAsks};
 
+use table::tables::Tables;
 use crate::fields::wide;
 use base::bytes::insert_at;
 use literal::{Comparison, LiteralRef};
@@ -45,27 +47,22 @@ fn compare_keys<'a>(
 }
 
 // The place of a literal among the keys of the fields, by binary search.
-pub fn find_field<'a>(
-    nodes: &[u32],
-    children: &[u32],
-    numbers: &[u64],
-    names: &[u32],
-    strings: &'a [u8],
-    text: &'a [u8],
+pub fn find_field(
+    tables: &Tables<'_>,
     first: usize,
     order: &[u8; 256],
     literals: usize,
     key: LiteralRef,
 ) -> Found
-    requires { FindAsks (given nodes children numbers names strings text) first order.now literals key }
-    ensures { FoundIn (lent nodes children numbers names strings text) first key order.now literals result.place result.equal }
+    requires { FindAsks (contents tables.now) first order.now literals key }
+    ensures { FoundIn (contents tables.now) first key order.now literals result.place result.equal }
 {
     let mut low: usize = 0;
     let mut high = literals;
     while low < high {
         let middle = low + (high - low) / 2;
         let other = wide(order[middle]);
-        let way = compare_keys(nodes, children, numbers, strings, text, first, key, other);
+        let way = compare_keys(tables.nodes, tables.children, tables.numbers, tables.strings, tables.text, first, key, other);
         match way {
             Comparison::Equal => {
                 return Found {
@@ -84,26 +81,21 @@ pub fn find_field<'a>(
 }
 
 // One more field: by its literal key, replacing an equal one, or at the end if its key is computed.
-fn add_field<'a>(
-    nodes: &[u32],
-    children: &[u32],
-    numbers: &[u64],
-    names: &[u32],
-    strings: &'a [u8],
-    text: &'a [u8],
+fn add_field(
+    tables: &Tables<'_>,
     first: usize,
     field: u8,
     order: &mut [u8; 256],
     sizes: Sizes,
 ) -> Sizes
-    requires { AddAsks (given nodes children numbers names strings text) first field order.old sizes.literals sizes.total }
-    ensures { FieldAdded (lent nodes children numbers names strings text) first field order.old sizes.total order.new result.literals result.total }
+    requires { AddAsks (contents tables.now) first field order.old sizes.literals sizes.total }
+    ensures { FieldAdded (contents tables.now) first field order.old sizes.total order.new result.literals result.total }
 {
     let total = sizes.total;
     let literals = sizes.literals;
     let at = field as usize;
-    let node = child_at(children, first + at * 2);
-    let Key::Literal(key) = extract_literal_key(nodes, node) else {
+    let node = child_at(tables.children, first + at * 2);
+    let Key::Literal(key) = extract_literal_key(tables.nodes, node) else {
         insert_at(order, total, total, field);
         return Sizes {
             literals,
@@ -111,7 +103,7 @@ fn add_field<'a>(
         };
     };
     let found = find_field(
-        nodes, children, numbers, names, strings, text, first, order, literals, key,
+        tables, first, order, literals, key,
     );
     let place = found.place;
     if found.equal {
@@ -126,19 +118,14 @@ fn add_field<'a>(
 }
 
 // The fields of an object whose child entries start at `first`; how many are in order.
-pub fn order_fields<'a>(
-    nodes: &[u32],
-    children: &[u32],
-    numbers: &[u64],
-    names: &[u32],
-    strings: &'a [u8],
-    text: &'a [u8],
+pub fn order_fields(
+    tables: &Tables<'_>,
     first: usize,
     count: usize,
     order: &mut [u8; 256],
 ) -> u32
-    requires { OrderAsks (given nodes children numbers names strings text) first count }
-    ensures { Arranged (lent nodes children numbers names strings text) first count order.old order.new result }
+    requires { OrderAsks (contents tables.now) first count }
+    ensures { Arranged (contents tables.now) first count order.old order.new result }
 {
     let mut sizes = Sizes {
         literals: 0,
@@ -147,7 +134,7 @@ pub fn order_fields<'a>(
     let mut i: usize = 0;
     while i < count {
         sizes = add_field(
-            nodes, children, numbers, names, strings, text, first, i as u8, order, sizes,
+            tables, first, i as u8, order, sizes,
         );
         i += 1;
     }

@@ -1,4 +1,5 @@
 // The walk over the names of a checked table's pattern, as written.
+ghost use Rattle.table.specs.Contents.{contents};
 ghost use Rattle.table.specs.Lent.{given, lent};
 ghost use Rattle.std.specs.Prelude.{◌≡◌, cond};
 ghost use Rattle.table.specs.Decode.{expr};
@@ -6,6 +7,7 @@ ghost use Rattle.planner.specs.Names.{occurrences, first_node};
 ghost use Rattle.planner.specs.code.Post.{NameNumber, Walks, WalksChildren};
 ghost use Rattle.planner.specs.code.Validation.{marked_in, occurrences_below, SpanOf};
 
+use table::tables::Tables;
 use table::node_kind;
 use table::reading::{child_at, count_of, first_of, kind_of};
 
@@ -70,42 +72,32 @@ fn marked_node(flags: &[u8; 128], node: u32, name: u32) -> u32
 
 // The node of the first name with flag 1, or 0. `_`, and no other name, must have flag 2.
 #[cycle(first_name_first_name_children)]
-pub fn first_name<'a>(
-    nodes: &[u32],
-    children: &[u32],
-    numbers: &[u64],
-    names: &[u32],
-    strings: &'a [u8],
-    text: &'a [u8],
+pub fn first_name(
+    tables: &Tables<'_>,
     flags: &[u8; 128],
     sets: bool,
     keys: bool,
     node: u32,
 ) -> u32
-    requires { Walks (given nodes children numbers names strings text) flags.now node }
-    ensures { result ≡ first_node (marked_in flags.now) (occurrences sets keys (expr (lent nodes children numbers names strings text) node)) }
+    requires { Walks (contents tables.now) flags.now node }
+    ensures { result ≡ first_node (marked_in flags.now) (occurrences sets keys (expr (contents tables.now) node)) }
 {
-    if kind_of(nodes, node) == node_kind::NAME {
-        return marked_node(flags, node, first_of(nodes, node));
+    if kind_of(tables.nodes, node) == node_kind::NAME {
+        return marked_node(flags, node, first_of(tables.nodes, node));
     }
-    let span = span_of(nodes, node, sets, keys);
+    let span = span_of(tables.nodes, node, sets, keys);
     let at = span.at;
     let step = span.step;
     let left = span.left;
     first_name_children(
-        nodes, children, numbers, names, strings, text, flags, sets, keys, node, at, step, left,
+        tables, flags, sets, keys, node, at, step, left,
     )
 }
 
 // In the children of `parent` at `at`, `at + step` and so on, `left` of them.
 #[cycle(first_name_first_name_children)]
-fn first_name_children<'a>(
-    nodes: &[u32],
-    children: &[u32],
-    numbers: &[u64],
-    names: &[u32],
-    strings: &'a [u8],
-    text: &'a [u8],
+fn first_name_children(
+    tables: &Tables<'_>,
     flags: &[u8; 128],
     sets: bool,
     keys: bool,
@@ -114,15 +106,15 @@ fn first_name_children<'a>(
     step: usize,
     left: usize,
 ) -> u32
-    requires { WalksChildren (given nodes children numbers names strings text) flags.now parent at step left }
-    ensures { result ≡ first_node (marked_in flags.now) (occurrences_below sets keys (lent nodes children numbers names strings text) at step left) }
+    requires { WalksChildren (contents tables.now) flags.now parent at step left }
+    ensures { result ≡ first_node (marked_in flags.now) (occurrences_below sets keys (contents tables.now) at step left) }
 {
     let mut place = at;
     let mut more = left;
     while 0 < more {
-        let child = child_at(children, place);
+        let child = child_at(tables.children, place);
         let found = first_name(
-            nodes, children, numbers, names, strings, text, flags, sets, keys, child,
+            tables, flags, sets, keys, child,
         );
         if found != 0 {
             return found;

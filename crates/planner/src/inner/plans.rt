@@ -1,4 +1,5 @@
 // The second pass: a plan's entries in plan order (plans.rs, destructuring.rs).
+ghost use Rattle.table.specs.Contents.{contents};
 ghost use Rattle.table.specs.Lent.{given, lent};
 ghost use Rattle.std.specs.Prelude.{◌≡◌, ◌-◌, length};
 ghost use Rattle.table.specs.Decode.{expr};
@@ -7,6 +8,7 @@ ghost use Rattle.planner.specs.Entries.{WroteIn};
 ghost use Rattle.planner.specs.code.Passes.{name_entry_kind, leaf_entry_kind, lay_out, lay_steps, lay_out_items, lay_out_ordered};
 ghost use Rattle.planner.specs.code.Post.{NameNumber, StepRoom, Counts, LayAsks, LayObjectAsks, LayItemsAsks, LayOrderedAsks};
 
+use table::tables::Tables;
 use crate::buffer::put_entry;
 use crate::entry_kind;
 use crate::fields::field_at;
@@ -41,13 +43,8 @@ fn leaf_kind(kind: u32) -> u32
 
 // The entries of a node's plan, under a key node or 0 and at a written position, from entry `at` on; the next entry's place.
 #[cycle(lay_fields_lay_items_lay_object_lay_out)]
-pub(crate) fn lay_out<'a>(
-    nodes: &[u32],
-    children: &[u32],
-    numbers: &[u64],
-    names: &[u32],
-    strings: &'a [u8],
-    text: &'a [u8],
+pub(crate) fn lay_out(
+    tables: &Tables<'_>,
     states: &[u8; 128],
     binders: &[u32; 128],
     node: u32,
@@ -57,29 +54,24 @@ pub(crate) fn lay_out<'a>(
     at: usize,
     steps: &mut usize,
 ) -> usize
-    requires asks { LayAsks (given nodes children numbers names strings text) states.now binders.now node (below key position) at }
-    requires room { StepRoom steps.old (lay_steps binders.now (given nodes children numbers names strings text) node (below key position)) }
-    ensures laid { WroteIn plan at (lay_out binders.now (expr (lent nodes children numbers names strings text) node) (below key position)) result }
-    ensures counted { Counts steps (lay_steps binders.now (lent nodes children numbers names strings text) node (below key position)) }
+    requires asks { LayAsks (contents tables.now) states.now binders.now node (below key position) at }
+    requires room { StepRoom steps.old (lay_steps binders.now (contents tables.now) node (below key position)) }
+    ensures laid { WroteIn plan at (lay_out binders.now (expr (contents tables.now) node) (below key position)) result }
+    ensures counted { Counts steps (lay_steps binders.now (contents tables.now) node (below key position)) }
 {
     *steps += 1;
-    let kind = kind_of(nodes, node);
-    let first = first_of(nodes, node);
+    let kind = kind_of(tables.nodes, node);
+    let first = first_of(tables.nodes, node);
     if kind == node_kind::NAME {
         let bound = name_kind(states, binders, node, first);
         put_entry(plan, at, bound, node, 0, key, position);
         return at + 1;
     }
     if kind == node_kind::ARRAY {
-        let count = count_of(nodes, node);
+        let count = count_of(tables.nodes, node);
         put_entry(plan, at, entry_kind::ARRAY, node, count, key, position);
         return lay_items(
-            nodes,
-            children,
-            numbers,
-            names,
-            strings,
-            text,
+            tables,
             states,
             binders,
             node,
@@ -92,7 +84,7 @@ pub(crate) fn lay_out<'a>(
     }
     if kind == node_kind::OBJECT {
         return lay_object(
-            nodes, children, numbers, names, strings, text, states, binders, node, key, position,
+            tables, states, binders, node, key, position,
             plan, at, steps,
         );
     }
@@ -102,13 +94,8 @@ pub(crate) fn lay_out<'a>(
 
 // An array's items, `left` of them from child entry `from` on; their positions count up from 1.
 #[cycle(lay_fields_lay_items_lay_object_lay_out)]
-fn lay_items<'a>(
-    nodes: &[u32],
-    children: &[u32],
-    numbers: &[u64],
-    names: &[u32],
-    strings: &'a [u8],
-    text: &'a [u8],
+fn lay_items(
+    tables: &Tables<'_>,
     states: &[u8; 128],
     binders: &[u32; 128],
     parent: u32,
@@ -118,19 +105,19 @@ fn lay_items<'a>(
     at: usize,
     steps: &mut usize,
 ) -> usize
-    requires asks { LayItemsAsks (given nodes children numbers names strings text) states.now binders.now parent from left 1 at }
-    requires room { StepRoom steps.old (length (lay_out_items binders.now (given nodes children numbers names strings text) from left 1)) }
-    ensures laid { WroteIn plan at (lay_out_items binders.now (lent nodes children numbers names strings text) from left 1) result }
-    ensures counted { Counts steps (length (lay_out_items binders.now (lent nodes children numbers names strings text) from left 1)) }
+    requires asks { LayItemsAsks (contents tables.now) states.now binders.now parent from left 1 at }
+    requires room { StepRoom steps.old (length (lay_out_items binders.now (contents tables.now) from left 1)) }
+    ensures laid { WroteIn plan at (lay_out_items binders.now (contents tables.now) from left 1) result }
+    ensures counted { Counts steps (length (lay_out_items binders.now (contents tables.now) from left 1)) }
 {
     let mut place = from;
     let mut more = left;
     let mut position: u32 = 1;
     let mut here = at;
     while 0 < more {
-        let child = child_at(children, place);
+        let child = child_at(tables.children, place);
         here = lay_out(
-            nodes, children, numbers, names, strings, text, states, binders, child, 0, position,
+            tables, states, binders, child, 0, position,
             plan, here, steps,
         );
         place += 1;
@@ -142,13 +129,8 @@ fn lay_items<'a>(
 
 // An object that `lay_out` went into and counted.
 #[cycle(lay_fields_lay_items_lay_object_lay_out)]
-fn lay_object<'a>(
-    nodes: &[u32],
-    children: &[u32],
-    numbers: &[u64],
-    names: &[u32],
-    strings: &'a [u8],
-    text: &'a [u8],
+fn lay_object(
+    tables: &Tables<'_>,
     states: &[u8; 128],
     binders: &[u32; 128],
     node: u32,
@@ -158,25 +140,20 @@ fn lay_object<'a>(
     at: usize,
     steps: &mut usize,
 ) -> usize
-    requires asks { LayObjectAsks (given nodes children numbers names strings text) states.now binders.now node (below key position) at }
-    requires room { StepRoom steps.old (lay_steps binders.now (given nodes children numbers names strings text) node (below key position) - 1) }
-    ensures laid { WroteIn plan at (lay_out binders.now (expr (lent nodes children numbers names strings text) node) (below key position)) result }
-    ensures counted { Counts steps (lay_steps binders.now (lent nodes children numbers names strings text) node (below key position) - 1) }
+    requires asks { LayObjectAsks (contents tables.now) states.now binders.now node (below key position) at }
+    requires room { StepRoom steps.old (lay_steps binders.now (contents tables.now) node (below key position) - 1) }
+    ensures laid { WroteIn plan at (lay_out binders.now (expr (contents tables.now) node) (below key position)) result }
+    ensures counted { Counts steps (lay_steps binders.now (contents tables.now) node (below key position) - 1) }
 {
-    let first = first_of(nodes, node) as usize;
-    let count = count_of(nodes, node) as usize;
+    let first = first_of(tables.nodes, node) as usize;
+    let count = count_of(tables.nodes, node) as usize;
     let mut order = [0u8; 256];
     let total = order_fields(
-        nodes, children, numbers, names, strings, text, first, count, &mut order,
+        tables, first, count, &mut order,
     );
     put_entry(plan, at, entry_kind::OBJECT, node, total, key, position);
     lay_fields(
-        nodes,
-        children,
-        numbers,
-        names,
-        strings,
-        text,
+        tables,
         states,
         binders,
         node,
@@ -191,13 +168,8 @@ fn lay_object<'a>(
 
 // An object's fields by `order`, the first `total` of its field numbers.
 #[cycle(lay_fields_lay_items_lay_object_lay_out)]
-fn lay_fields<'a>(
-    nodes: &[u32],
-    children: &[u32],
-    numbers: &[u64],
-    names: &[u32],
-    strings: &'a [u8],
-    text: &'a [u8],
+fn lay_fields(
+    tables: &Tables<'_>,
     states: &[u8; 128],
     binders: &[u32; 128],
     parent: u32,
@@ -208,25 +180,20 @@ fn lay_fields<'a>(
     at: usize,
     steps: &mut usize,
 ) -> usize
-    requires asks { LayOrderedAsks (given nodes children numbers names strings text) states.now binders.now parent first order.now total at }
-    requires room { StepRoom steps.old (length (lay_out_ordered binders.now (given nodes children numbers names strings text) first order.now 0 total)) }
-    ensures laid { WroteIn plan at (lay_out_ordered binders.now (lent nodes children numbers names strings text) first order.now 0 total) result }
-    ensures counted { Counts steps (length (lay_out_ordered binders.now (lent nodes children numbers names strings text) first order.now 0 total)) }
+    requires asks { LayOrderedAsks (contents tables.now) states.now binders.now parent first order.now total at }
+    requires room { StepRoom steps.old (length (lay_out_ordered binders.now (contents tables.now) first order.now 0 total)) }
+    ensures laid { WroteIn plan at (lay_out_ordered binders.now (contents tables.now) first order.now 0 total) result }
+    ensures counted { Counts steps (length (lay_out_ordered binders.now (contents tables.now) first order.now 0 total)) }
 {
     let mut q: usize = 0;
     let mut here = at;
     while q < total {
         let field = field_at(order, q);
         let place = first + field * 2;
-        let key = child_at(children, place);
-        let value = child_at(children, place + 1);
+        let key = child_at(tables.children, place);
+        let value = child_at(tables.children, place + 1);
         here = lay_out(
-            nodes,
-            children,
-            numbers,
-            names,
-            strings,
-            text,
+            tables,
             states,
             binders,
             value,

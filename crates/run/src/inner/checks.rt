@@ -1,4 +1,5 @@
 // What a run turns back before it plans: a pattern that is not simple, a node that is no value.
+ghost use Rattle.table.specs.Contents.{contents};
 ghost use Rattle.table.specs.Lent.{given, lent};
 ghost use Rattle.std.specs.Prelude.{◌/◌, ◌≤◌, ◌≡◌, ◌&&◌, length};
 ghost use Rattle.table.specs.Decode.{expr};
@@ -8,22 +9,18 @@ ghost use Rattle.value.specs.Value.{is_value};
 ghost use Rattle.run.specs.Operations.{values_listed};
 ghost use Rattle.run.specs.code.ChecksPost.{marked_node, marked_if_listed, all_marked, ValuesAsks, AllAsks};
 
+use table::tables::Tables;
 use table::reading::is_node;
 use value::inner::admitted::mark_nodes;
 
-pub fn is_simple<'a>(
-    nodes: &[u32],
-    children: &[u32],
-    numbers: &[u64],
-    names: &[u32],
-    strings: &'a [u8],
-    text: &'a [u8],
+pub fn is_simple(
+    tables: &Tables<'_>,
     node: u32,
 ) -> bool
-    requires { GoodRoot (given nodes children numbers names strings text) node }
-    ensures { result ≡ simple (expr (lent nodes children numbers names strings text) node) }
+    requires { GoodRoot (contents tables.now) node }
+    ensures { result ≡ simple (expr (contents tables.now) node) }
 {
-    let marks = mark_nodes(nodes, children, numbers, names, strings, text, true);
+    let marks = mark_nodes(tables, true);
     marks[node as usize - 1] == 1
 }
 
@@ -65,22 +62,17 @@ pub fn values_listed(nodes: &[u32], names: &[u32], marks: &[u8; 512], values: &[
 }
 
 // Are the value and every listed node values?
-pub(crate) fn all_values<'a>(
-    nodes: &[u32],
-    children: &[u32],
-    numbers: &[u64],
-    names: &[u32],
-    strings: &'a [u8],
-    text: &'a [u8],
+pub(crate) fn all_values(
+    tables: &Tables<'_>,
     value: u32,
     values: &[u32],
 ) -> bool
-    requires { AllAsks (given nodes children numbers names strings text) value values.now }
-    ensures { let T = lent nodes children numbers names strings text in result ≡ (is_value (expr T value) && values_listed T values.now) }
+    requires { AllAsks (contents tables.now) value values.now }
+    ensures { let T = contents tables.now in result ≡ (is_value (expr T value) && values_listed T values.now) }
 {
-    let marks = mark_nodes(nodes, children, numbers, names, strings, text, false);
-    if !is_value(nodes, &marks, value) {
+    let marks = mark_nodes(tables, false);
+    if !is_value(tables.nodes, &marks, value) {
         return false;
     }
-    values_listed(nodes, names, &marks, values)
+    values_listed(tables.nodes, tables.names, &marks, values)
 }

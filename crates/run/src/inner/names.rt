@@ -1,4 +1,5 @@
 // The values of names by their numbers: at the start, and after a match.
+ghost use Rattle.table.specs.Contents.{contents};
 ghost use Rattle.table.specs.Lent.{given, lent};
 ghost use Rattle.std.specs.Prelude.{◌/◌, ◌≡◌, [], cond, eqb, length};
 ghost use Rattle.scope.specs.Scope.{is_unbound, known};
@@ -8,6 +9,7 @@ ghost use Rattle.planner.specs.code.Post.{NameNumber};
 ghost use Rattle.run.specs.Operations.{known_listed};
 ghost use Rattle.run.specs.code.NamesPost.{ListAsks, StartOf, NamesSet, has_value, all_have_values, KnownAsks};
 
+use table::tables::Tables;
 use report::inner::names_met;
 use scope::{Binding, Scope, ScopingMode};
 use table::NameClass;
@@ -120,21 +122,16 @@ fn all_have_values(
 }
 
 // Has each known name of the pattern a value?
-pub fn known_listed<'a>(
-    nodes: &[u32],
-    children: &[u32],
-    numbers: &[u64],
-    names: &[u32],
-    strings: &'a [u8],
-    text: &'a [u8],
+pub fn known_listed(
+    tables: &Tables<'_>,
     scope: Scope,
     scoping: ScopingMode,
     pattern: u32,
     values: &[u32],
 ) -> bool
-    requires { KnownAsks (given nodes children numbers names strings text) scope pattern values.now }
-    ensures { let T = lent nodes children numbers names strings text in result ≡ known_listed T (known scope scoping) (expr T pattern) values.now }
+    requires { KnownAsks (contents tables.now) scope pattern values.now }
+    ensures { let T = contents tables.now in result ≡ known_listed T (known scope scoping) (expr T pattern) values.now }
 {
-    let met = names_met(nodes, children, numbers, names, strings, text, pattern);
-    all_have_values(names, scope, scoping, &met, values)
+    let met = names_met(tables, pattern);
+    all_have_values(tables.names, scope, scoping, &met, values)
 }

@@ -1,7 +1,9 @@
 // What a run turns back before it plans, in its order.
+ghost use Rattle.table.specs.Contents.{contents};
 ghost use Rattle.table.specs.Lent.{given, lent};
 ghost use Rattle.run.specs.code.Post.{CheckedAsks, CheckToldIn};
 
+use table::tables::Tables;
 use crate::RunAnswer;
 use crate::inner::checks::{all_values, is_simple};
 use crate::inner::names::known_listed;
@@ -16,32 +18,27 @@ pub enum RunCheck {
 }
 
 // Of a good table, with roots in it and a list that is long enough.
-fn check_inside<'a>(
-    nodes: &[u32],
-    children: &[u32],
-    numbers: &[u64],
-    names: &[u32],
-    strings: &'a [u8],
-    text: &'a [u8],
+fn check_inside(
+    tables: &Tables<'_>,
     scope: Scope,
     scoping: ScopingMode,
     pattern: u32,
     value: u32,
     values: &[u32],
 ) -> RunCheck
-    requires { CheckedAsks (given nodes children numbers names strings text) scope pattern value values.now }
-    ensures { CheckToldIn values (lent nodes children numbers names strings text) scope scoping pattern value result }
+    requires { CheckedAsks (contents tables.now) scope pattern value values.now }
+    ensures { CheckToldIn values (contents tables.now) scope scoping pattern value result }
 {
-    if !is_simple(nodes, children, numbers, names, strings, text, pattern) {
+    if !is_simple(tables, pattern) {
         return RunCheck::Refused(RunAnswer::PatternNotSimple);
     }
     if !all_values(
-        nodes, children, numbers, names, strings, text, value, values,
+        tables, value, values,
     ) {
         return RunCheck::Refused(RunAnswer::NotAValue);
     }
     if !known_listed(
-        nodes, children, numbers, names, strings, text, scope, scoping, pattern, values,
+        tables, scope, scoping, pattern, values,
     ) {
         return RunCheck::Refused(RunAnswer::NameWithoutValue);
     }
@@ -49,35 +46,30 @@ fn check_inside<'a>(
 }
 
 // 1 to 5, then 20 to 23.
-pub fn check_run<'a>(
-    nodes: &[u32],
-    children: &[u32],
-    numbers: &[u64],
-    names: &[u32],
-    strings: &'a [u8],
-    text: &'a [u8],
+pub fn check_run(
+    tables: &Tables<'_>,
     scope: Scope,
     scoping: ScopingMode,
     pattern: u32,
     value: u32,
     values: &[u32],
 ) -> RunCheck
-    ensures { CheckToldIn values (lent nodes children numbers names strings text) scope scoping pattern value result }
+    ensures { CheckToldIn values (contents tables.now) scope scoping pattern value result }
 {
-    let checked = check(nodes, children, numbers, names, strings, text, scope);
+    let checked = check(tables, scope);
     if let TableAnswer::Refused(refused) = checked {
         return RunCheck::Refused(RunAnswer::TableRefused(refused));
     }
-    if !is_node(nodes, pattern) {
+    if !is_node(tables.nodes, pattern) {
         return RunCheck::Refused(RunAnswer::RootOutside);
     }
-    if !is_node(nodes, value) {
+    if !is_node(tables.nodes, value) {
         return RunCheck::Refused(RunAnswer::RootOutside);
     }
-    if values.len() < names.len() / 2 {
+    if values.len() < tables.names.len() / 2 {
         return RunCheck::Refused(RunAnswer::ListTooShort);
     }
     check_inside(
-        nodes, children, numbers, names, strings, text, scope, scoping, pattern, value, values,
+        tables, scope, scoping, pattern, value, values,
     )
 }

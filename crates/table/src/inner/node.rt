@@ -1,10 +1,12 @@
 // The table rules that speak of one node.
+ghost use Rattle.table.specs.Contents.{contents};
 ghost use Rattle.table.specs.Lent.{lent};
 ghost use Rattle.std.specs.Prelude.{◌≡◌, ◌&&◌, [], ◌+◌, ◌/◌, ◌<◌, eqb, leb, ltb, length};
 ghost use Rattle.table.specs.Tables.{tables, first_word_of, count_of};
 ghost use Rattle.table.specs.Rules.{span_ok, name_text_ok, words_ok, children_below};
 ghost use Rattle.table.specs.code.Passes.{words_ok_at};
 
+use crate::tables::Tables;
 use crate::node_kind;
 use crate::reading::{bytes_between, child_at, name_bytes, node_word, same_bytes, width_at};
 
@@ -70,31 +72,26 @@ fn name_words_ok(nodes: &[u32], names: &[u32], text: &[u8], i: usize) -> bool
 }
 
 // What first and count are, by the kind.
-pub(crate) fn words_ok<'a>(
-    nodes: &[u32],
-    children: &[u32],
-    numbers: &[u64],
-    names: &[u32],
-    strings: &'a [u8],
-    text: &'a [u8],
+pub(crate) fn words_ok(
+    tables: &Tables<'_>,
     i: usize,
 ) -> bool
-    requires { i < length nodes.now / 5 }
-    ensures { result ≡ words_ok_at (lent nodes children numbers names strings text) i }
+    requires { i < length tables.now.nodes.now / 5 }
+    ensures { result ≡ words_ok_at (contents tables.now) i }
 {
-    let kind = node_word(nodes, i, 0);
-    let first = node_word(nodes, i, 3) as usize;
-    let count = node_word(nodes, i, 4) as usize;
+    let kind = node_word(tables.nodes, i, 0);
+    let first = node_word(tables.nodes, i, 3) as usize;
+    let count = node_word(tables.nodes, i, 4) as usize;
     match kind {
-        node_kind::STRING => in_range(first, count, strings.len()),
-        node_kind::RAW_STRING => in_range(first, count, text.len()),
-        node_kind::NUMBER => one_word(first, numbers.len() / 2, count),
+        node_kind::STRING => in_range(first, count, tables.strings.len()),
+        node_kind::RAW_STRING => in_range(first, count, tables.text.len()),
+        node_kind::NUMBER => one_word(first, tables.numbers.len() / 2, count),
         node_kind::BOOL => one_word(first, 2, count),
         node_kind::NULL => one_word(first, 1, count),
-        node_kind::NAME => name_words_ok(nodes, names, text, i),
-        node_kind::ARRAY => in_range(first, count, children.len()),
-        node_kind::SET => in_range(first, count, children.len()),
-        node_kind::OBJECT => in_range(first, count * 2, children.len()),
+        node_kind::NAME => name_words_ok(tables.nodes, tables.names, tables.text, i),
+        node_kind::ARRAY => in_range(first, count, tables.children.len()),
+        node_kind::SET => in_range(first, count, tables.children.len()),
+        node_kind::OBJECT => in_range(first, count * 2, tables.children.len()),
         node_kind::OTHER => one_word(first, 1, count),
         _ => false,
     }

@@ -1,10 +1,11 @@
+use Rattle.table.specs.Contents.{contents}
 use Prim.Native.Nat.{◌-◌}
 use Rattle.table.specs.Tables.{tables}
 use Rattle.table_fault.proofs.Walking.{Walking}
 use Rattle.table_fault.proofs.table_fault.Given as goal
 
 abbrev pub invariant-loop-rule : goal.invariant-loop-rule
-invariant-loop-rule l = Walking (tables l.nodes l.children l.numbers l.names l.strings l.text) l.marks l.rule
+invariant-loop-rule l = Walking (contents l.tables) l.marks l.rule
 
 abbrev pub decreases-loop-rule : goal.decreases-loop-rule
 decreases-loop-rule l = 24 - l.rule

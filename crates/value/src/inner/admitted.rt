@@ -1,4 +1,5 @@
 // Which nodes are simple patterns, and which are values. Children have lower numbers than their parents, so one pass over the nodes is enough.
+ghost use Rattle.table.specs.Contents.{contents};
 ghost use Rattle.table.specs.Lent.{given, lent};
 ghost use Rattle.std.specs.Prelude.{◌≡◌};
 ghost use Rattle.table.specs.code.Sound.{WellFormed};
@@ -6,6 +7,7 @@ ghost use Rattle.table.specs.Decode.{expr, fields};
 ghost use Rattle.planner.specs.Simple.{differing, keys_of, admitted};
 ghost use Rattle.value.specs.code.Post.{mark_of, items_marked, fields_marked, EntriesAsks, MarkAsks, node_marks, KeysAsks};
 
+use table::tables::Tables;
 use planner::inner::fields::order_fields;
 use table::node_kind;
 use table::reading::{child_at, count_of, first_of, kind_of};
@@ -60,87 +62,67 @@ fn fields_marked(nodes: &[u32], children: &[u32], marks: &[u8; 512], at: usize, 
 }
 
 // Do the literal keys of `count` fields differ? In order, equal keys are one.
-fn keys_differ<'a>(
-    nodes: &[u32],
-    children: &[u32],
-    numbers: &[u64],
-    names: &[u32],
-    strings: &'a [u8],
-    text: &'a [u8],
+fn keys_differ(
+    tables: &Tables<'_>,
     first: usize,
     count: usize,
 ) -> bool
-    requires { KeysAsks (given nodes children numbers names strings text) first count }
-    ensures { let T = lent nodes children numbers names strings text in result ≡ differing (keys_of (fields (expr T) T.children first count)) }
+    requires { KeysAsks (contents tables.now) first count }
+    ensures { let T = contents tables.now in result ≡ differing (keys_of (fields (expr T) T.children first count)) }
 {
     let mut order = [0u8; 256];
     let total = order_fields(
-        nodes, children, numbers, names, strings, text, first, count, &mut order,
+        tables, first, count, &mut order,
     );
     total as usize == count
 }
 
 // A node by the marks of those below it; `admit` admits names and underscores.
-fn admits<'a>(
-    nodes: &[u32],
-    children: &[u32],
-    numbers: &[u64],
-    names: &[u32],
-    strings: &'a [u8],
-    text: &'a [u8],
+fn admits(
+    tables: &Tables<'_>,
     admit: bool,
     marks: &[u8; 512],
     node: u32,
 ) -> bool
-    requires { MarkAsks (given nodes children numbers names strings text) admit marks.now node }
-    ensures { result ≡ admitted admit (expr (lent nodes children numbers names strings text) node) }
+    requires { MarkAsks (contents tables.now) admit marks.now node }
+    ensures { result ≡ admitted admit (expr (contents tables.now) node) }
 {
-    let kind = kind_of(nodes, node);
+    let kind = kind_of(tables.nodes, node);
     if kind <= node_kind::LAST_LITERAL {
         return true;
     }
     if kind == node_kind::NAME {
         return admit;
     }
-    let first = first_of(nodes, node) as usize;
-    let count = count_of(nodes, node) as usize;
+    let first = first_of(tables.nodes, node) as usize;
+    let count = count_of(tables.nodes, node) as usize;
     if kind == node_kind::ARRAY {
-        return items_marked(children, marks, first, count);
+        return items_marked(tables.children, marks, first, count);
     }
     if kind == node_kind::OBJECT {
-        let keyed = fields_marked(nodes, children, marks, first, count);
+        let keyed = fields_marked(tables.nodes, tables.children, marks, first, count);
         if !keyed {
             return false;
         }
-        return keys_differ(nodes, children, numbers, names, strings, text, first, count);
+        return keys_differ(tables, first, count);
     }
     false
 }
 
 // The marks of all nodes, and 0 past them.
-pub fn mark_nodes<'a>(
-    nodes: &[u32],
-    children: &[u32],
-    numbers: &[u64],
-    names: &[u32],
-    strings: &'a [u8],
-    text: &'a [u8],
+pub fn mark_nodes(
+    tables: &Tables<'_>,
     admit: bool,
 ) -> [u8; 512]
-    requires { WellFormed (given nodes children numbers names strings text) }
-    ensures { result ≡ node_marks (lent nodes children numbers names strings text) admit }
+    requires { WellFormed (contents tables.now) }
+    ensures { result ≡ node_marks (contents tables.now) admit }
 {
     let mut marks = [0u8; 512];
-    let total = nodes.len() / 5;
+    let total = tables.nodes.len() / 5;
     let mut n: usize = 0;
     while n < total {
         let ok = admits(
-            nodes,
-            children,
-            numbers,
-            names,
-            strings,
-            text,
+            tables,
             admit,
             &marks,
             (n + 1) as u32,

@@ -1,4 +1,5 @@
 // The fields of an object by their keys.
+ghost use Rattle.table.specs.Contents.{contents};
 ghost use Rattle.table.specs.Lent.{given, lent, lent_literal};
 ghost use Rattle.std.specs.Prelude.{◌≡◌};
 ghost use Rattle.table.specs.Decode.{literal_at, fields_of};
@@ -6,6 +7,7 @@ ghost use Rattle.planner.specs.Simple.{keys_of};
 ghost use Rattle.value.specs.Value.{same_key_sets};
 ghost use Rattle.value.specs.code.Post.{same_literals, ChildrenAsks, under_from, under_in, KeyedObject, KeySetsAsks};
 
+use table::tables::Tables;
 use literal::Comparison;
 use table::reading::{child_at, compare_literals, count_of, first_of};
 
@@ -30,26 +32,21 @@ pub fn same_literals<'a>(
 }
 
 // The value node of the first of `left` fields under a key, or 0.
-fn scan_under<'a>(
-    nodes: &[u32],
-    children: &[u32],
-    numbers: &[u64],
-    names: &[u32],
-    strings: &'a [u8],
-    text: &'a [u8],
+fn scan_under(
+    tables: &Tables<'_>,
     at: usize,
     left: usize,
     key: u32,
 ) -> u32
-    requires { ChildrenAsks (given nodes children numbers names strings text) at 2 left }
-    ensures { let T = lent nodes children numbers names strings text in result ≡ under_from T (literal_at T key) at left }
+    requires { ChildrenAsks (contents tables.now) at 2 left }
+    ensures { let T = contents tables.now in result ≡ under_from T (literal_at T key) at left }
 {
     let mut place = at;
     let mut more = left;
     while 0 < more {
-        let other = child_at(children, place);
-        if same_literals(nodes, numbers, strings, text, key, other) {
-            return child_at(children, place + 1);
+        let other = child_at(tables.children, place);
+        if same_literals(tables.nodes, tables.numbers, tables.strings, tables.text, key, other) {
+            return child_at(tables.children, place + 1);
         }
         place += 2;
         more -= 1;
@@ -58,57 +55,47 @@ fn scan_under<'a>(
 }
 
 // An object's value node under a key, or 0. The field at `position` is looked at first.
-pub fn value_under<'a>(
-    nodes: &[u32],
-    children: &[u32],
-    numbers: &[u64],
-    names: &[u32],
-    strings: &'a [u8],
-    text: &'a [u8],
+pub fn value_under(
+    tables: &Tables<'_>,
     object: u32,
     position: usize,
     key: u32,
 ) -> u32
-    requires { KeyedObject (given nodes children numbers names strings text) object }
-    ensures { result ≡ under_in (lent nodes children numbers names strings text) object key }
+    requires { KeyedObject (contents tables.now) object }
+    ensures { result ≡ under_in (contents tables.now) object key }
 {
-    let first = first_of(nodes, object) as usize;
-    let count = count_of(nodes, object) as usize;
+    let first = first_of(tables.nodes, object) as usize;
+    let count = count_of(tables.nodes, object) as usize;
     if position < count {
         let place = first + position * 2;
-        let other = child_at(children, place);
-        if same_literals(nodes, numbers, strings, text, key, other) {
-            return child_at(children, place + 1);
+        let other = child_at(tables.children, place);
+        if same_literals(tables.nodes, tables.numbers, tables.strings, tables.text, key, other) {
+            return child_at(tables.children, place + 1);
         }
     }
     scan_under(
-        nodes, children, numbers, names, strings, text, first, count, key,
+        tables, first, count, key,
     )
 }
 
 // Have two objects the same keys? With as many keys, those of the first need only be the second's.
-pub fn same_key_sets<'a>(
-    nodes: &[u32],
-    children: &[u32],
-    numbers: &[u64],
-    names: &[u32],
-    strings: &'a [u8],
-    text: &'a [u8],
+pub fn same_key_sets(
+    tables: &Tables<'_>,
     a: u32,
     b: u32,
 ) -> bool
-    requires { KeySetsAsks (given nodes children numbers names strings text) a b }
-    ensures { let T = lent nodes children numbers names strings text in result ≡ same_key_sets (keys_of (fields_of T a)) (keys_of (fields_of T b)) }
+    requires { KeySetsAsks (contents tables.now) a b }
+    ensures { let T = contents tables.now in result ≡ same_key_sets (keys_of (fields_of T a)) (keys_of (fields_of T b)) }
 {
-    let first = first_of(nodes, a) as usize;
-    let count = count_of(nodes, a) as usize;
-    if count_of(nodes, b) as usize != count {
+    let first = first_of(tables.nodes, a) as usize;
+    let count = count_of(tables.nodes, a) as usize;
+    if count_of(tables.nodes, b) as usize != count {
         return false;
     }
     let mut i: usize = 0;
     while i < count {
-        let key = child_at(children, first + i * 2);
-        let value = value_under(nodes, children, numbers, names, strings, text, b, i, key);
+        let key = child_at(tables.children, first + i * 2);
+        let value = value_under(tables, b, i, key);
         if value == 0 {
             return false;
         }

@@ -1,3 +1,4 @@
+use Rattle.table.specs.Contents.{contents}
 use Prim.Native.Nat.{◌-◌, ◌*◌}
 use Rattle.table.specs.Tables.{tables}
 use Rattle.assignment.proofs.flatten.FlatLoops.{Kept, PairingItems, PairingFields}
@@ -13,7 +14,7 @@ abbrev pub decreases-flatten_fields : goal.decreases-flatten_fields
 decreases-flatten_fields l = 4 * l.right - 2
 
 abbrev pub invariant-flatten_fields-loop-more : goal.invariant-flatten_fields-loop-more
-invariant-flatten_fields-loop-more l = PairingFields (tables l.nodes l.children l.numbers l.names l.strings l.text) l.left l.right l.order l.total l.initial.states l.initial.plan l.at l.place l.more l.states l.plan l.here × Kept (tables l.nodes l.children l.numbers l.names l.strings l.text) l.initial.scratch l.scratch
+invariant-flatten_fields-loop-more l = PairingFields (contents l.tables) l.left l.right l.order l.total l.initial.states l.initial.plan l.at l.place l.more l.states l.plan l.here × Kept (contents l.tables) l.initial.scratch l.scratch
 
 abbrev pub decreases-flatten_fields-loop-more : goal.decreases-flatten_fields-loop-more
 decreases-flatten_fields-loop-more l = l.more
@@ -22,7 +23,7 @@ abbrev pub decreases-flatten_items : goal.decreases-flatten_items
 decreases-flatten_items l = 4 * l.parent - 2
 
 abbrev pub invariant-flatten_items-loop-more : goal.invariant-flatten_items-loop-more
-invariant-flatten_items-loop-more l = PairingItems (tables l.nodes l.children l.numbers l.names l.strings l.text) l.lefts l.parent l.rights l.count l.initial.states l.initial.plan l.at l.left_place l.right_place l.more l.states l.plan l.here × Kept (tables l.nodes l.children l.numbers l.names l.strings l.text) l.initial.scratch l.scratch
+invariant-flatten_items-loop-more l = PairingItems (contents l.tables) l.lefts l.parent l.rights l.count l.initial.states l.initial.plan l.at l.left_place l.right_place l.more l.states l.plan l.here × Kept (contents l.tables) l.initial.scratch l.scratch
 
 abbrev pub decreases-flatten_items-loop-more : goal.decreases-flatten_items-loop-more
 decreases-flatten_items-loop-more l = l.more

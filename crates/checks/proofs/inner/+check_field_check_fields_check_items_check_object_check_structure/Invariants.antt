@@ -1,3 +1,4 @@
+use Rattle.table.specs.Contents.{contents}
 use Prim.Native.Nat.{◌-◌, ◌*◌}
 use Rattle.table.specs.Tables.{tables}
 use Rattle.checks.proofs.Checks.{CheckingItems}
@@ -11,7 +12,7 @@ abbrev pub decreases-check_fields : goal.decreases-check_fields
 decreases-check_fields l = 4 * l.value - 2
 
 abbrev pub invariant-check_fields-loop-i : goal.invariant-check_fields-loop-i
-invariant-check_fields-loop-i l = CheckingFields l.reading (tables l.nodes l.children l.numbers l.names l.strings l.text) l.pattern l.value l.order l.literals l.total l.count l.so_far l.i
+invariant-check_fields-loop-i l = CheckingFields l.reading (contents l.tables) l.pattern l.value l.order l.literals l.total l.count l.so_far l.i
 
 abbrev pub decreases-check_fields-loop-i : goal.decreases-check_fields-loop-i
 decreases-check_fields-loop-i l = l.count - l.i
@@ -20,7 +21,7 @@ abbrev pub decreases-check_items : goal.decreases-check_items
 decreases-check_items l = 4 * l.value - 2
 
 abbrev pub invariant-check_items-loop-i : goal.invariant-check_items-loop-i
-invariant-check_items-loop-i l = CheckingItems l.reading (tables l.nodes l.children l.numbers l.names l.strings l.text) l.value l.at l.place l.left l.so_far l.i
+invariant-check_items-loop-i l = CheckingItems l.reading (contents l.tables) l.value l.at l.place l.left l.so_far l.i
 
 abbrev pub decreases-check_items-loop-i : goal.decreases-check_items-loop-i
 decreases-check_items-loop-i l = l.left - l.i

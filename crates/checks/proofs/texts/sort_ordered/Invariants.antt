@@ -1,9 +1,10 @@
+use Rattle.table.specs.Contents.{contents}
 use Rattle.table.specs.Tables.{tables}
 use Rattle.checks.proofs.TextLoops.{SortingOrdered}
 use Rattle.checks.proofs.texts.sort_ordered.Given as goal
 
 abbrev pub invariant-loop-q : goal.invariant-loop-q
-invariant-loop-q l = SortingOrdered (tables l.nodes l.children l.numbers l.names l.strings l.text) l.first l.order l.total l.initial.keys l.keys l.size l.q
+invariant-loop-q l = SortingOrdered (contents l.tables) l.first l.order l.total l.initial.keys l.keys l.size l.q
 
 abbrev pub decreases-loop-q : goal.decreases-loop-q
 decreases-loop-q l = l.q

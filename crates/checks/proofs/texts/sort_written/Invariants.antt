@@ -1,9 +1,10 @@
+use Rattle.table.specs.Contents.{contents}
 use Rattle.table.specs.Tables.{tables}
 use Rattle.checks.proofs.TextLoops.{SortingWritten}
 use Rattle.checks.proofs.texts.sort_written.Given as goal
 
 abbrev pub invariant-loop-i : goal.invariant-loop-i
-invariant-loop-i l = SortingWritten (tables l.nodes l.children l.numbers l.names l.strings l.text) l.first l.count l.initial.keys l.keys l.size l.i
+invariant-loop-i l = SortingWritten (contents l.tables) l.first l.count l.initial.keys l.keys l.size l.i
 
 abbrev pub decreases-loop-i : goal.decreases-loop-i
 decreases-loop-i l = l.i

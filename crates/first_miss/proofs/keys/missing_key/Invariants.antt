@@ -1,9 +1,10 @@
+use Rattle.table.specs.Contents.{contents}
 use Rattle.table.specs.Tables.{tables}
 use Rattle.first_miss.proofs.nodes.KeyLaws.{Leasting}
 use Rattle.first_miss.proofs.keys.missing_key.Given as goal
 
 abbrev pub invariant-loop-left : goal.invariant-loop-left
-invariant-loop-left l = Leasting (tables l.nodes l.children l.numbers l.names l.strings l.text) l.a l.b l.first l.left l.least
+invariant-loop-left l = Leasting (contents l.tables) l.a l.b l.first l.left l.least
 
 abbrev pub decreases-loop-left : goal.decreases-loop-left
 decreases-loop-left l = l.left

@@ -1,3 +1,4 @@
+use Rattle.table.specs.Contents.{contents}
 use Prim.Native.Nat.{◌-◌, ◌*◌}
 use Rattle.table.specs.Tables.{tables}
 use Rattle.first_miss.proofs.nodes.WalkParts.{WalkingItems, WalkingFields}
@@ -10,7 +11,7 @@ abbrev pub decreases-walk_fields : goal.decreases-walk_fields
 decreases-walk_fields l = 2 * l.a - 1
 
 abbrev pub invariant-walk_fields-loop-i : goal.invariant-walk_fields-loop-i
-invariant-walk_fields-loop-i l = WalkingFields (tables l.nodes l.children l.numbers l.names l.strings l.text) l.a l.b l.first l.count l.i l.initial.list l.list
+invariant-walk_fields-loop-i l = WalkingFields (contents l.tables) l.a l.b l.first l.count l.i l.initial.list l.list
 
 abbrev pub decreases-walk_fields-loop-i : goal.decreases-walk_fields-loop-i
 decreases-walk_fields-loop-i l = l.count - l.i
@@ -19,7 +20,7 @@ abbrev pub decreases-walk_items : goal.decreases-walk_items
 decreases-walk_items l = 2 * l.a - 1
 
 abbrev pub invariant-walk_items-loop-i : goal.invariant-walk_items-loop-i
-invariant-walk_items-loop-i l = WalkingItems (tables l.nodes l.children l.numbers l.names l.strings l.text) l.a l.b l.at l.from l.count l.i l.initial.list l.list
+invariant-walk_items-loop-i l = WalkingItems (contents l.tables) l.a l.b l.at l.from l.count l.i l.initial.list l.list
 
 abbrev pub decreases-walk_items-loop-i : goal.decreases-walk_items-loop-i
 decreases-walk_items-loop-i l = l.count - l.i

@@ -1,3 +1,4 @@
+use Rattle.table.specs.Contents.{contents}
 use Prim.Native.Nat.{◌+◌, ◌-◌, ◌*◌}
 use Rattle.table.specs.Tables.{tables}
 use Rattle.matching.proofs.Parts.{TakingItems, TakingFields}
@@ -10,7 +11,7 @@ abbrev pub decreases-match_fields : goal.decreases-match_fields
 decreases-match_fields l = 2 * l.rest + 1
 
 abbrev pub invariant-match_fields-loop-i : goal.invariant-match_fields-loop-i
-invariant-match_fields-loop-i l = TakingFields (tables l.nodes l.children l.numbers l.names l.strings l.text) l.scratch l.starts l.links l.at l.count l.value l.rest l.initial.list l.start l.i l.list
+invariant-match_fields-loop-i l = TakingFields (contents l.tables) l.scratch l.starts l.links l.at l.count l.value l.rest l.initial.list l.start l.i l.list
 
 abbrev pub decreases-match_fields-loop-i : goal.decreases-match_fields-loop-i
 decreases-match_fields-loop-i l = l.count - l.i
@@ -19,7 +20,7 @@ abbrev pub decreases-match_items : goal.decreases-match_items
 decreases-match_items l = 2 * l.rest + 1
 
 abbrev pub invariant-match_items-loop-i : goal.invariant-match_items-loop-i
-invariant-match_items-loop-i l = TakingItems (tables l.nodes l.children l.numbers l.names l.strings l.text) l.scratch l.starts l.links l.at l.count l.value l.rest l.initial.list l.start l.from l.i l.list
+invariant-match_items-loop-i l = TakingItems (contents l.tables) l.scratch l.starts l.links l.at l.count l.value l.rest l.initial.list l.start l.from l.i l.list
 
 abbrev pub decreases-match_items-loop-i : goal.decreases-match_items-loop-i
 decreases-match_items-loop-i l = l.count - l.i

@@ -1,3 +1,4 @@
+use Rattle.table.specs.Contents.{contents}
 use Prim.Native.Nat.{◌-◌, ◌*◌}
 use Rattle.table.specs.Tables.{tables}
 use Rattle.report.proofs.KeyNames.{MarkingBelow}
@@ -10,7 +11,7 @@ abbrev pub decreases-mark_keys_below : goal.decreases-mark_keys_below
 decreases-mark_keys_below l = 2 * l.parent - 1
 
 abbrev pub invariant-mark_keys_below-loop-more : goal.invariant-mark_keys_below-loop-more
-invariant-mark_keys_below-loop-more l = MarkingBelow (tables l.nodes l.children l.numbers l.names l.strings l.text) l.states l.parent l.at l.step l.left l.initial.met l.place l.more l.met
+invariant-mark_keys_below-loop-more l = MarkingBelow (contents l.tables) l.states l.parent l.at l.step l.left l.initial.met l.place l.more l.met
 
 abbrev pub decreases-mark_keys_below-loop-more : goal.decreases-mark_keys_below-loop-more
 decreases-mark_keys_below-loop-more l = l.more

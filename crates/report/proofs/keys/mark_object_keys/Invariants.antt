@@ -1,9 +1,10 @@
+use Rattle.table.specs.Contents.{contents}
 use Rattle.table.specs.Tables.{tables}
 use Rattle.report.proofs.KeyNames.{MarkingKeys}
 use Rattle.report.proofs.keys.mark_object_keys.Given as goal
 
 abbrev pub invariant-loop-more : goal.invariant-loop-more
-invariant-loop-more l = MarkingKeys (tables l.nodes l.children l.numbers l.names l.strings l.text) l.states l.object l.initial.met l.place l.more l.met
+invariant-loop-more l = MarkingKeys (contents l.tables) l.states l.object l.initial.met l.place l.more l.met
 
 abbrev pub decreases-loop-more : goal.decreases-loop-more
 decreases-loop-more l = l.more

@@ -1,9 +1,10 @@
+use Rattle.table.specs.Contents.{contents}
 use Rattle.table.specs.Tables.{tables}
 use Rattle.some_in.proofs.Collections.{Looking}
 use Rattle.some_in.proofs.collection.any_fits.Given as goal
 
 abbrev pub invariant-loop-more : goal.invariant-loop-more
-invariant-loop-more l = Looking l.reading (tables l.nodes l.children l.numbers l.names l.strings l.text) l.pattern l.at l.left l.place l.more
+invariant-loop-more l = Looking l.reading (contents l.tables) l.pattern l.at l.left l.place l.more
 
 abbrev pub decreases-loop-more : goal.decreases-loop-more
 decreases-loop-more l = l.more

@@ -1,3 +1,4 @@
+use Rattle.table.specs.Contents.{contents}
 use Prim.Native.Nat.{◌-◌, ◌/◌}
 use lib.ListN.{length}
 use Rattle.table.specs.Tables.{tables}
@@ -6,7 +7,7 @@ use Rattle.table.proofs.tests.Scan.{Scan}
 use Rattle.table.proofs.nodes.heads_ok.Given as goal
 
 abbrev pub invariant-loop-i : goal.invariant-loop-i
-invariant-loop-i l = Scan (head_ok_at (tables l.nodes l.children l.numbers l.names l.strings l.text)) 0 (length l.nodes / 5) l.i
+invariant-loop-i l = Scan (head_ok_at (contents l.tables)) 0 (length l.tables.nodes.now / 5) l.i
 
 abbrev pub decreases-loop-i : goal.decreases-loop-i
 decreases-loop-i l = l.total - l.i

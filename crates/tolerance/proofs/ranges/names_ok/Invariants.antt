@@ -1,10 +1,11 @@
+use Rattle.table.specs.Contents.{contents}
 use Rattle.tolerance.proofs.nodes.RangeTests.{Giving}
 use Prim.Native.Nat.{◌-◌}
 use Rattle.table.specs.Tables.{tables}
 use Rattle.tolerance.proofs.ranges.names_ok.Given as goal
 
 abbrev pub invariant-loop-i : goal.invariant-loop-i
-invariant-loop-i l = Giving (tables l.nodes l.children l.numbers l.names l.strings l.text) l.lowest l.highest l.list l.i
+invariant-loop-i l = Giving (contents l.tables) l.lowest l.highest l.list l.i
 
 abbrev pub decreases-loop-i : goal.decreases-loop-i
 decreases-loop-i l = 128 - l.i

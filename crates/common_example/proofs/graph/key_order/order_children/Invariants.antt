@@ -1,10 +1,11 @@
+use Rattle.table.specs.Contents.{contents}
 use Prim.Native.Nat.{◌-◌}
 use Rattle.table.specs.Tables.{tables}
 use Rattle.common_example.proofs.loops.graph.KeyOrderLoops.{Ordering}
 use Rattle.common_example.proofs.graph.key_order.order_children.Given as goal
 
 abbrev pub invariant-loop-n : goal.invariant-loop-n
-invariant-loop-n l = Ordering (tables l.nodes l.children l.numbers l.names l.strings l.text) l.marks l.count l.n l.entries
+invariant-loop-n l = Ordering (contents l.tables) l.marks l.count l.n l.entries
 
 abbrev pub decreases-loop-n : goal.decreases-loop-n
 decreases-loop-n l = l.count - l.n

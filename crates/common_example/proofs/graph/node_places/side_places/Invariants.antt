@@ -1,10 +1,11 @@
+use Rattle.table.specs.Contents.{contents}
 use Prim.Native.Nat.{◌-◌}
 use Rattle.table.specs.Tables.{tables}
 use Rattle.common_example.proofs.loops.graph.PlaceLaws.{Placing}
 use Rattle.common_example.proofs.graph.node_places.side_places.Given as goal
 
 abbrev pub invariant-loop-i : goal.invariant-loop-i
-invariant-loop-i l = Placing (tables l.nodes l.children l.numbers l.names l.strings l.text) l.held l.side l.count l.i l.places
+invariant-loop-i l = Placing (contents l.tables) l.held l.side l.count l.i l.places
 
 abbrev pub decreases-loop-i : goal.decreases-loop-i
 decreases-loop-i l = l.count - l.i

@@ -1,3 +1,4 @@
+use Rattle.table.specs.Contents.{contents}
 use Prim.Native.Nat.{◌-◌, ◌*◌}
 use Rattle.table.specs.Tables.{tables}
 use Rattle.planner.proofs.destructuring.FirstPass.{Deciding}
@@ -12,8 +13,8 @@ abbrev pub decreases-decide_children : goal.decreases-decide_children
 decreases-decide_children l = 2 * l.parent - 1
 
 abbrev pub invariant-decide_children-loop-more : goal.invariant-decide_children-loop-more
-invariant-decide_children-loop-more l = Deciding (tables l.nodes l.children l.numbers l.names l.strings l.text) l.states l.parent l.at l.step l.left l.initial.binders l.place l.more l.binders
-    × Counting l.initial.steps (steps_below (tables l.nodes l.children l.numbers l.names l.strings l.text) l.at l.step l.left) l.steps (steps_below (tables l.nodes l.children l.numbers l.names l.strings l.text) l.place l.step l.more)
+invariant-decide_children-loop-more l = Deciding (contents l.tables) l.states l.parent l.at l.step l.left l.initial.binders l.place l.more l.binders
+    × Counting l.initial.steps (steps_below (contents l.tables) l.at l.step l.left) l.steps (steps_below (contents l.tables) l.place l.step l.more)
 
 abbrev pub decreases-decide_children-loop-more : goal.decreases-decide_children-loop-more
 decreases-decide_children-loop-more l = l.more

@@ -1,10 +1,11 @@
+use Rattle.table.specs.Contents.{contents}
 use Prim.Native.Nat.{◌-◌}
 use Rattle.table.specs.Tables.{tables}
 use Rattle.planner.proofs.fields.FieldLoops.{Arranging}
 use Rattle.planner.proofs.inner.fields.order_fields.Given as goal
 
 abbrev pub invariant-loop-i : goal.invariant-loop-i
-invariant-loop-i l = Arranging (tables l.nodes l.children l.numbers l.names l.strings l.text) l.first l.count l.i l.initial.order l.order l.sizes.literals l.sizes.total
+invariant-loop-i l = Arranging (contents l.tables) l.first l.count l.i l.initial.order l.order l.sizes.literals l.sizes.total
 
 abbrev pub decreases-loop-i : goal.decreases-loop-i
 decreases-loop-i l = l.count - l.i

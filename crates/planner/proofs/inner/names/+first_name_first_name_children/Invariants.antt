@@ -1,3 +1,4 @@
+use Rattle.table.specs.Contents.{contents}
 use Prim.Native.Nat.{◌-◌, ◌*◌}
 use Rattle.table.specs.Tables.{tables}
 use Rattle.planner.proofs.laws.Names.{Looking}
@@ -10,7 +11,7 @@ abbrev pub decreases-first_name_children : goal.decreases-first_name_children
 decreases-first_name_children l = 2 * l.parent - 1
 
 abbrev pub invariant-first_name_children-loop-more : goal.invariant-first_name_children-loop-more
-invariant-first_name_children-loop-more l = Looking l.sets l.keys (tables l.nodes l.children l.numbers l.names l.strings l.text) l.flags l.parent l.at l.step l.left l.place l.more
+invariant-first_name_children-loop-more l = Looking l.sets l.keys (contents l.tables) l.flags l.parent l.at l.step l.left l.place l.more
 
 abbrev pub decreases-first_name_children-loop-more : goal.decreases-first_name_children-loop-more
 decreases-first_name_children-loop-more l = l.more

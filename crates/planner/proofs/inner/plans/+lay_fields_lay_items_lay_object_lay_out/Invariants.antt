@@ -1,3 +1,4 @@
+use Rattle.table.specs.Contents.{contents}
 use Prim.Native.Nat.{◌-◌, ◌*◌}
 use Rattle.table.specs.Tables.{tables}
 use Rattle.planner.proofs.destructuring.SecondPass.{LayingItems, LayingFields}
@@ -10,8 +11,8 @@ abbrev pub decreases-lay_fields : goal.decreases-lay_fields
 decreases-lay_fields l = 4 * l.parent - 2
 
 abbrev pub invariant-lay_fields-loop-q : goal.invariant-lay_fields-loop-q
-invariant-lay_fields-loop-q l = LayingFields (tables l.nodes l.children l.numbers l.names l.strings l.text) l.states l.binders l.parent l.first l.order l.total l.initial.plan l.at l.q l.plan l.here
-    × Counting l.initial.steps (length (lay_out_ordered l.binders (tables l.nodes l.children l.numbers l.names l.strings l.text) l.first l.order 0 l.total)) l.steps (length (lay_out_ordered l.binders (tables l.nodes l.children l.numbers l.names l.strings l.text) l.first l.order l.q (l.total - l.q)))
+invariant-lay_fields-loop-q l = LayingFields (contents l.tables) l.states l.binders l.parent l.first l.order l.total l.initial.plan l.at l.q l.plan l.here
+    × Counting l.initial.steps (length (lay_out_ordered l.binders (contents l.tables) l.first l.order 0 l.total)) l.steps (length (lay_out_ordered l.binders (contents l.tables) l.first l.order l.q (l.total - l.q)))
 
 abbrev pub decreases-lay_fields-loop-q : goal.decreases-lay_fields-loop-q
 decreases-lay_fields-loop-q l = l.total - l.q
@@ -20,8 +21,8 @@ abbrev pub decreases-lay_items : goal.decreases-lay_items
 decreases-lay_items l = 4 * l.parent - 2
 
 abbrev pub invariant-lay_items-loop-more : goal.invariant-lay_items-loop-more
-invariant-lay_items-loop-more l = LayingItems (tables l.nodes l.children l.numbers l.names l.strings l.text) l.states l.binders l.parent l.from l.left l.initial.plan l.at l.place l.more l.position l.plan l.here
-    × Counting l.initial.steps (length (lay_out_items l.binders (tables l.nodes l.children l.numbers l.names l.strings l.text) l.from l.left 1)) l.steps (length (lay_out_items l.binders (tables l.nodes l.children l.numbers l.names l.strings l.text) l.place l.more l.position))
+invariant-lay_items-loop-more l = LayingItems (contents l.tables) l.states l.binders l.parent l.from l.left l.initial.plan l.at l.place l.more l.position l.plan l.here
+    × Counting l.initial.steps (length (lay_out_items l.binders (contents l.tables) l.from l.left 1)) l.steps (length (lay_out_items l.binders (contents l.tables) l.place l.more l.position))
 
 abbrev pub decreases-lay_items-loop-more : goal.decreases-lay_items-loop-more
 decreases-lay_items-loop-more l = l.more

@@ -1,10 +1,11 @@
+use Rattle.table.specs.Contents.{contents}
 use Prim.Native.Nat.{◌-◌}
 use Rattle.table.specs.Tables.{tables}
 use Rattle.value.proofs.Marking.{MarkingNodes}
 use Rattle.value.proofs.inner.admitted.mark_nodes.Given as goal
 
 abbrev pub invariant-loop-n : goal.invariant-loop-n
-invariant-loop-n l = MarkingNodes (tables l.nodes l.children l.numbers l.names l.strings l.text) l.admit l.n l.marks
+invariant-loop-n l = MarkingNodes (contents l.tables) l.admit l.n l.marks
 
 abbrev pub decreases-loop-n : goal.decreases-loop-n
 decreases-loop-n l = l.total - l.n

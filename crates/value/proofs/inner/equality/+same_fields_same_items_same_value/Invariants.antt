@@ -1,3 +1,4 @@
+use Rattle.table.specs.Contents.{contents}
 use Prim.Native.Nat.{◌-◌, ◌*◌}
 use Rattle.table.specs.Tables.{tables}
 use Rattle.value.proofs.SameValues.{Pairing, ByKey}
@@ -7,7 +8,7 @@ abbrev pub decreases-same_fields : goal.decreases-same_fields
 decreases-same_fields l = 2 * l.a - 1
 
 abbrev pub invariant-same_fields-loop-i : goal.invariant-same_fields-loop-i
-invariant-same_fields-loop-i l = ByKey (tables l.nodes l.children l.numbers l.names l.strings l.text) l.a l.b l.first l.count l.i
+invariant-same_fields-loop-i l = ByKey (contents l.tables) l.a l.b l.first l.count l.i
 
 abbrev pub decreases-same_fields-loop-i : goal.decreases-same_fields-loop-i
 decreases-same_fields-loop-i l = l.count - l.i
@@ -16,7 +17,7 @@ abbrev pub decreases-same_items : goal.decreases-same_items
 decreases-same_items l = 2 * l.parent - 1
 
 abbrev pub invariant-same_items-loop-i : goal.invariant-same_items-loop-i
-invariant-same_items-loop-i l = Pairing (tables l.nodes l.children l.numbers l.names l.strings l.text) l.parent l.at l.from l.left l.i
+invariant-same_items-loop-i l = Pairing (contents l.tables) l.parent l.at l.from l.left l.i
 
 abbrev pub decreases-same_items-loop-i : goal.decreases-same_items-loop-i
 decreases-same_items-loop-i l = l.left - l.i
