@@ -30,13 +30,11 @@ pub(crate) fn first_same_scope(nodes: &[u32], scope: Scope, scratch: &[u32], cou
     requires { ReadAsks scratch.now count }
     ensures { result ≡ first_same_scope nodes.now scope (read_entries scratch.now 0 count) }
 {
-    let mut i: usize = 0;
-    while i < count {
+    for i in 0..count {
         let node = scratch[i * ENTRY_WORDS + 1];
         if bound_here(nodes, scope, scratch[i * ENTRY_WORDS], node) {
             return node;
         }
-        i += 1;
     }
     0
 }

@@ -32,13 +32,11 @@ pub(crate) fn literal_keys(nodes: &[u32], children: &[u32], node: u32) -> bool
 {
     let first = first_of(nodes, node) as usize;
     let count = count_of(nodes, node) as usize;
-    let mut i: usize = 0;
-    while i < count {
+    for i in 0..count {
         let key = child_at(children, first + i * 2);
         if kind_of(nodes, key) > node_kind::LAST_LITERAL {
             return false;
         }
-        i += 1;
     }
     true
 }

@@ -30,8 +30,7 @@ pub(crate) struct Sides {
 pub(crate) fn introduces_binding(scratch: &[u32], count: usize) -> bool
     ensures { result ≡ binds_any (read_entries scratch.now 0 count) }
 {
-    let mut i: usize = 0;
-    while i < count {
+    for i in 0..count {
         if scratch.len() / ENTRY_WORDS < i {
             return false;
         }
@@ -46,7 +45,6 @@ pub(crate) fn introduces_binding(scratch: &[u32], count: usize) -> bool
         if kind == entry_kind::IGNORE {
             return true;
         }
-        i += 1;
     }
     false
 }
@@ -113,9 +111,7 @@ fn learn_name(states: &mut [u8; 128], binders: &[u32; 128], at: usize)
 pub(crate) fn learn_names(states: &mut [u8; 128], binders: &[u32; 128])
     ensures { Learnt states.old binders.now states.new }
 {
-    let mut i: usize = 0;
-    while i < 128 {
+    for i in 0..128 {
         learn_name(states, binders, i);
-        i += 1;
     }
 }

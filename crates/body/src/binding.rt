@@ -55,14 +55,12 @@ pub(crate) fn bind_plan(
     ensures { PlanBound nodes.now scope states.old plan.now count states.new result }
 {
     let mut here = scope;
-    let mut i: usize = 0;
-    while i < count {
+    for i in 0..count {
         let kind = plan[i * ENTRY_WORDS];
         let node = plan[i * ENTRY_WORDS + 1];
         let next = bind_entry(nodes, here, kind, node);
         learn_entry(nodes, states, kind, node);
         here = next;
-        i += 1;
     }
     here
 }

@@ -143,8 +143,7 @@ fn plan_lines(
     let mut here = scope;
     let mut states = name_states(tables.names, tables.text, scope, ScopingMode::RespectParent);
     let mut answer = BodyAnswer::NotABody;
-    let mut i: usize = 0;
-    while i < count {
+    for i in 0..count {
         let operation = line_at(lines, i);
         let step = plan_line(
             tables,
@@ -164,7 +163,6 @@ fn plan_lines(
         let next = step.scope;
         answer = reached;
         here = next;
-        i += 1;
     }
     BodyPlanned {
         answer,

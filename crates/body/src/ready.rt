@@ -80,8 +80,7 @@ fn pairs_unready(
 {
     let mut here = scope;
     let mut known = states;
-    let mut i: usize = 0;
-    while i < count {
+    for i in 0..count {
         let kind = plan[i * ENTRY_WORDS];
         let node = plan[i * ENTRY_WORDS + 1];
         let found = first_unknown(
@@ -96,7 +95,6 @@ fn pairs_unready(
         let next = bind_entry(tables.nodes, here, kind, node);
         learn_entry(tables.nodes, &mut known, kind, node);
         here = next;
-        i += 1;
     }
     0
 }
@@ -144,8 +142,7 @@ fn keys_unready(
     let mut here = scope;
     let mut ready = states;
     let mut known = states;
-    let mut i: usize = 0;
-    while i < count {
+    for i in 0..count {
         let kind = plan[i * ENTRY_WORDS];
         let node = plan[i * ENTRY_WORDS + 1];
         let key = plan[i * ENTRY_WORDS + 3];
@@ -164,7 +161,6 @@ fn keys_unready(
         let next = bind_entry(tables.nodes, here, kind, node);
         learn_entry(tables.nodes, &mut known, kind, node);
         here = next;
-        i += 1;
     }
     0
 }

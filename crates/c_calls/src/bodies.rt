@@ -51,13 +51,11 @@ fn put_marks(marks: &mut [u8], scope: Scope)
 {
     let bytes = scope.to_bytes();
     let all = bytes.marks;
-    let mut i: usize = 0;
-    while i < 128 {
+    for i in 0..128 {
         if marks.len() <= i {
             return;
         }
         marks[i] = all[i];
-        i += 1;
     }
 }
 

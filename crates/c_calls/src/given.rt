@@ -24,10 +24,8 @@ fn marks_of(marks: &[u8]) -> [u8; 128]
     ensures { result ≡ marks_of marks.now }
 {
     let mut all = [0u8; 128];
-    let mut i: usize = 0;
-    while i < 128 {
+    for i in 0..128 {
         all[i] = mark_at(marks, i);
-        i += 1;
     }
     all
 }

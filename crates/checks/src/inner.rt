@@ -79,8 +79,7 @@ fn check_items(
     ensures { (result ≡ items_structure reading (contents tables.now) place at left) × WorkingSpaces keys others }
 {
     let mut so_far = LiteralStructureCheck::Match;
-    let mut i: usize = 0;
-    while i < left {
+    for i in 0..left {
         let pattern = child_at(tables.children, at + i);
         let item = child_at(tables.children, place + i);
         let check = check_structure(
@@ -90,7 +89,6 @@ fn check_items(
         if is_settled(reading, so_far) {
             return so_far;
         }
-        i += 1;
     }
     so_far
 }
@@ -156,8 +154,7 @@ fn check_fields(
         reading, keys,
     );
     let mut so_far = no_field_yet(paired, literals, total);
-    let mut i: usize = 0;
-    while i < count {
+    for i in 0..count {
         so_far = check_field(
             tables, pattern, value, order, literals, i,
             reading, so_far, keys, others,
@@ -165,7 +162,6 @@ fn check_fields(
         if so_far.end == 0 {
             return so_far.check;
         }
-        i += 1;
     }
     so_far.check
 }

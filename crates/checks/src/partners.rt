@@ -76,14 +76,12 @@ fn mark_partners(
 {
     let first = first_of(tables.nodes, value) as usize;
     let count = count_of(tables.nodes, value) as usize;
-    let mut i: usize = 0;
-    while i < count {
+    for i in 0..count {
         let key = child_at(tables.children, first + i * 2);
         let place = partner_place(
             tables, pattern, order, literals, key,
         );
         mark(marks, place);
-        i += 1;
     }
 }
 
@@ -91,12 +89,10 @@ fn all_marked(marks: &[u32; 256], size: usize) -> bool
     requires { size ≤ 256 }
     ensures { result ≡ all_from (is_marked marks.now) 0 size }
 {
-    let mut q: usize = 0;
-    while q < size {
+    for q in 0..size {
         if marks[q] == 0 {
             return false;
         }
-        q += 1;
     }
     true
 }

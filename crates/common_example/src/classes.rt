@@ -43,10 +43,8 @@ fn join_classes(classes: &mut [u32; PLACES], from: u32, to: u32)
     requires { ClassesOk classes.old }
     ensures { classes.new ≡ tabulate (joined_in classes.old from to) 0 2052 }
 {
-    let mut i: usize = 0;
-    while i < PLACES {
+    for i in 0..PLACES {
         classes[i] = class_after(classes[i], from, to);
-        i += 1;
     }
 }
 

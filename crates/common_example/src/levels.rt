@@ -91,11 +91,9 @@ fn next_sizes(
     ensures { LevelDone heads.now links.now classes.now sizes.now next.new }
 {
     *next = [0u16; PLACES];
-    let mut place: u32 = 0;
-    while place < 2052 {
+    for place in 0u32..2052 {
         let class = class_of(classes, place);
         next[place as usize] = place_size(heads, links, sizes, class) as u16;
-        place += 1;
     }
 }
 
@@ -103,12 +101,10 @@ fn next_sizes(
 fn same_sizes(sizes: &[u16; PLACES], next: &[u16; PLACES]) -> bool
     ensures { result ≡ same_sizes sizes.now next.now }
 {
-    let mut i: usize = 0;
-    while i < PLACES {
+    for i in 0..PLACES {
         if sizes[i] != next[i] {
             return false;
         }
-        i += 1;
     }
     true
 }
@@ -126,13 +122,11 @@ pub(crate) fn settle(
     ensures { Settled heads.now links.now classes.now levels sizes.new }
 {
     *sizes = [0u16; PLACES];
-    let mut done: u32 = 0;
-    while done < levels {
+    for done in 0..levels {
         next_sizes(heads, links, classes, sizes, next);
         if same_sizes(sizes, next) {
             return;
         }
         *sizes = *next;
-        done += 1;
     }
 }

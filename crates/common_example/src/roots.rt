@@ -10,10 +10,8 @@ fn start_classes(classes: &mut [u32; PLACES])
     ensures { classes.new ≡ tabulate (λ i. i) 0 2052 }
 {
     *classes = [0u32; PLACES];
-    let mut place: u32 = 0;
-    while place < 2052 {
+    for place in 0u32..2052 {
         classes[place as usize] = place;
-        place += 1;
     }
 }
 

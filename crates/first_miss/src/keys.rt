@@ -89,14 +89,12 @@ pub(crate) fn other_key(
 {
     let first = first_of(tables.nodes, a) as usize;
     let count = count_of(tables.nodes, a) as usize;
-    let mut i: usize = 0;
-    while i < count {
+    for i in 0..count {
         let key = child_at(tables.children, first + i * 2);
         let value = value_under(tables, b, i, key);
         if value == 0 {
             return key;
         }
-        i += 1;
     }
     0
 }

@@ -170,8 +170,7 @@ fn walk_items(
     let at = first_of(tables.nodes, a) as usize;
     let from = first_of(tables.nodes, b) as usize;
     let count = count_of(tables.nodes, a) as usize;
-    let mut i: usize = 0;
-    while i < count {
+    for i in 0..count {
         let item = child_at(tables.children, at + i);
         let part = child_at(tables.children, from + i);
         let walked = walk(
@@ -180,7 +179,6 @@ fn walk_items(
         if let Walked::Missed(miss) = walked {
             return Walked::Missed(miss);
         }
-        i += 1;
     }
     Walked::Matched
 }
@@ -198,8 +196,7 @@ fn walk_fields(
 {
     let first = first_of(tables.nodes, a) as usize;
     let count = count_of(tables.nodes, a) as usize;
-    let mut i: usize = 0;
-    while i < count {
+    for i in 0..count {
         let place = first + i * 2;
         let key = child_at(tables.children, place);
         let value = child_at(tables.children, place + 1);
@@ -210,7 +207,6 @@ fn walk_fields(
         if let Walked::Missed(miss) = walked {
             return Walked::Missed(miss);
         }
-        i += 1;
     }
     Walked::Matched
 }

@@ -124,8 +124,7 @@ fn match_items(
     }
     let start = entry_number(starts[at]);
     let from = first_of(tables.nodes, value) as usize;
-    let mut i: u32 = 0;
-    while i < count {
+    for i in 0..count {
         let item = entry_number(links[start + i as usize]);
         let part = child_at(tables.children, from + i as usize);
         if !match_entry(
@@ -134,7 +133,6 @@ fn match_items(
         ) {
             return false;
         }
-        i += 1;
     }
     true
 }
@@ -163,8 +161,7 @@ fn match_fields(
         return false;
     }
     let start = entry_number(starts[at]);
-    let mut i: u32 = 0;
-    while i < count {
+    for i in 0..count {
         let field = entry_number(links[start + i as usize]);
         let key = scratch[field * ENTRY_WORDS + 3];
         let part = value_under(
@@ -176,7 +173,6 @@ fn match_fields(
         ) {
             return false;
         }
-        i += 1;
     }
     true
 }

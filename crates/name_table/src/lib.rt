@@ -80,12 +80,10 @@ fn number_of(names: &[u32], text: &[u8], used: u32, bytes: &[u8]) -> u32
     requires { used ≤ 128 }
     ensures { result ≡ number_from names.now text.now bytes.now 1 used }
 {
-    let mut name: u32 = 1;
-    while name <= used {
+    for name in 1..=used {
         if same_bytes(name_bytes(names, text, name), bytes) {
             return name;
         }
-        name += 1;
     }
     0
 }

@@ -35,10 +35,8 @@ fn reserved_states(names: &[u32], text: &[u8], scope: Scope, scoping: ScopingMod
 {
     let states = name_states(names, text, scope, scoping);
     let mut reserved = [0u8; 128];
-    let mut i: usize = 0;
-    while i < 128 {
+    for i in 0..128 {
         reserved[i] = reserved_state(names, text, (i + 1) as u32, states[i]);
-        i += 1;
     }
     reserved
 }

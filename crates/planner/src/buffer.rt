@@ -16,10 +16,8 @@ pub const PATTERN_WORDS: usize = 512 * ENTRY_WORDS;
 fn clear_after(plan: &mut [u32], from: usize)
     ensures { plan.new ≡ tabulate (word_at plan.old from) 0 (length plan.old) }
 {
-    let mut i = from;
-    while i < plan.len() {
+    for i in from..plan.len() {
         plan[i] = 0;
-        i += 1;
     }
 }
 
@@ -65,9 +63,8 @@ pub(crate) fn word_of(words: &[u32], i: usize) -> u32
 pub fn copy_entries(plan: &mut [u32], at: usize, scratch: &[u32], count: usize)
     ensures { plan.new ≡ put_entries plan.old at (read_entries scratch.now 0 count) }
 {
-    let mut i: usize = 0;
     let mut to = at;
-    while i < count {
+    for i in 0..count {
         if plan.len() / ENTRY_WORDS <= to {
             return;
         }
@@ -82,7 +79,6 @@ pub fn copy_entries(plan: &mut [u32], at: usize, scratch: &[u32], count: usize)
             word_of(scratch, from + 4),
         );
         to += 1;
-        i += 1;
     }
 }
 

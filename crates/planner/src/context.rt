@@ -77,8 +77,7 @@ pub(crate) fn name_flags(
     ensures { result ≡ flags_of names.now text.now scope scoping defined binders.now }
 {
     let mut flags = [0u8; 128];
-    let mut i: usize = 0;
-    while i < 128 {
+    for i in 0..128 {
         if names.len() / 2 <= i {
             return flags;
         }
@@ -91,7 +90,6 @@ pub(crate) fn name_flags(
             binders,
             (i + 1) as u32,
         );
-        i += 1;
     }
     flags
 }

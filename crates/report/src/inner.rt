@@ -29,10 +29,8 @@ fn met_mark(met: &[u32; 128], i: usize) -> u32
 pub(crate) fn mark_met(met: &[u32; 128], list: &mut [u32])
     ensures { list.new ≡ tabulate (met_mark met.now) 0 (length list.old) }
 {
-    let mut i: usize = 0;
-    while i < list.len() {
+    for i in 0..list.len() {
         list[i] = met_mark(met, i);
-        i += 1;
     }
 }
 

@@ -44,12 +44,10 @@ fn mark_bound(nodes: &[u32], scratch: &[u32; PATTERN_WORDS], count: usize, list:
     requires { BoundAsks nodes.now scratch.now count list.old }
     ensures { BoundMarked nodes.now scratch.now count list.old list.new }
 {
-    let mut i: usize = 0;
-    while i < count {
+    for i in 0..count {
         let kind = scratch[i * ENTRY_WORDS];
         let node = scratch[i * ENTRY_WORDS + 1];
         mark_entry(nodes, kind, node, list);
-        i += 1;
     }
 }
 

@@ -12,14 +12,12 @@ pub(crate) fn distinct_entries(children: &[u32]) -> bool
     ensures { result ≡ no_repeat children.now }
 {
     let mut used = [0u8; 513];
-    let mut i: usize = 0;
-    while i < children.len() {
+    for i in 0..children.len() {
         let entry = children[i] as usize;
         if used[entry] != 0 {
             return false;
         }
         used[entry] = 1;
-        i += 1;
     }
     true
 }
@@ -29,14 +27,12 @@ fn mark_places(used: &mut [u8; 512], first: usize, count: usize) -> bool
     requires { (i : ℕ) → i < count → first + i < 512 }
     ensures { PlacesMarked first count used.old used.new result }
 {
-    let mut i: usize = 0;
-    while i < count {
+    for i in 0..count {
         let place = first + i;
         if used[place] != 0 {
             return false;
         }
         used[place] = 1;
-        i += 1;
     }
     true
 }
@@ -48,14 +44,12 @@ pub(crate) fn places_apart(nodes: &[u32]) -> bool
 {
     let mut used = [0u8; 512];
     let total = nodes.len() / 5;
-    let mut n: usize = 0;
-    while n < total {
+    for n in 0..total {
         let first = node_word(nodes, n, 3) as usize;
         let count = width_at(nodes, n);
         if !mark_places(&mut used, first, count) {
             return false;
         }
-        n += 1;
     }
     true
 }

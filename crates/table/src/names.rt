@@ -41,15 +41,13 @@ pub(crate) fn names_differ(names: &[u32], text: &[u8]) -> bool
 {
     let mut order = [0u8; 128];
     let total = names.len() / 2;
-    let mut i: usize = 0;
-    while i < total {
+    for i in 0..total {
         let bytes = name_bytes(names, text, (i + 1) as u32);
         let place = find_name(names, text, &order, i, bytes);
         if 127 < place {
             return false;
         }
         insert_at(&mut order, place, i, (i + 1) as u8);
-        i += 1;
     }
     true
 }

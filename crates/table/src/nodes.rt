@@ -17,15 +17,13 @@ fn heads_ok(
     ensures { result ≡ all_from (head_ok_at (contents tables.now)) 0 (length tables.now.nodes.now / 5) }
 {
     let total = tables.nodes.len() / 5;
-    let mut i: usize = 0;
-    while i < total {
+    for i in 0..total {
         if !span_ok(tables.nodes, tables.text, i) {
             return false;
         }
         if !words_ok(tables, i) {
             return false;
         }
-        i += 1;
     }
     true
 }
@@ -35,12 +33,10 @@ fn all_below(nodes: &[u32], children: &[u32]) -> bool
     ensures { result ≡ all_from (children_below_at (tables nodes.now children.now [] [] [] [])) 0 (length nodes.now / 5) }
 {
     let total = nodes.len() / 5;
-    let mut i: usize = 0;
-    while i < total {
+    for i in 0..total {
         if !children_below(nodes, children, i) {
             return false;
         }
-        i += 1;
     }
     true
 }

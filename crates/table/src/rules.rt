@@ -46,12 +46,10 @@ fn names_ok(names: &[u32], text: &[u8]) -> bool
     ensures { result ≡ all_from (name_ok_at (tables [] [] [] names.now [] text.now)) 0 (length names.now / 2) }
 {
     let total = names.len() / 2;
-    let mut i: usize = 0;
-    while i < total {
+    for i in 0..total {
         if !name_ok(names, text, (i + 1) as u32) {
             return false;
         }
-        i += 1;
     }
     true
 }
@@ -60,12 +58,10 @@ fn numbers_ok(numbers: &[u64]) -> bool
     ensures { result ≡ all_from (number_ok (tables [] [] numbers.now [] [] [])) 0 (length numbers.now / 2) }
 {
     let total = numbers.len() / 2;
-    let mut i: usize = 0;
-    while i < total {
+    for i in 0..total {
         if !is_number(numbers[i * 2], numbers[i * 2 + 1]) {
             return false;
         }
-        i += 1;
     }
     true
 }
@@ -74,12 +70,10 @@ fn numbers_ok(numbers: &[u64]) -> bool
 fn entries_ok(nodes: &[u32], children: &[u32]) -> bool
     ensures { result ≡ all_from (entry_ok (tables nodes.now children.now [] [] [] [])) 0 (length children.now) }
 {
-    let mut place: usize = 0;
-    while place < children.len() {
+    for place in 0..children.len() {
         if !is_node(nodes, children[place]) {
             return false;
         }
-        place += 1;
     }
     true
 }

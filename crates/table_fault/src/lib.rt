@@ -82,8 +82,7 @@ pub fn table_fault(
 ) -> FaultAnswer
     ensures { FaultAnswered (contents tables.now) marks.now result }
 {
-    let mut rule: u32 = 1;
-    while rule <= rule::LAST {
+    for rule in 1..=rule::LAST {
         let found = first_broken(tables, marks, rule);
         if let BrokenPlace::At { place } = found {
             return FaultAnswer::Broken {
@@ -92,7 +91,6 @@ pub fn table_fault(
                 place,
             };
         }
-        rule += 1;
     }
     FaultAnswer::RulesKept
 }

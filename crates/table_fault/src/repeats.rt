@@ -13,12 +13,10 @@ pub(crate) fn is_new_entry(children: &[u32], place: usize) -> bool
     ensures { result ≡ new_entry_at children.now place }
 {
     let entry = children[place];
-    let mut i: usize = 0;
-    while i < place {
+    for i in 0..place {
         if children[i] == entry {
             return false;
         }
-        i += 1;
     }
     true
 }
@@ -47,13 +45,11 @@ pub(crate) fn has_new_places(nodes: &[u32], node: u32) -> bool
 {
     let first = first_of(nodes, node) as usize;
     let count = width_of(nodes, node);
-    let mut other: u32 = 1;
-    while other < node {
+    for other in 1..node {
         let start = first_of(nodes, other) as usize;
         if overlap(first, count, start, width_of(nodes, other)) {
             return false;
         }
-        other += 1;
     }
     true
 }
@@ -64,12 +60,10 @@ pub(crate) fn is_new_name(names: &[u32], text: &[u8], name: u32) -> bool
     ensures { result ≡ new_name_at (tables [] [] [] names.now [] text.now) (name - 1) }
 {
     let bytes = name_bytes(names, text, name);
-    let mut other: u32 = 1;
-    while other < name {
+    for other in 1..name {
         if same_bytes(name_bytes(names, text, other), bytes) {
             return false;
         }
-        other += 1;
     }
     true
 }

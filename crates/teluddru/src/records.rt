@@ -42,11 +42,9 @@ pub(crate) fn copy_names(names: &[Name]) -> NameWords
 {
     let mut words = [0u32; 258];
     let count = copied_count(names.len());
-    let mut i: usize = 0;
-    while i < count {
+    for i in 0..count {
         let name = name_at(names, i);
         put_pair(&mut words, i, name.start, name.length);
-        i += 1;
     }
     NameWords { words, count }
 }

@@ -60,11 +60,9 @@ fn relabel(labels: &mut [u32; 513], to: u32, from: u32)
     requires { RelabelAsks labels.old to from }
     ensures { Relabelled labels.old to from labels.new }
 {
-    let mut n: usize = 0;
-    while n < 513 {
+    for n in 0..513 {
         let label = labels[n];
         labels[n] = new_label(label, to, from);
-        n += 1;
     }
 }
 
@@ -190,12 +188,10 @@ pub(crate) fn all_free(
     requires { LabelsOk labels.now }
     ensures { result ≡ all_from (free num_order (ranges_by lowest.now highest.now) (classes_in labels.now lows.now highs.now)) 1 512 }
 {
-    let mut i: usize = 0;
-    while i < 512 {
+    for i in 0..512 {
         if !is_free(labels, lows, highs, lowest, highest, i + 1) {
             return false;
         }
-        i += 1;
     }
     true
 }

@@ -15,10 +15,8 @@ fn own_labels() -> [u32; 513]
     ensures { OwnLabels result }
 {
     let mut labels = [0u32; 513];
-    let mut n: usize = 0;
-    while n < 513 {
+    for n in 0..513 {
         labels[n] = n as u32;
-        n += 1;
     }
     labels
 }
@@ -37,12 +35,10 @@ fn ends_of(lowest: &[u64], highest: &[u64], ends: &[u64]) -> [u64; 1026]
     ensures { EndsFrom lowest.now highest.now ends.now result }
 {
     let mut words = [0u64; 1026];
-    let mut n: usize = 0;
-    while n < 513 {
+    for n in 0..513 {
         let kept = range_ok(lowest, highest, n as u32);
         words[n * 2] = kept_word(kept, sign_of(ends, n as u32));
         words[n * 2 + 1] = kept_word(kept, size_of(ends, n as u32));
-        n += 1;
     }
     words
 }

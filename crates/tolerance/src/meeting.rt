@@ -148,8 +148,7 @@ fn meet_items(
     requires { MeetItemsAsks (contents tables.now) pattern parent at from left list.old labels.old lows.old highs.old }
     ensures { let T = contents tables.now in MetIn list labels lows highs T (meets_listed T pattern at from left) result }
 {
-    let mut i: usize = 0;
-    while i < left {
+    for i in 0..left {
         let a = child_at(tables.children, at + i);
         let b = child_at(tables.children, from + i);
         if !meet(
@@ -158,7 +157,6 @@ fn meet_items(
         ) {
             return false;
         }
-        i += 1;
     }
     true
 }
@@ -180,8 +178,7 @@ fn meet_fields(
 {
     let first = first_of(tables.nodes, a) as usize;
     let count = count_of(tables.nodes, a) as usize;
-    let mut i: usize = 0;
-    while i < count {
+    for i in 0..count {
         let place = first + i * 2;
         let key = child_at(tables.children, place);
         let value = child_at(tables.children, place + 1);
@@ -195,7 +192,6 @@ fn meet_fields(
         ) {
             return false;
         }
-        i += 1;
     }
     true
 }

@@ -80,15 +80,13 @@ pub(crate) fn numbers_ok(
     let step = step_of(kind);
     let first = first_of(tables.nodes, node) as usize + step - 1;
     let count = count_of(tables.nodes, node) as usize;
-    let mut i: usize = 0;
-    while i < count {
+    for i in 0..count {
         let child = child_at(tables.children, first + i * step);
         if !numbers_ok(
             tables, lowest, highest, child,
         ) {
             return false;
         }
-        i += 1;
     }
     true
 }
@@ -123,14 +121,12 @@ pub(crate) fn names_ok(
     requires { NamesAsks (contents tables.now) list.now }
     ensures { let T = contents tables.now in result ≡ all_from (numbers_ok_in T lowest.now highest.now list.now) 0 128 }
 {
-    let mut i: usize = 0;
-    while i < 128 {
+    for i in 0..128 {
         if !listed_ok(
             tables, lowest, highest, list, i,
         ) {
             return false;
         }
-        i += 1;
     }
     true
 }

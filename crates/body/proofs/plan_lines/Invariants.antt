@@ -6,6 +6,3 @@ use Rattle.body.proofs.plan_lines.Given as goal
 
 abbrev pub invariant-loop-i : goal.invariant-loop-i
 invariant-loop-i l = BodyLeft (contents l.tables) l.initial.here l.lines l.initial.plan l.i l.here l.answer l.plan l.states
-
-abbrev pub decreases-loop-i : goal.decreases-loop-i
-decreases-loop-i l = l.count - l.i

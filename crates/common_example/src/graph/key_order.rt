@@ -17,10 +17,8 @@ fn copy_children(children: &[u32]) -> [u32; 512]
     ensures { result ≡ tabulate (child_at children.now) 0 512 }
 {
     let mut entries = [0u32; 512];
-    let mut i: usize = 0;
-    while i < 512 {
+    for i in 0..512 {
         entries[i] = child_at(children, i);
-        i += 1;
     }
     entries
 }
@@ -37,11 +35,9 @@ fn copy_fields(
     ensures { FieldsCopied children.now order.now first count entries.old entries.new }
 {
     let words = count * 2;
-    let mut j: usize = 0;
-    while j < words {
+    for j in 0..words {
         let field = field_at(order, j / 2);
         entries[first + j] = child_at(children, first + field * 2 + j % 2);
-        j += 1;
     }
 }
 
@@ -93,15 +89,13 @@ pub(crate) fn order_children(
 {
     let mut entries = copy_children(tables.children);
     let count = tables.nodes.len() / 5;
-    let mut n: usize = 0;
-    while n < count {
+    for n in 0..count {
         order_node(
             tables,
             marks,
             (n + 1) as u32,
             &mut entries,
         );
-        n += 1;
     }
     entries
 }

@@ -99,13 +99,11 @@ pub(crate) fn like_nodes<'a>(
     let mut order = [0u32; 512];
     let mut literals: usize = 0;
     let count = nodes.len() / 5;
-    let mut i: usize = 0;
-    while i < count {
+    for i in 0..count {
         let node = (i + 1) as u32;
         let added = add_node(nodes, numbers, strings, text, node, &mut order, literals);
         like[i] = added.like;
         literals = added.count;
-        i += 1;
     }
     like
 }

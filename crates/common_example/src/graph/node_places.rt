@@ -62,15 +62,13 @@ pub(crate) fn side_places(
 {
     let mut places = [0u32; 512];
     let count = tables.nodes.len() / 5;
-    let mut i: usize = 0;
-    while i < count {
+    for i in 0..count {
         places[i] = node_place(
             tables,
             held,
             (i + 1) as u32,
             side,
         );
-        i += 1;
     }
     places
 }

@@ -42,10 +42,8 @@ pub(crate) fn link_words(
     ensures { links.new ≡ tabulate (link_word ordered.now first.now second.now like.now) 0 2048 }
 {
     *links = [0u32; LINK_WORDS];
-    let mut i: usize = 0;
-    while i < LINK_WORDS {
+    for i in 0..LINK_WORDS {
         links[i] = link_word(ordered, first, second, like, i);
-        i += 1;
     }
 }
 
@@ -124,8 +122,7 @@ pub(crate) fn head_words(
     ensures { heads.new ≡ tabulate (head_word_at nodes.now marks.now like.now) 0 6156 }
 {
     *heads = [0u32; HEAD_WORDS];
-    let mut i: usize = 0;
-    while i < HEAD_WORDS {
+    for i in 0..HEAD_WORDS {
         heads[i] = head_part(
             nodes,
             marks,
@@ -134,6 +131,5 @@ pub(crate) fn head_words(
             (i / 3 % 4) as u32,
             i % 3,
         );
-        i += 1;
     }
 }

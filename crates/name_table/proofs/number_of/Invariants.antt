@@ -4,6 +4,3 @@ use Rattle.name_table.proofs.number_of.Given as goal
 
 abbrev pub invariant-loop-name : goal.invariant-loop-name
 invariant-loop-name l = Seeking l.names l.text l.bytes l.used l.name
-
-abbrev pub decreases-loop-name : goal.decreases-loop-name
-decreases-loop-name l = l.used + 1 - l.name

@@ -131,12 +131,10 @@ pub fn order_fields(
         literals: 0,
         total: 0,
     };
-    let mut i: usize = 0;
-    while i < count {
+    for i in 0..count {
         sizes = add_field(
             tables, first, i as u8, order, sizes,
         );
-        i += 1;
     }
     sizes.total as u32
 }

@@ -185,9 +185,8 @@ fn lay_fields(
     ensures laid { WroteIn plan at (lay_out_ordered binders.now (contents tables.now) first order.now 0 total) result }
     ensures counted { Counts steps (length (lay_out_ordered binders.now (contents tables.now) first order.now 0 total)) }
 {
-    let mut q: usize = 0;
     let mut here = at;
-    while q < total {
+    for q in 0..total {
         let field = field_at(order, q);
         let place = first + field * 2;
         let key = child_at(tables.children, place);
@@ -203,7 +202,6 @@ fn lay_fields(
             here,
             steps,
         );
-        q += 1;
     }
     here
 }

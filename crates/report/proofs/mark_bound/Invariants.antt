@@ -4,6 +4,3 @@ use Rattle.report.proofs.mark_bound.Given as goal
 
 abbrev pub invariant-loop-i : goal.invariant-loop-i
 invariant-loop-i l = MarkingBound l.nodes l.scratch l.count l.initial.list l.i l.list
-
-abbrev pub decreases-loop-i : goal.decreases-loop-i
-decreases-loop-i l = l.count - l.i

@@ -51,12 +51,10 @@ pub fn values_listed(nodes: &[u32], names: &[u32], marks: &[u8; 512], values: &[
     ensures { result ≡ all_marked nodes.now names.now marks.now values.now }
 {
     let count = names.len() / 2;
-    let mut i: usize = 0;
-    while i < count {
+    for i in 0..count {
         if !is_listed_value(nodes, marks, values[i]) {
             return false;
         }
-        i += 1;
     }
     true
 }

@@ -55,10 +55,8 @@ pub fn start_list(names: &[u32], scope: Scope, scoping: ScopingMode, values: &[u
 {
     let mut list = [0u32; 128];
     let count = names.len() / 2;
-    let mut i: usize = 0;
-    while i < count {
+    for i in 0..count {
         list[i] = start_value(scope, scoping, (i + 1) as u32, values[i]);
-        i += 1;
     }
     list
 }
@@ -78,11 +76,9 @@ pub(crate) fn set_names(names: &[u32], binders: &[u32; 128], list: &[u32; 128], 
     ensures { NamesSet (length names.now / 2) binders.now list.now values.old values.new }
 {
     let count = names.len() / 2;
-    let mut i: usize = 0;
-    while i < count {
+    for i in 0..count {
         let old = values[i];
         values[i] = new_value(binders[i], old, list[i]);
-        i += 1;
     }
 }
 
@@ -111,12 +107,10 @@ fn all_have_values(
     ensures { result ≡ all_have_values (length names.now / 2) (is_unbound scope scoping) met.now values.now }
 {
     let count = names.len() / 2;
-    let mut i: usize = 0;
-    while i < count {
+    for i in 0..count {
         if !has_value(scope, scoping, (i + 1) as u32, met[i], values[i]) {
             return false;
         }
-        i += 1;
     }
     true
 }

@@ -19,11 +19,9 @@ fn deepest_of(children: &[u32], depths: &[u8; 512], first: usize, count: usize) 
     ensures { result ≡ deepest (listed_depth depths.now) children.now first count }
 {
     let mut deep: u8 = 0;
-    let mut i: usize = 0;
-    while i < count {
+    for i in 0..count {
         let child = child_at(children, first + i) as usize;
         deep = deeper(deep, depths[child - 1]);
-        i += 1;
     }
     deep
 }
@@ -34,8 +32,7 @@ pub fn depths_ok(nodes: &[u32], children: &[u32], total: usize) -> bool
     ensures { DepthsTold nodes.now children.now total result }
 {
     let mut depths = [0u8; 512];
-    let mut n: usize = 0;
-    while n < total {
+    for n in 0..total {
         let first = node_word(nodes, n, 3) as usize;
         let count = width_at(nodes, n);
         let deep = deepest_of(children, &depths, first, count);
@@ -43,7 +40,6 @@ pub fn depths_ok(nodes: &[u32], children: &[u32], total: usize) -> bool
             return false;
         }
         depths[n] = deep + 1;
-        n += 1;
     }
     true
 }

@@ -104,13 +104,11 @@ pub fn children_below(nodes: &[u32], children: &[u32], n: usize) -> bool
     let first = node_word(nodes, n, 3) as usize;
     let count = width_at(nodes, n);
     let node = n + 1;
-    let mut i: usize = 0;
-    while i < count {
+    for i in 0..count {
         let child = child_at(children, first + i) as usize;
         if node <= child {
             return false;
         }
-        i += 1;
     }
     true
 }

@@ -6,6 +6,3 @@ use Rattle.table_fault.proofs.table_fault.Given as goal
 
 abbrev pub invariant-loop-rule : goal.invariant-loop-rule
 invariant-loop-rule l = Walking (contents l.tables) l.marks l.rule
-
-abbrev pub decreases-loop-rule : goal.decreases-loop-rule
-decreases-loop-rule l = 24 - l.rule

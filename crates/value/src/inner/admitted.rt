@@ -119,8 +119,7 @@ pub fn mark_nodes(
 {
     let mut marks = [0u8; 512];
     let total = tables.nodes.len() / 5;
-    let mut n: usize = 0;
-    while n < total {
+    for n in 0..total {
         let ok = admits(
             tables,
             admit,
@@ -128,7 +127,6 @@ pub fn mark_nodes(
             (n + 1) as u32,
         );
         marks[n] = mark_of(ok);
-        n += 1;
     }
     marks
 }

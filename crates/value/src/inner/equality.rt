@@ -57,14 +57,12 @@ fn same_items(
     requires { SameItemsAsks (contents tables.now) parent at from left }
     ensures { let T = contents tables.now in result ≡ same_items (values_from T at left) (values_from T from left) }
 {
-    let mut i: usize = 0;
-    while i < left {
+    for i in 0..left {
         let a = child_at(tables.children, at + i);
         let b = child_at(tables.children, from + i);
         if !same_value(tables, a, b) {
             return false;
         }
-        i += 1;
     }
     true
 }
@@ -81,8 +79,7 @@ fn same_fields(
 {
     let first = first_of(tables.nodes, a) as usize;
     let count = count_of(tables.nodes, a) as usize;
-    let mut i: usize = 0;
-    while i < count {
+    for i in 0..count {
         let place = first + i * 2;
         let key = child_at(tables.children, place);
         let value = child_at(tables.children, place + 1);
@@ -93,7 +90,6 @@ fn same_fields(
         if !same_value(tables, value, other) {
             return false;
         }
-        i += 1;
     }
     true
 }

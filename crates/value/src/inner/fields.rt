@@ -92,14 +92,12 @@ pub fn same_key_sets(
     if count_of(tables.nodes, b) as usize != count {
         return false;
     }
-    let mut i: usize = 0;
-    while i < count {
+    for i in 0..count {
         let key = child_at(tables.children, first + i * 2);
         let value = value_under(tables, b, i, key);
         if value == 0 {
             return false;
         }
-        i += 1;
     }
     true
 }

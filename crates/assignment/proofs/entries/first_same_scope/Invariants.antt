@@ -6,6 +6,3 @@ use Rattle.assignment.proofs.entries.first_same_scope.Given as goal
 
 abbrev pub invariant-loop-i : goal.invariant-loop-i
 invariant-loop-i l = Scanning (first_same_scope l.nodes l.scope) l.scratch l.count l.i × ReadAsks l.scratch l.count
-
-abbrev pub decreases-loop-i : goal.decreases-loop-i
-decreases-loop-i l = l.count - l.i

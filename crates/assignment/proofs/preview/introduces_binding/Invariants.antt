@@ -5,6 +5,3 @@ use Rattle.assignment.proofs.preview.introduces_binding.Given as goal
 
 abbrev pub invariant-loop-i : goal.invariant-loop-i
 invariant-loop-i l = Scanning binds_any l.scratch l.count l.i
-
-abbrev pub decreases-loop-i : goal.decreases-loop-i
-decreases-loop-i l = l.count - l.i

@@ -4,6 +4,3 @@ use Rattle.assignment.proofs.preview.learn_names.Given as goal
 
 abbrev pub invariant-loop-i : goal.invariant-loop-i
 invariant-loop-i l = Learning l.initial.states l.binders l.i l.states
-
-abbrev pub decreases-loop-i : goal.decreases-loop-i
-decreases-loop-i l = 128 - l.i

@@ -5,6 +5,3 @@ use Rattle.body.proofs.lines.are_lines.Given as goal
 
 abbrev pub invariant-loop-i : goal.invariant-loop-i
 invariant-loop-i l = Scan (is_line_at l.lines) 0 l.count l.i × (l.count ≤ line_count l.lines)
-
-abbrev pub decreases-loop-i : goal.decreases-loop-i
-decreases-loop-i l = l.count - l.i

@@ -6,6 +6,3 @@ use Rattle.body.proofs.ready.pairs_unready.Given as goal
 
 abbrev pub invariant-loop-i : goal.invariant-loop-i
 invariant-loop-i l = PairsLeft (contents l.tables) l.initial.here l.initial.known l.plan l.count l.i l.here l.known
-
-abbrev pub decreases-loop-i : goal.decreases-loop-i
-decreases-loop-i l = l.count - l.i

@@ -14,17 +14,11 @@ decreases-check_fields l = 4 * l.value - 2
 abbrev pub invariant-check_fields-loop-i : goal.invariant-check_fields-loop-i
 invariant-check_fields-loop-i l = CheckingFields l.reading (contents l.tables) l.pattern l.value l.order l.literals l.total l.count l.so_far l.i
 
-abbrev pub decreases-check_fields-loop-i : goal.decreases-check_fields-loop-i
-decreases-check_fields-loop-i l = l.count - l.i
-
 abbrev pub decreases-check_items : goal.decreases-check_items
 decreases-check_items l = 4 * l.value - 2
 
 abbrev pub invariant-check_items-loop-i : goal.invariant-check_items-loop-i
 invariant-check_items-loop-i l = CheckingItems l.reading (contents l.tables) l.value l.at l.place l.left l.so_far l.i
-
-abbrev pub decreases-check_items-loop-i : goal.decreases-check_items-loop-i
-decreases-check_items-loop-i l = l.left - l.i
 
 abbrev pub decreases-check_object : goal.decreases-check_object
 decreases-check_object l = 4 * l.value - 1

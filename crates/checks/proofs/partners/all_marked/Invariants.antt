@@ -4,6 +4,3 @@ use Rattle.checks.proofs.partners.all_marked.Given as goal
 
 abbrev pub invariant-loop-q : goal.invariant-loop-q
 invariant-loop-q l = Looking l.marks l.size l.q
-
-abbrev pub decreases-loop-q : goal.decreases-loop-q
-decreases-loop-q l = l.size - l.q

@@ -6,6 +6,3 @@ use Rattle.checks.proofs.partners.mark_partners.Given as goal
 
 abbrev pub invariant-loop-i : goal.invariant-loop-i
 invariant-loop-i l = Marking (contents l.tables) l.pattern l.value l.order l.literals l.total l.first l.count l.marks l.i
-
-abbrev pub decreases-loop-i : goal.decreases-loop-i
-decreases-loop-i l = l.count - l.i

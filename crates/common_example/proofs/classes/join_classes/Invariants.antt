@@ -4,6 +4,3 @@ use Rattle.common_example.proofs.classes.join_classes.Given as goal
 
 abbrev pub invariant-loop-i : goal.invariant-loop-i
 invariant-loop-i l = Joining l.initial.classes l.from l.to l.i l.classes
-
-abbrev pub decreases-loop-i : goal.decreases-loop-i
-decreases-loop-i l = 2052 - l.i

@@ -4,6 +4,3 @@ use Rattle.common_example.proofs.levels.next_sizes.Given as goal
 
 abbrev pub invariant-loop-place : goal.invariant-loop-place
 invariant-loop-place l = Levelling l.heads l.links l.classes l.sizes l.place l.next
-
-abbrev pub decreases-loop-place : goal.decreases-loop-place
-decreases-loop-place l = 2052 - l.place

@@ -5,6 +5,3 @@ use Rattle.common_example.proofs.levels.same_sizes.Given as goal
 
 abbrev pub invariant-loop-i : goal.invariant-loop-i
 invariant-loop-i l = Scan (same_at l.sizes l.next) 0 2052 l.i
-
-abbrev pub decreases-loop-i : goal.decreases-loop-i
-decreases-loop-i l = 2052 - l.i

@@ -4,6 +4,3 @@ use Rattle.common_example.proofs.levels.settle.Given as goal
 
 abbrev pub invariant-loop-done : goal.invariant-loop-done
 invariant-loop-done l = Settling l.heads l.links l.classes l.levels l.done l.sizes
-
-abbrev pub decreases-loop-done : goal.decreases-loop-done
-decreases-loop-done l = l.levels - l.done

@@ -4,6 +4,3 @@ use Rattle.common_example.proofs.roots.start_classes.Given as goal
 
 abbrev pub invariant-loop-place : goal.invariant-loop-place
 invariant-loop-place l = FillingTo (λ i. i) 2052 l.place l.classes
-
-abbrev pub decreases-loop-place : goal.decreases-loop-place
-decreases-loop-place l = 2052 - l.place

@@ -6,6 +6,3 @@ use Rattle.first_miss.proofs.keys.other_key.Given as goal
 
 abbrev pub invariant-loop-i : goal.invariant-loop-i
 invariant-loop-i l = Seeking (contents l.tables) l.a l.b l.first l.count l.i
-
-abbrev pub decreases-loop-i : goal.decreases-loop-i
-decreases-loop-i l = l.count - l.i

@@ -13,14 +13,8 @@ decreases-walk_fields l = 2 * l.a - 1
 abbrev pub invariant-walk_fields-loop-i : goal.invariant-walk_fields-loop-i
 invariant-walk_fields-loop-i l = WalkingFields (contents l.tables) l.a l.b l.first l.count l.i l.initial.list l.list
 
-abbrev pub decreases-walk_fields-loop-i : goal.decreases-walk_fields-loop-i
-decreases-walk_fields-loop-i l = l.count - l.i
-
 abbrev pub decreases-walk_items : goal.decreases-walk_items
 decreases-walk_items l = 2 * l.a - 1
 
 abbrev pub invariant-walk_items-loop-i : goal.invariant-walk_items-loop-i
 invariant-walk_items-loop-i l = WalkingItems (contents l.tables) l.a l.b l.at l.from l.count l.i l.initial.list l.list
-
-abbrev pub decreases-walk_items-loop-i : goal.decreases-walk_items-loop-i
-decreases-walk_items-loop-i l = l.count - l.i

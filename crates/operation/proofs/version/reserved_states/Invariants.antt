@@ -5,6 +5,3 @@ use Rattle.operation.proofs.version.reserved_states.Given as goal
 
 abbrev pub invariant-loop-i : goal.invariant-loop-i
 invariant-loop-i l = Filling (reserved_state_at l.names l.text l.states) 128 l.i l.reserved
-
-abbrev pub decreases-loop-i : goal.decreases-loop-i
-decreases-loop-i l = 128 - l.i

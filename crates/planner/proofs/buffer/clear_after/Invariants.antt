@@ -6,6 +6,3 @@ use Rattle.planner.proofs.buffer.clear_after.Given as goal
 
 abbrev pub invariant-loop-i : goal.invariant-loop-i
 invariant-loop-i l = Filling (word_at l.initial.plan l.from) (length l.initial.plan) l.i l.plan × (l.from ≤ l.i)
-
-abbrev pub decreases-loop-i : goal.decreases-loop-i
-decreases-loop-i l = length l.initial.plan - l.i

@@ -4,6 +4,3 @@ use Rattle.planner.proofs.buffer.copy_entries.Given as goal
 
 abbrev pub invariant-loop-i : goal.invariant-loop-i
 invariant-loop-i l = Copying l.scratch l.initial.plan l.at l.count l.i l.to l.plan
-
-abbrev pub decreases-loop-i : goal.decreases-loop-i
-decreases-loop-i l = l.count - l.i

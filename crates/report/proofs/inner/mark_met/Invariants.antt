@@ -6,6 +6,3 @@ use Rattle.report.proofs.inner.mark_met.Given as goal
 
 abbrev pub invariant-loop-i : goal.invariant-loop-i
 invariant-loop-i l = Filling (met_mark l.met) (length l.initial.list) l.i l.list
-
-abbrev pub decreases-loop-i : goal.decreases-loop-i
-decreases-loop-i l = length l.initial.list - l.i

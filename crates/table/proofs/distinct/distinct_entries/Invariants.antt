@@ -5,6 +5,3 @@ use Rattle.table.proofs.distinct.distinct_entries.Given as goal
 
 abbrev pub invariant-loop-i : goal.invariant-loop-i
 invariant-loop-i l = Distinct l.children l.i l.used
-
-abbrev pub decreases-loop-i : goal.decreases-loop-i
-decreases-loop-i l = length l.children - l.i

@@ -4,6 +4,3 @@ use Rattle.table.proofs.distinct.mark_places.Given as goal
 
 abbrev pub invariant-loop-i : goal.invariant-loop-i
 invariant-loop-i l = Marking l.first l.count l.i l.initial.used l.used
-
-abbrev pub decreases-loop-i : goal.decreases-loop-i
-decreases-loop-i l = l.count - l.i

@@ -4,6 +4,3 @@ use Rattle.table.proofs.distinct.places_apart.Given as goal
 
 abbrev pub invariant-loop-n : goal.invariant-loop-n
 invariant-loop-n l = Apart l.nodes l.n l.used
-
-abbrev pub decreases-loop-n : goal.decreases-loop-n
-decreases-loop-n l = l.total - l.n

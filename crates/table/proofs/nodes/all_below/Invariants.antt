@@ -8,6 +8,3 @@ use Rattle.table.proofs.nodes.all_below.Given as goal
 
 abbrev pub invariant-loop-i : goal.invariant-loop-i
 invariant-loop-i l = Scan (children_below_at (tables l.nodes l.children [] [] [] [])) 0 (length l.nodes / 5) l.i
-
-abbrev pub decreases-loop-i : goal.decreases-loop-i
-decreases-loop-i l = l.total - l.i

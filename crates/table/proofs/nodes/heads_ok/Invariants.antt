@@ -8,6 +8,3 @@ use Rattle.table.proofs.nodes.heads_ok.Given as goal
 
 abbrev pub invariant-loop-i : goal.invariant-loop-i
 invariant-loop-i l = Scan (head_ok_at (contents l.tables)) 0 (length l.tables.nodes.now / 5) l.i
-
-abbrev pub decreases-loop-i : goal.decreases-loop-i
-decreases-loop-i l = l.total - l.i

@@ -8,6 +8,3 @@ use Rattle.table.proofs.rules.entries_ok.Given as goal
 
 abbrev pub invariant-loop-place : goal.invariant-loop-place
 invariant-loop-place l = Scan (entry_ok (tables l.nodes l.children [] [] [] [])) 0 (length l.children) l.place
-
-abbrev pub decreases-loop-place : goal.decreases-loop-place
-decreases-loop-place l = length l.children - l.place

@@ -8,6 +8,3 @@ use Rattle.table.proofs.rules.names_ok.Given as goal
 
 abbrev pub invariant-loop-i : goal.invariant-loop-i
 invariant-loop-i l = Scan (name_ok_at (tables [] [] [] l.names [] l.text)) 0 (length l.names / 2) l.i
-
-abbrev pub decreases-loop-i : goal.decreases-loop-i
-decreases-loop-i l = l.total - l.i

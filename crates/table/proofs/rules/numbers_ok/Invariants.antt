@@ -8,6 +8,3 @@ use Rattle.table.proofs.rules.numbers_ok.Given as goal
 
 abbrev pub invariant-loop-i : goal.invariant-loop-i
 invariant-loop-i l = Scan (number_ok (tables [] [] l.numbers [] [] [])) 0 (length l.numbers / 2) l.i
-
-abbrev pub decreases-loop-i : goal.decreases-loop-i
-decreases-loop-i l = l.total - l.i

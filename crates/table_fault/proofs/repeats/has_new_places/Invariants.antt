@@ -4,6 +4,3 @@ use Rattle.table_fault.proofs.repeats.has_new_places.Given as goal
 
 abbrev pub invariant-loop-other : goal.invariant-loop-other
 invariant-loop-other l = Unused l.nodes l.node l.first l.count l.other
-
-abbrev pub decreases-loop-other : goal.decreases-loop-other
-decreases-loop-other l = l.node - l.other

@@ -7,6 +7,3 @@ use Rattle.tolerance.proofs.classes.all_free.Given as goal
 
 abbrev pub invariant-loop-i : goal.invariant-loop-i
 invariant-loop-i l = Looking l.labels (free num_order (ranges_by l.lowest l.highest) (classes_in l.labels l.lows l.highs)) l.i
-
-abbrev pub decreases-loop-i : goal.decreases-loop-i
-decreases-loop-i l = 512 - l.i

@@ -4,6 +4,3 @@ use Rattle.tolerance.proofs.classes.relabel.Given as goal
 
 abbrev pub invariant-loop-n : goal.invariant-loop-n
 invariant-loop-n l = Relabelling l.initial.labels l.to l.from l.n l.labels
-
-abbrev pub decreases-loop-n : goal.decreases-loop-n
-decreases-loop-n l = 513 - l.n

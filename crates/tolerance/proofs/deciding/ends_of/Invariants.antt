@@ -4,6 +4,3 @@ use Rattle.tolerance.proofs.deciding.ends_of.Given as goal
 
 abbrev pub invariant-loop-n : goal.invariant-loop-n
 invariant-loop-n l = EndsMade l.lowest l.highest l.ends l.words l.n
-
-abbrev pub decreases-loop-n : goal.decreases-loop-n
-decreases-loop-n l = 513 - l.n

@@ -14,17 +14,11 @@ decreases-meet_fields l = cond l.pattern 1200 0 + 2 * l.a - 1
 abbrev pub invariant-meet_fields-loop-i : goal.invariant-meet_fields-loop-i
 invariant-meet_fields-loop-i l = MeetingFields (contents l.tables) l.pattern l.a l.b l.first l.count l.i l.initial.list l.initial.labels l.initial.lows l.initial.highs l.list l.labels l.lows l.highs
 
-abbrev pub decreases-meet_fields-loop-i : goal.decreases-meet_fields-loop-i
-decreases-meet_fields-loop-i l = l.count - l.i
-
 abbrev pub decreases-meet_items : goal.decreases-meet_items
 decreases-meet_items l = cond l.pattern 1200 0 + 2 * l.parent - 1
 
 abbrev pub invariant-meet_items-loop-i : goal.invariant-meet_items-loop-i
 invariant-meet_items-loop-i l = MeetingItems (contents l.tables) l.pattern l.parent l.at l.from l.left l.i l.initial.list l.initial.labels l.initial.lows l.initial.highs l.list l.labels l.lows l.highs
-
-abbrev pub decreases-meet_items-loop-i : goal.decreases-meet_items-loop-i
-decreases-meet_items-loop-i l = l.left - l.i
 
 abbrev pub decreases-meet_name : goal.decreases-meet_name
 decreases-meet_name l = 1200 + 2 * l.a - 1

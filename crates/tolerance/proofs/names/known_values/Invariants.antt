@@ -4,6 +4,3 @@ use Rattle.tolerance.proofs.names.known_values.Given as goal
 
 abbrev pub invariant-loop-i : goal.invariant-loop-i
 invariant-loop-i l = Knowing l.names l.values l.states l.count l.i l.list
-
-abbrev pub decreases-loop-i : goal.decreases-loop-i
-decreases-loop-i l = l.count - l.i

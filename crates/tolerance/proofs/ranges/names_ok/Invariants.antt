@@ -6,6 +6,3 @@ use Rattle.tolerance.proofs.ranges.names_ok.Given as goal
 
 abbrev pub invariant-loop-i : goal.invariant-loop-i
 invariant-loop-i l = Giving (contents l.tables) l.lowest l.highest l.list l.i
-
-abbrev pub decreases-loop-i : goal.decreases-loop-i
-decreases-loop-i l = 128 - l.i

@@ -5,6 +5,3 @@ use Rattle.common_example.proofs.graph.key_order.copy_children.Given as goal
 
 abbrev pub invariant-loop-i : goal.invariant-loop-i
 invariant-loop-i l = FillingTo (child_at l.children) 512 l.i l.entries
-
-abbrev pub decreases-loop-i : goal.decreases-loop-i
-decreases-loop-i l = 512 - l.i

@@ -6,6 +6,3 @@ use Rattle.common_example.proofs.graph.key_order.order_children.Given as goal
 
 abbrev pub invariant-loop-n : goal.invariant-loop-n
 invariant-loop-n l = Ordering (contents l.tables) l.marks l.count l.n l.entries
-
-abbrev pub decreases-loop-n : goal.decreases-loop-n
-decreases-loop-n l = l.count - l.n

@@ -5,6 +5,3 @@ use Rattle.common_example.proofs.graph.likes.like_nodes.Given as goal
 
 abbrev pub invariant-loop-i : goal.invariant-loop-i
 invariant-loop-i l = Liking (literal_node l.nodes l.numbers l.strings l.text) l.nodes l.count l.i l.like l.order l.literals
-
-abbrev pub decreases-loop-i : goal.decreases-loop-i
-decreases-loop-i l = l.count - l.i

@@ -6,6 +6,3 @@ use Rattle.common_example.proofs.graph.node_places.side_places.Given as goal
 
 abbrev pub invariant-loop-i : goal.invariant-loop-i
 invariant-loop-i l = Placing (contents l.tables) l.held l.side l.count l.i l.places
-
-abbrev pub decreases-loop-i : goal.decreases-loop-i
-decreases-loop-i l = l.count - l.i

@@ -4,6 +4,3 @@ use Rattle.common_example.proofs.graph.words.head_words.Given as goal
 
 abbrev pub invariant-loop-i : goal.invariant-loop-i
 invariant-loop-i l = HeadsFilling l.nodes l.marks l.like l.i l.heads
-
-abbrev pub decreases-loop-i : goal.decreases-loop-i
-decreases-loop-i l = 6156 - l.i

@@ -5,6 +5,3 @@ use Rattle.common_example.proofs.graph.words.link_words.Given as goal
 
 abbrev pub invariant-loop-i : goal.invariant-loop-i
 invariant-loop-i l = FillingTo (link_word l.ordered l.first l.second l.like) 2048 l.i l.links
-
-abbrev pub decreases-loop-i : goal.decreases-loop-i
-decreases-loop-i l = 2048 - l.i

@@ -6,6 +6,3 @@ use Rattle.planner.proofs.inner.fields.order_fields.Given as goal
 
 abbrev pub invariant-loop-i : goal.invariant-loop-i
 invariant-loop-i l = Arranging (contents l.tables) l.first l.count l.i l.initial.order l.order l.sizes.literals l.sizes.total
-
-abbrev pub decreases-loop-i : goal.decreases-loop-i
-decreases-loop-i l = l.count - l.i

@@ -14,9 +14,6 @@ abbrev pub invariant-lay_fields-loop-q : goal.invariant-lay_fields-loop-q
 invariant-lay_fields-loop-q l = LayingFields (contents l.tables) l.states l.binders l.parent l.first l.order l.total l.initial.plan l.at l.q l.plan l.here
     × Counting l.initial.steps (length (lay_out_ordered l.binders (contents l.tables) l.first l.order 0 l.total)) l.steps (length (lay_out_ordered l.binders (contents l.tables) l.first l.order l.q (l.total - l.q)))
 
-abbrev pub decreases-lay_fields-loop-q : goal.decreases-lay_fields-loop-q
-decreases-lay_fields-loop-q l = l.total - l.q
-
 abbrev pub decreases-lay_items : goal.decreases-lay_items
 decreases-lay_items l = 4 * l.parent - 2
 

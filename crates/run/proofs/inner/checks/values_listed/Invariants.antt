@@ -4,6 +4,3 @@ use Rattle.run.proofs.inner.checks.values_listed.Given as goal
 
 abbrev pub invariant-loop-i : goal.invariant-loop-i
 invariant-loop-i l = Listing l.nodes l.names l.marks l.values l.count l.i
-
-abbrev pub decreases-loop-i : goal.decreases-loop-i
-decreases-loop-i l = l.count - l.i

@@ -5,6 +5,3 @@ use Rattle.run.proofs.inner.names.all_have_values.Given as goal
 
 abbrev pub invariant-loop-i : goal.invariant-loop-i
 invariant-loop-i l = Having l.names l.values l.met (is_unbound l.scope l.scoping) l.count l.i
-
-abbrev pub decreases-loop-i : goal.decreases-loop-i
-decreases-loop-i l = l.count - l.i

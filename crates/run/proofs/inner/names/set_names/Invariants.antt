@@ -4,6 +4,3 @@ use Rattle.run.proofs.inner.names.set_names.Given as goal
 
 abbrev pub invariant-loop-i : goal.invariant-loop-i
 invariant-loop-i l = Setting l.names l.binders l.list l.initial.values l.count l.i l.values
-
-abbrev pub decreases-loop-i : goal.decreases-loop-i
-decreases-loop-i l = l.count - l.i

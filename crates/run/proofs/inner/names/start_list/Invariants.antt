@@ -4,6 +4,3 @@ use Rattle.run.proofs.inner.names.start_list.Given as goal
 
 abbrev pub invariant-loop-i : goal.invariant-loop-i
 invariant-loop-i l = Starting l.names l.scope l.scoping l.values l.count l.i l.list
-
-abbrev pub decreases-loop-i : goal.decreases-loop-i
-decreases-loop-i l = l.count - l.i

@@ -4,6 +4,3 @@ use Rattle.table.proofs.inner.depth.depths_ok.Given as goal
 
 abbrev pub invariant-loop-n : goal.invariant-loop-n
 invariant-loop-n l = Deep l.nodes l.children l.total l.n l.depths
-
-abbrev pub decreases-loop-n : goal.decreases-loop-n
-decreases-loop-n l = l.total - l.n

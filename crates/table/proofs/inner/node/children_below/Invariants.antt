@@ -7,6 +7,3 @@ use Rattle.table.proofs.inner.node.children_below.Given as goal
 
 abbrev pub invariant-loop-i : goal.invariant-loop-i
 invariant-loop-i l = Scan (below_at (tables l.nodes l.children [] [] [] []) l.node) l.first l.count l.i
-
-abbrev pub decreases-loop-i : goal.decreases-loop-i
-decreases-loop-i l = l.count - l.i

@@ -6,6 +6,3 @@ use Rattle.value.proofs.inner.admitted.mark_nodes.Given as goal
 
 abbrev pub invariant-loop-n : goal.invariant-loop-n
 invariant-loop-n l = MarkingNodes (contents l.tables) l.admit l.n l.marks
-
-abbrev pub decreases-loop-n : goal.decreases-loop-n
-decreases-loop-n l = l.total - l.n

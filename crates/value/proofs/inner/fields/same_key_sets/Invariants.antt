@@ -6,6 +6,3 @@ use Rattle.value.proofs.inner.fields.same_key_sets.Given as goal
 
 abbrev pub invariant-loop-i : goal.invariant-loop-i
 invariant-loop-i l = Covering (contents l.tables) l.a l.b l.first l.count l.i
-
-abbrev pub decreases-loop-i : goal.decreases-loop-i
-decreases-loop-i l = l.count - l.i
