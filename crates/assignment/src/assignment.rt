@@ -10,7 +10,6 @@ ghost use Rattle.assignment.specs.code.Previewing.{GoodPairIn, SidesAsksIn};
 ghost use Rattle.checks.specs.code.Post.{WorkingSpace};
 ghost use Rattle.assignment.specs.code.Binding.{BindAsks, SideBoundIn, ColonBoundIn, opposed_kinds, underscore_at, underscore_side, RightBoundIn, ColonEqualsIn};
 
-use table::tables::Tables;
 use crate::AssignOp;
 use crate::entries::{deliver, first_same_scope};
 use crate::flatten::flatten_assignment_pairs;
@@ -23,6 +22,7 @@ use planner::context::name_states;
 use planner::inner::destructuring::plan_pattern;
 use scope::{Scope, ScopingMode};
 use table::reading::{first_of, is_node, kind_of, name_class};
+use table::tables::Tables;
 use table::{NameClass, TableAnswer, check, node_kind};
 
 // The small scratch: an entry for each of 64 nodes, and the words of these nodes, five each.
@@ -63,9 +63,7 @@ fn bind_side(
         clear(plan);
         return PlanAnswer::IncompatibleDestructuringPatterns { side: binding };
     }
-    let structure = check_literal_structure(
-        tables, binding, value, reading,
-    );
+    let structure = check_literal_structure(tables, binding, value, reading);
     match structure {
         LiteralStructureCheck::Match => deliver(plan, scratch, form, count),
         LiteralStructureCheck::Unknown => deliver(plan, scratch, form, count),
@@ -123,10 +121,7 @@ fn colon_equals_from(
         clear(plan);
         return PlanAnswer::VariableAlreadyDefined { name };
     }
-    bind_side(
-        tables, 1, left, right, reading, scratch, count,
-        plan,
-    )
+    bind_side(tables, 1, left, right, reading, scratch, count, plan)
 }
 
 // `:=`, the left side planned into a scratch with space for an entry of each node.
@@ -153,10 +148,7 @@ fn colon_equals_in(
         0,
     );
     let count = planned.next;
-    colon_equals_from(
-        tables, scope, left, right, reading, scratch,
-        count, plan,
-    )
+    colon_equals_from(tables, scope, left, right, reading, scratch, count, plan)
 }
 
 fn is_underscore(nodes: &[u32], names: &[u32], text: &[u8], node: u32) -> bool
@@ -206,9 +198,7 @@ fn bind_right(
     requires { SidesAsksIn scratch (contents tables.now) states.now left right }
     ensures { RightBoundIn plan scratch binders (contents tables.now) states.now left right reading result }
 {
-    let planned = preview_binding_plan(
-        tables, states, right, 0, binders, scratch,
-    );
+    let planned = preview_binding_plan(tables, states, right, 0, binders, scratch);
     bind_side(
         tables,
         3,
@@ -236,15 +226,7 @@ fn equals_in(
 {
     let states = name_states(tables.names, tables.text, scope, ScopingMode::RespectParent);
     let mut binders = [0u32; 128];
-    let sides = preview_sides(
-        tables,
-        &states,
-        left,
-        right,
-        0,
-        &mut binders,
-        scratch,
-    );
+    let sides = preview_sides(tables, &states, left, right, 0, &mut binders, scratch);
     let count = sides.count;
     if sides.left {
         if sides.right {
@@ -258,10 +240,7 @@ fn equals_in(
                 plan,
             );
         }
-        return bind_side(
-            tables, 2, left, right, reading, scratch,
-            count, plan,
-        );
+        return bind_side(tables, 2, left, right, reading, scratch, count, plan);
     }
     if sides.right {
         return bind_right(
@@ -295,9 +274,7 @@ fn plan_equals(
     if side != 0 {
         return deliver_none(plan, 6, side);
     }
-    equals_in(
-        tables, scope, left, right, reading, scratch, plan,
-    )
+    equals_in(tables, scope, left, right, reading, scratch, plan)
 }
 
 // By the operator, the sides planned into a scratch with space for an entry of each node.
@@ -315,14 +292,8 @@ fn plan_assignment_in(
     ensures { AnsweredIn plan (by_operator op (contents tables.now) scope left right reading) result × WorkingSpace scratch }
 {
     match op {
-        AssignOp::ColEq => colon_equals_in(
-            tables, scope, left, right, reading, scratch,
-            plan,
-        ),
-        AssignOp::Eq => plan_equals(
-            tables, scope, left, right, reading, scratch,
-            plan,
-        ),
+        AssignOp::ColEq => colon_equals_in(tables, scope, left, right, reading, scratch, plan),
+        AssignOp::Eq => plan_equals(tables, scope, left, right, reading, scratch, plan),
     }
 }
 
@@ -341,28 +312,10 @@ fn plan_assignment(
 {
     if tables.nodes.len() <= SMALL_NODE_WORDS {
         let mut scratch = [0u32; SMALL_WORDS];
-        return plan_assignment_in(
-            tables,
-            scope,
-            op,
-            left,
-            right,
-            reading,
-            &mut scratch,
-            plan,
-        );
+        return plan_assignment_in(tables, scope, op, left, right, reading, &mut scratch, plan);
     }
     let mut scratch = [0u32; PATTERN_WORDS];
-    plan_assignment_in(
-        tables,
-        scope,
-        op,
-        left,
-        right,
-        reading,
-        &mut scratch,
-        plan,
-    )
+    plan_assignment_in(tables, scope, op, left, right, reading, &mut scratch, plan)
 }
 
 pub fn create_assignment_binding_plan(
@@ -389,7 +342,5 @@ pub fn create_assignment_binding_plan(
         clear(plan);
         return PlanAnswer::RootOutside;
     }
-    plan_assignment(
-        tables, scope, op, left, right, reading, plan,
-    )
+    plan_assignment(tables, scope, op, left, right, reading, plan)
 }

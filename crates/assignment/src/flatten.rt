@@ -9,7 +9,6 @@ ghost use Rattle.assignment.specs.code.Previewing.{ReadAsks, GoodPairIn};
 ghost use Rattle.checks.specs.code.Post.{WorkingSpaces};
 ghost use Rattle.assignment.specs.code.Flattening.{Compared, Bound, SideAsksIn, FlattenAsksIn, ArraysAsksIn, ByKeyAsksIn, ItemsAsksIn, ObjectFieldsAsksIn, SideFlattened, NodesFlattened, ArraysFlattened, ItemsFlattened, ObjectsFlattened};
 
-use table::tables::Tables;
 use crate::judge::{Judgement, judge};
 use crate::keys::{ObjectPairs, collect_object_pairs, field_sides};
 use crate::preview::{learn_names, preview_binding_plan};
@@ -18,6 +17,7 @@ use planner::context::name_states;
 use planner::{PlanAnswer, entry_kind};
 use scope::{Scope, ScopingMode};
 use table::reading::{child_at, count_of, first_of};
+use table::tables::Tables;
 
 // The place of the next entry, or the first refusal.
 #[derive(Clone, Copy)]
@@ -69,9 +69,7 @@ fn bind_unplanned(
     requires { SideAsksIn scratch (contents tables.now) states.old pattern value at }
     ensures { SideFlattened states scratch binders plan (contents tables.now) pattern value at result }
 {
-    let planned = preview_binding_plan(
-        tables, states, pattern, 1, binders, scratch,
-    );
+    let planned = preview_binding_plan(tables, states, pattern, 1, binders, scratch);
     bind_planned(states, value, binders, scratch, planned.count, plan, at)
 }
 
@@ -90,9 +88,7 @@ fn flatten(
     requires { FlattenAsksIn scratch (contents tables.now) states.old left right at }
     ensures { NodesFlattened states plan (contents tables.now) left right at result × WorkingSpaces binders scratch }
 {
-    let verdict = judge(
-        tables, states, left, right, binders, scratch,
-    );
+    let verdict = judge(tables, states, left, right, binders, scratch);
     let count = verdict.count;
     let way = verdict.way;
     match way {
@@ -101,16 +97,13 @@ fn flatten(
             states, right, binders, scratch, count, plan, at,
         ),
         Judgement::BindRight => return bind_unplanned(
-            tables, states, right, left, binders, scratch,
-            plan, at,
+            tables, states, right, left, binders, scratch, plan, at,
         ),
         Judgement::Items => return flatten_arrays(
-            tables, states, left, right, binders, scratch,
-            plan, at,
+            tables, states, left, right, binders, scratch, plan, at,
         ),
         Judgement::ByKey => return flatten_objects(
-            tables, states, left, right, binders, scratch,
-            plan, at,
+            tables, states, left, right, binders, scratch, plan, at,
         ),
         Judgement::Refuse => return Flattened::Refused(
             PlanAnswer::IncompatibleDestructuringPatterns { side: left },
@@ -177,10 +170,7 @@ fn flatten_items(
     while 0 < more {
         let left = child_at(tables.children, left_place);
         let right = child_at(tables.children, right_place);
-        match flatten(
-            tables, states, left, right, binders, scratch,
-            plan, here,
-        ) {
+        match flatten(tables, states, left, right, binders, scratch, plan, here) {
             Flattened::Next { at: next } => here = next,
             Flattened::Refused(answer) => return Flattened::Refused(answer),
         }
@@ -206,12 +196,9 @@ fn flatten_objects(
     ensures { ObjectsFlattened states plan (contents tables.now) left right at result × WorkingSpaces binders scratch }
 {
     let mut order = [0u8; 256];
-    match collect_object_pairs(
-        tables, left, right, &mut order,
-    ) {
+    match collect_object_pairs(tables, left, right, &mut order) {
         ObjectPairs::Matched { total } => return flatten_fields(
-            tables, states, left, right, &order, total,
-            binders, scratch, plan, at,
+            tables, states, left, right, &order, total, binders, scratch, plan, at,
         ),
         ObjectPairs::Refused(answer) => return Flattened::Refused(answer),
     }
@@ -238,9 +225,7 @@ fn flatten_fields(
     let mut more = count_of(tables.nodes, right) as usize;
     let mut here = at;
     while 0 < more {
-        let sides = field_sides(
-            tables, left, order, total, place,
-        );
+        let sides = field_sides(tables, left, order, total, place);
         match flatten(
             tables,
             states,
@@ -274,16 +259,7 @@ pub(crate) fn flatten_assignment_pairs(
     ensures { AnsweredIn plan (pairs_outcome (contents tables.now) scope left right) result × WorkingSpaces binders scratch }
 {
     let mut states = name_states(tables.names, tables.text, scope, ScopingMode::RespectParent);
-    match flatten(
-        tables,
-        &mut states,
-        left,
-        right,
-        binders,
-        scratch,
-        plan,
-        0,
-    ) {
+    match flatten(tables, &mut states, left, right, binders, scratch, plan, 0) {
         Flattened::Next { at } => return close(plan, 4, at),
         Flattened::Refused(answer) => {
             clear(plan);

@@ -6,11 +6,11 @@ ghost use Rattle.assignment.specs.declared.judge.Pairing.TheVariants.{Whole};
 ghost use Rattle.assignment.specs.code.Judging.{objects_pairing, kinds_pairing, judgement_of, JudgesIn};
 ghost use Rattle.assignment.specs.code.Previewing.{SidesAsksIn};
 
-use table::tables::Tables;
 use crate::keys::literal_keys;
 use crate::preview::preview_sides;
 use table::node_kind;
 use table::reading::kind_of;
+use table::tables::Tables;
 
 // How two sides may be taken: as they are, item by item, field by field, or not at all.
 #[derive(Clone, Copy)]
@@ -136,10 +136,15 @@ pub(crate) fn judge(
     requires { SidesAsksIn scratch (contents tables.now) states.now left right }
     ensures { JudgesIn scratch binders (contents tables.now) states.now left right result.count result.way }
 {
-    let sides = preview_sides(
-        tables, states, left, right, 1, binders, scratch,
+    let sides = preview_sides(tables, states, left, right, 1, binders, scratch);
+    let way = judge_sides(
+        tables.nodes,
+        tables.children,
+        left,
+        right,
+        sides.left,
+        sides.right,
     );
-    let way = judge_sides(tables.nodes, tables.children, left, right, sides.left, sides.right);
     JudgedSides {
         way,
         count: sides.count,

@@ -4,13 +4,13 @@ ghost use Rattle.table.specs.Lent.{given, lent};
 ghost use Rattle.std.specs.Prelude.{◌≡◌};
 ghost use Rattle.assignment.specs.code.KeyMatching.{literal_keys, FindAsks, partner_of, MissingAsks, missing_from, KeysAsks, KeysMatched, FieldAsks, FieldSides};
 
-use table::tables::Tables;
 use literal::Comparison;
 use planner::PlanAnswer;
 use planner::fields::field_at;
 use planner::inner::fields::order_fields;
 use table::node_kind;
 use table::reading::{child_at, compare_literals, count_of, first_of, kind_of};
+use table::tables::Tables;
 
 // The left object's keys are the right's, `total` of them, or a refusal.
 #[derive(Clone, Copy)]
@@ -42,13 +42,7 @@ pub(crate) fn literal_keys(nodes: &[u32], children: &[u32], node: u32) -> bool
 }
 
 // The node of an object's last value under a literal key, by binary search, or 0.
-fn find_value(
-    tables: &Tables<'_>,
-    object: u32,
-    order: &[u8; 256],
-    total: usize,
-    key: u32,
-) -> u32
+fn find_value(tables: &Tables<'_>, object: u32, order: &[u8; 256], total: usize, key: u32) -> u32
     requires { FindAsks (contents tables.now) object order.now total key }
     ensures { result ≡ partner_of (contents tables.now) object key }
 {
@@ -59,7 +53,14 @@ fn find_value(
         let middle = low + (high - low) / 2;
         let place = first + field_at(order, middle) * 2;
         let other = child_at(tables.children, place);
-        let way = compare_literals(tables.nodes, tables.numbers, tables.strings, tables.text, key, other);
+        let way = compare_literals(
+            tables.nodes,
+            tables.numbers,
+            tables.strings,
+            tables.text,
+            key,
+            other,
+        );
         match way {
             Comparison::Equal => return child_at(tables.children, place + 1),
             Comparison::Less => high = middle,
@@ -86,10 +87,7 @@ fn first_missing(
     let mut more = count;
     while 0 < more {
         let key = child_at(tables.children, place);
-        if find_value(
-            tables, object, order, total, key,
-        ) == 0
-        {
+        if find_value(tables, object, order, total, key) == 0 {
             return key;
         }
         place += 2;
@@ -112,9 +110,7 @@ pub(crate) fn collect_object_pairs(
     let left_count = count_of(tables.nodes, left) as usize;
     let first = first_of(tables.nodes, right) as usize;
     let count = count_of(tables.nodes, right);
-    let keys = order_fields(
-        tables, left_first, left_count, order,
-    );
+    let keys = order_fields(tables, left_first, left_count, order);
     if keys != count {
         return ObjectPairs::Refused(PlanAnswer::ObjectFieldCountMismatch {
             left,
@@ -122,14 +118,7 @@ pub(crate) fn collect_object_pairs(
             fields: count,
         });
     }
-    let key = first_missing(
-        tables,
-        left,
-        order,
-        keys as usize,
-        first,
-        count as usize,
-    );
+    let key = first_missing(tables, left, order, keys as usize, first, count as usize);
     if key != 0 {
         return ObjectPairs::Refused(PlanAnswer::ObjectKeyNotFound { key });
     }
@@ -150,9 +139,7 @@ pub(crate) fn field_sides(
     ensures { FieldSides (contents tables.now) left place result.left result.right }
 {
     let key = child_at(tables.children, place);
-    let other = find_value(
-        tables, left, order, total, key,
-    );
+    let other = find_value(tables, left, order, total, key);
     let value = child_at(tables.children, place + 1);
     NodePair {
         left: other,

@@ -6,10 +6,10 @@ ghost use Rattle.planner.specs.Layout.{binds_any};
 ghost use Rattle.planner.specs.Entries.{read_entries};
 ghost use Rattle.assignment.specs.code.Previewing.{PreviewAsksIn, PreviewedIn, LearntAt, Learnt, SidesAsksIn, SidesToldIn};
 
-use table::tables::Tables;
 use planner::buffer::{ENTRY_WORDS, clear};
 use planner::entry_kind;
 use planner::inner::destructuring::create_destructuring_plan_with_tracking;
+use table::tables::Tables;
 
 // A side's plan: how many entries it has, and whether one of them binds.
 #[derive(Clone, Copy)]
@@ -83,12 +83,8 @@ pub(crate) fn preview_sides(
     requires { SidesAsksIn scratch (contents tables.now) states.now left right }
     ensures { SidesToldIn scratch binders states (contents tables.now) left right position result.count result.left result.right }
 {
-    let other = preview_binding_plan(
-        tables, states, right, position, binders, scratch,
-    );
-    let one = preview_binding_plan(
-        tables, states, left, position, binders, scratch,
-    );
+    let other = preview_binding_plan(tables, states, right, position, binders, scratch);
+    let one = preview_binding_plan(tables, states, left, position, binders, scratch);
     Sides {
         left: one.binds,
         right: other.binds,

@@ -13,7 +13,6 @@ ghost use Rattle.body.specs.Lines.{is_body};
 ghost use Rattle.body.specs.Body.{body_outcome, BodyAnsweredIn};
 ghost use Rattle.body.specs.code.Post.{StatesOf, PlanHeld, SettledIn, LineDoneIn};
 
-use table::tables::Tables;
 use crate::binding::bind_plan;
 use crate::lines::{LINE_WORDS, is_body, line_at};
 use crate::ready::line_unready;
@@ -22,6 +21,7 @@ use planner::PlanAnswer;
 use planner::buffer::clear;
 use planner::context::name_states;
 use scope::{Scope, ScopingMode};
+use table::tables::Tables;
 
 // A line is counted from 1.
 #[derive(Clone, Copy)]
@@ -72,10 +72,7 @@ fn settle_line(
     requires { PlanHeld (contents tables.now) scope states.old plan.old entries }
     ensures { SettledIn plan states.new (contents tables.now) scope operation line form side entries result }
 {
-    let name = line_unready(
-        tables, scope, *states, operation, form, side,
-        plan, entries,
-    );
+    let name = line_unready(tables, scope, *states, operation, form, side, plan, entries);
     if name != 0 {
         clear(plan);
         return LineStep {
@@ -108,9 +105,7 @@ fn plan_line(
     requires { StatesOf (contents tables.now) scope states.old }
     ensures { LineDoneIn plan states.new (contents tables.now) scope operation line result }
 {
-    let answer = operation::plan(
-        tables, scope, operation, REGO_V0, plan,
-    );
+    let answer = operation::plan(tables, scope, operation, REGO_V0, plan);
     let PlanAnswer::Planned {
         form,
         side,
@@ -124,18 +119,12 @@ fn plan_line(
         };
     };
     settle_line(
-        tables, scope, states, operation, line, form, side,
-        entries, plan,
+        tables, scope, states, operation, line, form, side, entries, plan,
     )
 }
 
 // The lines of a body in turn, up to one that is refused.
-fn plan_lines(
-    tables: &Tables<'_>,
-    scope: Scope,
-    lines: &[u32],
-    plan: &mut [u32],
-) -> BodyPlanned
+fn plan_lines(tables: &Tables<'_>, scope: Scope, lines: &[u32], plan: &mut [u32]) -> BodyPlanned
     requires { is_body lines.now ≡ true }
     ensures { BodyAnsweredIn plan scope (body_outcome (contents tables.now) scope lines.now plan.old) result }
 {
@@ -145,14 +134,7 @@ fn plan_lines(
     let mut answer = BodyAnswer::NotABody;
     for i in 0..count {
         let operation = line_at(lines, i);
-        let step = plan_line(
-            tables,
-            here,
-            &mut states,
-            operation,
-            (i + 1) as u32,
-            plan,
-        );
+        let step = plan_line(tables, here, &mut states, operation, (i + 1) as u32, plan);
         let reached = step.answer;
         if !step.planned {
             return BodyPlanned {
@@ -171,18 +153,11 @@ fn plan_lines(
 }
 
 // Plans a body's lines in turn. The plan buffer then holds the last line's plan; a refusal leaves it all zeros and returns the scope as given.
-pub fn plan_body(
-    tables: &Tables<'_>,
-    scope: Scope,
-    lines: &[u32],
-    plan: &mut [u32],
-) -> BodyPlanned
+pub fn plan_body(tables: &Tables<'_>, scope: Scope, lines: &[u32], plan: &mut [u32]) -> BodyPlanned
     ensures { BodyAnsweredIn plan scope (body_outcome (contents tables.now) scope lines.now plan.old) result }
 {
     if is_body(lines) {
-        return plan_lines(
-            tables, scope, lines, plan,
-        );
+        return plan_lines(tables, scope, lines, plan);
     }
     clear(plan);
     BodyPlanned {

@@ -4,7 +4,6 @@ ghost use Rattle.table.specs.Lent.{given, lent};
 ghost use Rattle.std.specs.Prelude.{◌≡◌, cond, eqb};
 ghost use Rattle.body.specs.code.Post.{Asks, first_unknown, both_unknown, PlanHeld, pairs_found, keys_found, values_found, line_found};
 
-use table::tables::Tables;
 use crate::binding::{bind_entry, learn_entry};
 use crate::sides::sides_of;
 use operation::Operation;
@@ -14,14 +13,10 @@ use planner::inner::names::first_name;
 use scope::Scope;
 use table::node_kind;
 use table::reading::kind_of;
+use table::tables::Tables;
 
 // The node of the first name at or below a node that the scope does not know, or 0.
-fn first_unknown(
-    tables: &Tables<'_>,
-    scope: Scope,
-    states: &[u8; 128],
-    node: u32,
-) -> u32
+fn first_unknown(tables: &Tables<'_>, scope: Scope, states: &[u8; 128], node: u32) -> u32
     requires { Asks (contents tables.now) scope states.now }
     ensures { result ≡ first_unknown (contents tables.now) scope node }
 {
@@ -30,9 +25,7 @@ fn first_unknown(
     }
     let sets = true;
     let keys = true;
-    first_name(
-        tables, states, sets, keys, node,
-    )
+    first_name(tables, states, sets, keys, node)
 }
 
 // In the first of two nodes that has one.
@@ -46,15 +39,11 @@ fn both_unknown(
     requires { Asks (contents tables.now) scope states.now }
     ensures { result ≡ both_unknown (contents tables.now) scope first second }
 {
-    let found = first_unknown(
-        tables, scope, states, first,
-    );
+    let found = first_unknown(tables, scope, states, first);
     if found != 0 {
         return found;
     }
-    first_unknown(
-        tables, scope, states, second,
-    )
+    first_unknown(tables, scope, states, second)
 }
 
 // The value side of a pair.
@@ -83,12 +72,7 @@ fn pairs_unready(
     for i in 0..count {
         let kind = plan[i * ENTRY_WORDS];
         let node = plan[i * ENTRY_WORDS + 1];
-        let found = first_unknown(
-            tables,
-            here,
-            &known,
-            pair_node(kind, node),
-        );
+        let found = first_unknown(tables, here, &known, pair_node(kind, node));
         if found != 0 {
             return found;
         }
@@ -146,12 +130,7 @@ fn keys_unready(
         let kind = plan[i * ENTRY_WORDS];
         let node = plan[i * ENTRY_WORDS + 1];
         let key = plan[i * ENTRY_WORDS + 3];
-        let found = first_unknown(
-            tables,
-            earlier,
-            &ready,
-            key_node(kind, key),
-        );
+        let found = first_unknown(tables, earlier, &ready, key_node(kind, key));
         if found != 0 {
             return found;
         }
@@ -180,17 +159,9 @@ fn values_unready(
 {
     let sides = sides_of(operation, form, side);
     if sides.pairs {
-        return pairs_unready(
-            tables, scope, states, plan, count,
-        );
+        return pairs_unready(tables, scope, states, plan, count);
     }
-    both_unknown(
-        tables,
-        scope,
-        &states,
-        sides.first,
-        sides.second,
-    )
+    both_unknown(tables, scope, &states, sides.first, sides.second)
 }
 
 // The node of the first name that is not ready, or 0, of a line that is planned with this form and side and `count` entries.
@@ -207,14 +178,9 @@ pub(crate) fn line_unready(
     requires { PlanHeld (contents tables.now) scope states plan.now count }
     ensures { result ≡ line_found (contents tables.now) scope operation form side plan.now count }
 {
-    let found = values_unready(
-        tables, scope, states, operation, form, side, plan,
-        count,
-    );
+    let found = values_unready(tables, scope, states, operation, form, side, plan, count);
     if found != 0 {
         return found;
     }
-    keys_unready(
-        tables, scope, states, plan, count,
-    )
+    keys_unready(tables, scope, states, plan, count)
 }

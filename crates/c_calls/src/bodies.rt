@@ -9,7 +9,6 @@ ghost use Rattle.operation.specs.Rows.{row_line};
 ghost use Rattle.body.specs.Body.{body_line, body_line_of};
 ghost use Rattle.c_calls.specs.Bodies.{words_first, marks_first, marks_in, ToldBody, BodyCalledIn};
 
-use table::tables::Tables;
 use crate::given::{conversion_number, scope_of};
 use body::lines::is_body;
 use body::{BodyAnswer, plan_body};
@@ -18,6 +17,7 @@ use operation::row::{Row, row_from, row_of};
 use planner::buffer::clear;
 use scope::{ConversionAnswer, Scope};
 use table::limits::within_limits;
+use table::tables::Tables;
 
 // 7 or 37, or 0.
 fn words_first(scheduler: u32, lines: &[u32]) -> u32
@@ -33,10 +33,7 @@ fn words_first(scheduler: u32, lines: &[u32]) -> u32
 }
 
 // 1 or 2, or 0.
-fn marks_first(
-    tables: &Tables<'_>,
-    made: ConversionAnswer,
-) -> u32
+fn marks_first(tables: &Tables<'_>, made: ConversionAnswer) -> u32
     ensures { line result 0 0 0 ≡ tested_line (marks_first (contents tables.now) (conversion_of made)) }
 {
     if within_limits(tables) {
@@ -137,9 +134,7 @@ pub fn teluddru_plan_body(
         clear(plan);
         return tell_body(answer, row_from(before as u64, 0, 0, 0), 1);
     }
-    let done = plan_body(
-        tables, scope, lines, plan,
-    );
+    let done = plan_body(tables, scope, lines, plan);
     let reached = done.answer;
     let after = done.scope;
     let told = body_row(reached);

@@ -7,7 +7,6 @@ ghost use Rattle.operation.specs.Rows.{row_line};
 ghost use Rattle.common_example.specs.Common.{example_result};
 ghost use Rattle.c_calls.specs.Examples.{example_line, OfHost, ExampleFirst, SecondRefusedIn, MarkedIn, given_side, ExampleCalledIn};
 
-use table::tables::Tables;
 use crate::answer::refuse;
 use crate::given::{pattern_numbers, refused_first, scope_of};
 use common_example::sides::ScopedPattern;
@@ -17,6 +16,7 @@ use operation::numbers::{OperationNumbers, are_listed, scoping_of};
 use operation::row::{Row, row_from};
 use planner::buffer::clear;
 use scope::ConversionAnswer;
+use table::tables::Tables;
 use table::{TableRefusal, refusal_number};
 
 fn example_row(answer: ExampleAnswer) -> Row
@@ -67,11 +67,7 @@ fn host_side(marks: &[u8], scheduler: u32, scoping: u32, pattern: u32) -> HostSi
 }
 
 // 7 of either side, then 1 and 2 of the first; or 0.
-fn first_refused(
-    tables: &Tables<'_>,
-    first: HostSide,
-    second: HostSide,
-) -> u32
+fn first_refused(tables: &Tables<'_>, first: HostSide, second: HostSide) -> u32
     ensures { ExampleFirst (contents tables.now) first second result }
 {
     let other = second.asked;
@@ -84,16 +80,10 @@ fn first_refused(
 }
 
 // Of a second side whose marks are refused: what the first side is refused for, then 2.
-fn second_refused(
-    tables: &Tables<'_>,
-    first: ScopedPattern,
-    values1: &[u32],
-) -> ExampleAnswer
+fn second_refused(tables: &Tables<'_>, first: ScopedPattern, values1: &[u32]) -> ExampleAnswer
     ensures { SecondRefusedIn (contents tables.now) first values1 result }
 {
-    let checked = refused_side(
-        tables, first, values1,
-    );
+    let checked = refused_side(tables, first, values1);
     match checked {
         Checked::Refused(answer) => answer,
         Checked::Passed => ExampleAnswer::TableRefused(TableRefusal::BreaksRules),
@@ -127,9 +117,7 @@ fn example_given(
     }
     clear(example_nodes);
     clear(example_children);
-    second_refused(
-        tables, first, values1,
-    )
+    second_refused(tables, first, values1)
 }
 
 // Gives a value that both patterns match, or none. Its nodes go on from the tables', its child entries from their child list.
@@ -156,9 +144,7 @@ pub fn teluddru_common_example(
 {
     let first = host_side(marks1, scheduler1, scoping1, pattern1);
     let second = host_side(marks2, scheduler2, scoping2, pattern2);
-    let before = first_refused(
-        tables, first, second,
-    );
+    let before = first_refused(tables, first, second);
     if before != 0 {
         clear(example_nodes);
         clear(example_children);

@@ -6,10 +6,10 @@ ghost use Rattle.operation.specs.Rows.{row_line};
 ghost use Rattle.table_fault.specs.Fault.{fault_told, fault_line};
 ghost use Rattle.c_calls.specs.Faults.{FaultCalledIn};
 
-use table::tables::Tables;
 use operation::inner::tell;
 use operation::row::{Row, row_from};
 use table::refusal_number;
+use table::tables::Tables;
 use table_fault::{FaultAnswer, table_fault};
 
 fn fault_row(answer: FaultAnswer) -> Row
@@ -26,11 +26,7 @@ fn fault_row(answer: FaultAnswer) -> Row
 }
 
 // The first rule that is broken and its first place, with the number of the table check.
-pub fn teluddru_table_fault(
-    tables: &Tables<'_>,
-    marks: &[u8],
-    answer: &mut [u32],
-) -> u32
+pub fn teluddru_table_fault(tables: &Tables<'_>, marks: &[u8], answer: &mut [u32]) -> u32
     ensures { FaultCalledIn answer (contents tables.now) marks result }
 {
     let found = table_fault(tables, marks);

@@ -6,10 +6,10 @@ ghost use Rattle.scope.specs.Bytes.{conversion_of, ConvertedFrom};
 ghost use Rattle.table.specs.Lent.{lent};
 ghost use Rattle.c_calls.specs.Given.{marks_of, byte_scope_of, pattern_numbers, GivenTold};
 
-use table::tables::Tables;
 use operation::numbers::{OperationNumbers, are_listed};
 use scope::{ByteScope, ConversionAnswer, Converted, Scope};
 use table::limits::within_limits;
+use table::tables::Tables;
 
 fn mark_at(marks: &[u8], i: usize) -> u8
     ensures { result ≡ get_or marks.now i 0 }

@@ -6,13 +6,13 @@ ghost use Rattle.operation.specs.Rows.{row_line};
 ghost use Rattle.first_miss.specs.Answer.{no_match_lem, miss_result_of};
 ghost use Rattle.c_calls.specs.Misses.{why_number, miss_line, MissCalledIn};
 
-use table::tables::Tables;
 use crate::answer::{refuse, run_row};
 use crate::given::{pattern_numbers, refused_first, scope_of};
 use first_miss::{Miss, MissAnswer, Why, first_miss};
 use operation::inner::tell;
 use operation::numbers::scoping_of;
 use operation::row::{Row, row_from};
+use table::tables::Tables;
 
 fn why_number(why: Why) -> u64
     ensures { result ≡ why_number why }
@@ -63,19 +63,10 @@ pub fn teluddru_first_miss(
     let made = scope_of(marks, scheduler);
     let converted = made.answer;
     let scope = made.scope;
-    let before = refused_first(
-        tables, converted, asked,
-    );
+    let before = refused_first(tables, converted, asked);
     if before != 0 {
         return refuse(answer, before);
     }
-    let missed = first_miss(
-        tables,
-        scope,
-        scoping_of(scoping),
-        pattern,
-        value,
-        values,
-    );
+    let missed = first_miss(tables, scope, scoping_of(scoping), pattern, value, values);
     tell(answer, miss_row(missed))
 }

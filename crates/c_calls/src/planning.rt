@@ -3,13 +3,13 @@ ghost use Rattle.table.specs.Contents.{contents};
 ghost use Rattle.table.specs.Lent.{lent};
 ghost use Rattle.c_calls.specs.Calls.{PlanCalledIn};
 
-use table::tables::Tables;
 use crate::answer::refuse;
 use crate::given::{refused_first, scope_of};
 use operation::inner::tell;
 use operation::numbers::{OperationNumbers, operation_of};
 use operation::row::row_of;
 use planner::buffer::clear;
+use table::tables::Tables;
 
 // Plans the operation into the buffer, for a version of Rego: any but 1 is version 0. Roots that it doesn't use are ignored.
 pub fn teluddru_plan(
@@ -38,19 +38,11 @@ pub fn teluddru_plan(
     let made = scope_of(marks, scheduler);
     let converted = made.answer;
     let scope = made.scope;
-    let before = refused_first(
-        tables, converted, asked,
-    );
+    let before = refused_first(tables, converted, asked);
     if before != 0 {
         clear(plan);
         return refuse(answer, before);
     }
-    let planned = operation::plan(
-        tables,
-        scope,
-        operation_of(asked),
-        version,
-        plan,
-    );
+    let planned = operation::plan(tables, scope, operation_of(asked), version, plan);
     tell(answer, row_of(planned))
 }

@@ -3,13 +3,13 @@ ghost use Rattle.table.specs.Contents.{contents};
 ghost use Rattle.table.specs.Lent.{lent};
 ghost use Rattle.c_calls.specs.Calls.{ReportCalledIn};
 
-use table::tables::Tables;
 use crate::answer::{refuse, report_row};
 use crate::given::{pattern_numbers, refused_first, scope_of};
 use operation::inner::tell;
 use operation::numbers::scoping_of;
 use planner::buffer::clear;
 use report::names_report;
+use table::tables::Tables;
 
 // For each name 1 bound in the pattern's plan, 2 met or a computed key but not bound there, else 0.
 pub fn teluddru_names_report(
@@ -27,19 +27,11 @@ pub fn teluddru_names_report(
     let made = scope_of(marks, scheduler);
     let converted = made.answer;
     let scope = made.scope;
-    let before = refused_first(
-        tables, converted, asked,
-    );
+    let before = refused_first(tables, converted, asked);
     if before != 0 {
         clear(list);
         return refuse(answer, before);
     }
-    let reported = names_report(
-        tables,
-        scope,
-        scoping_of(scoping),
-        pattern,
-        list,
-    );
+    let reported = names_report(tables, scope, scoping_of(scoping), pattern, list);
     tell(answer, report_row(reported))
 }

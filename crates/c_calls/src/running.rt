@@ -3,13 +3,13 @@ ghost use Rattle.table.specs.Contents.{contents};
 ghost use Rattle.table.specs.Lent.{lent};
 ghost use Rattle.c_calls.specs.Calls.{RunCalledIn};
 
-use table::tables::Tables;
 use crate::answer::{refuse, run_row};
 use crate::given::{pattern_numbers, refused_first, scope_of};
 use operation::inner::tell;
 use operation::numbers::scoping_of;
 use planner::buffer::clear;
 use run::run;
+use table::tables::Tables;
 
 // Runs the pattern on the value. `values` has for each name number the node of its value, or 0.
 pub fn teluddru_run(
@@ -29,9 +29,7 @@ pub fn teluddru_run(
     let made = scope_of(marks, scheduler);
     let converted = made.answer;
     let scope = made.scope;
-    let before = refused_first(
-        tables, converted, asked,
-    );
+    let before = refused_first(tables, converted, asked);
     if before != 0 {
         clear(plan);
         return refuse(answer, before);

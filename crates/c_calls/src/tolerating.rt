@@ -3,12 +3,12 @@ ghost use Rattle.table.specs.Contents.{contents};
 ghost use Rattle.table.specs.Lent.{lent};
 ghost use Rattle.c_calls.specs.Tolerating.{ToleratedIn};
 
-use table::tables::Tables;
 use crate::answer::{refuse, tolerance_row};
 use crate::given::{pattern_numbers, refused_first, scope_of};
 use operation::inner::tell;
 use operation::numbers::scoping_of;
 use planner::buffer::clear;
+use table::tables::Tables;
 use tolerance::run_with_tolerance;
 
 // Runs the pattern on the value, whatever numbers from the lowest to the highest its nodes have. Node n has two words of each list, from word (n - 1) * 2 on.
@@ -31,9 +31,7 @@ pub fn teluddru_run_with_tolerance(
     let made = scope_of(marks, scheduler);
     let converted = made.answer;
     let scope = made.scope;
-    let before = refused_first(
-        tables, converted, asked,
-    );
+    let before = refused_first(tables, converted, asked);
     if before != 0 {
         clear(plan);
         return refuse(answer, before);

@@ -7,13 +7,13 @@ ghost use Rattle.checks.specs.Structure.{structure};
 ghost use Rattle.planner.specs.code.Post.{GoodPair};
 ghost use Rattle.checks.specs.code.Post.{structure_at, items_structure, ItemsAsks, ObjectsAsks, WorkingSpaces, FieldsAsks, fields_structure, FieldAsks, OneMore};
 
-use table::tables::Tables;
 use crate::joining::{FieldsSoFar, is_settled, join, no_field_yet, with_field};
 use crate::partners::{each_paired, partner_place, pattern_at};
 use crate::texts::compare_object_keys;
 use crate::{LiteralStructureCheck, Reading};
 use table::node_kind;
 use table::reading::{child_at, count_of, first_of, kind_of};
+use table::tables::Tables;
 
 // A pattern against a value. The two arrays are for the objects' key nodes; all levels share them, which keeps the stack small.
 #[cycle(check_field_check_fields_check_items_check_object_check_structure)]
@@ -56,9 +56,7 @@ fn check_structure(
         );
     }
     if kind == node_kind::OBJECT {
-        return check_object(
-            tables, pattern, value, reading, keys, others,
-        );
+        return check_object(tables, pattern, value, reading, keys, others);
     }
     LiteralStructureCheck::Unknown
 }
@@ -82,9 +80,7 @@ fn check_items(
     for i in 0..left {
         let pattern = child_at(tables.children, at + i);
         let item = child_at(tables.children, place + i);
-        let check = check_structure(
-            tables, pattern, item, reading, keys, others,
-        );
+        let check = check_structure(tables, pattern, item, reading, keys, others);
         so_far = join(reading, so_far, check);
         if is_settled(reading, so_far) {
             return so_far;
@@ -107,9 +103,7 @@ fn check_object(
     ensures { let T = contents tables.now in (result ≡ structure_at reading T pattern value) × WorkingSpaces keys others }
 {
     let mut order = [0u8; 256];
-    let compared = compare_object_keys(
-        tables, pattern, value, &mut order, keys, others,
-    );
+    let compared = compare_object_keys(tables, pattern, value, &mut order, keys, others);
     if compared.total == 0 {
         return LiteralStructureCheck::Match;
     }
@@ -150,14 +144,12 @@ fn check_fields(
 {
     let count = count_of(tables.nodes, value) as usize;
     let paired = each_paired(
-        tables, pattern, value, order, literals, total,
-        reading, keys,
+        tables, pattern, value, order, literals, total, reading, keys,
     );
     let mut so_far = no_field_yet(paired, literals, total);
     for i in 0..count {
         so_far = check_field(
-            tables, pattern, value, order, literals, i,
-            reading, so_far, keys, others,
+            tables, pattern, value, order, literals, i, reading, so_far, keys, others,
         );
         if so_far.end == 0 {
             return so_far.check;
@@ -185,19 +177,13 @@ fn check_field(
 {
     let place = first_of(tables.nodes, value) as usize + i * 2;
     let key = child_at(tables.children, place);
-    let met = partner_place(
-        tables, pattern, order, literals, key,
-    );
+    let met = partner_place(tables, pattern, order, literals, key);
     if before.end <= met {
         return before;
     }
-    let other = pattern_at(
-        tables, pattern, order, literals, met,
-    );
+    let other = pattern_at(tables, pattern, order, literals, met);
     let child = child_at(tables.children, place + 1);
-    let check = check_structure(
-        tables, other, child, reading, keys, others,
-    );
+    let check = check_structure(tables, other, child, reading, keys, others);
     with_field(reading, before, met, check)
 }
 
@@ -213,12 +199,5 @@ pub fn check_literal_structure(
 {
     let mut keys = [0u32; 256];
     let mut others = [0u32; 256];
-    check_structure(
-        tables,
-        pattern,
-        value,
-        reading,
-        &mut keys,
-        &mut others,
-    )
+    check_structure(tables, pattern, value, reading, &mut keys, &mut others)
 }

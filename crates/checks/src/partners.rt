@@ -6,13 +6,13 @@ ghost use Rattle.std.specs.Prelude.{◌≡◌, ◌≤◌};
 ghost use Rattle.table.specs.Decode.{literal_at};
 ghost use Rattle.checks.specs.code.Post.{WorkingSpace, patterns_of, FieldsAsks, PartnerAsks, PlaceIs, SlotAsks, SlotIs, is_marked, Unmarked, MarkedAt, Marked, paired_at, paired_by};
 
-use table::tables::Tables;
 use crate::Reading;
 use planner::buffer::clear;
 use planner::fields::field_at;
 use planner::inner::fields::find_field;
 use table::Key;
 use table::reading::{child_at, count_of, extract_literal_key, first_of};
+use table::tables::Tables;
 
 // The place, in its order, of a pattern's field under a literal key equal to a value's; `literals` if there is none.
 pub(crate) fn partner_place(
@@ -29,9 +29,7 @@ pub(crate) fn partner_place(
         return literals;
     };
     let first = first_of(tables.nodes, pattern) as usize;
-    let found = find_field(
-        tables, first, order, literals, literal,
-    );
+    let found = find_field(tables, first, order, literals, literal);
     if found.equal {
         return found.place;
     }
@@ -78,9 +76,7 @@ fn mark_partners(
     let count = count_of(tables.nodes, value) as usize;
     for i in 0..count {
         let key = child_at(tables.children, first + i * 2);
-        let place = partner_place(
-            tables, pattern, order, literals, key,
-        );
+        let place = partner_place(tables, pattern, order, literals, key);
         mark(marks, place);
     }
 }
@@ -111,10 +107,7 @@ fn all_paired(
     ensures { let T = contents tables.now in (result ≡ paired_at T pattern value) × WorkingSpace marks }
 {
     clear(marks);
-    mark_partners(
-        tables, pattern, value, order, literals, total,
-        marks,
-    );
+    mark_partners(tables, pattern, value, order, literals, total, marks);
     all_marked(marks, literals)
 }
 
@@ -134,9 +127,6 @@ pub(crate) fn each_paired(
 {
     match reading {
         Reading::Present => true,
-        Reading::Careful => all_paired(
-            tables, pattern, value, order, literals, total,
-            marks,
-        ),
+        Reading::Careful => all_paired(tables, pattern, value, order, literals, total, marks),
     }
 }

@@ -9,7 +9,6 @@ ghost use Rattle.planner.specs.code.Post.{OrderAsks};
 ghost use Rattle.checks.specs.code.Texts.{is_greater, TextAsksIn, TextPlace, AddKeyAsks, KeyAdded, SortedKeys, ordered_key, OrderedAsks, texts_agree, BothAsks, TextsComparedBy};
 ghost use Rattle.checks.specs.code.Post.{WorkingSpaces, ObjectsAsks, KeysComparedBy};
 
-use table::tables::Tables;
 use base::words::insert_at;
 use literal::{Comparison, LiteralRef};
 use planner::fields::field_at;
@@ -18,6 +17,7 @@ use table::Key;
 use table::reading::{
     child_at, compare_key_text_to_node, compare_key_texts, count_of, extract_literal_key, first_of,
 };
+use table::tables::Tables;
 
 // A pattern's literal fields and all its fields in order; do the value's literal keys have the same texts?
 #[derive(Clone, Copy)]
@@ -109,18 +109,21 @@ fn sort_ordered(
     while 0 < q {
         q -= 1;
         let key = child_at(tables.children, first + field_at(order, q) * 2);
-        size = add_key(tables.nodes, tables.numbers, tables.strings, tables.text, key, keys, size);
+        size = add_key(
+            tables.nodes,
+            tables.numbers,
+            tables.strings,
+            tables.text,
+            key,
+            keys,
+            size,
+        );
     }
     size
 }
 
 // The same of all fields.
-fn sort_written(
-    tables: &Tables<'_>,
-    first: usize,
-    count: usize,
-    keys: &mut [u32; 256],
-) -> usize
+fn sort_written(tables: &Tables<'_>, first: usize, count: usize, keys: &mut [u32; 256]) -> usize
     requires { OrderAsks (contents tables.now) first count }
     ensures { let T = contents tables.now in SortedKeys T (field_key T first) count keys.old keys.new result }
 {
@@ -129,7 +132,15 @@ fn sort_written(
     while 0 < i {
         i -= 1;
         let key = child_at(tables.children, first + i * 2);
-        size = add_key(tables.nodes, tables.numbers, tables.strings, tables.text, key, keys, size);
+        size = add_key(
+            tables.nodes,
+            tables.numbers,
+            tables.strings,
+            tables.text,
+            key,
+            keys,
+            size,
+        );
     }
     size
 }
@@ -177,13 +188,18 @@ fn compare_texts(
     requires { BothAsks (contents tables.now) first order.now total from size }
     ensures { TextsComparedBy (contents tables.now) first order.now total from size result × WorkingSpaces keys others }
 {
-    let literals = sort_ordered(
-        tables, first, order, total, keys,
+    let literals = sort_ordered(tables, first, order, total, keys);
+    let count = sort_written(tables, from, size, others);
+    let same = same_texts(
+        tables.nodes,
+        tables.numbers,
+        tables.strings,
+        tables.text,
+        keys,
+        literals,
+        others,
+        count,
     );
-    let count = sort_written(
-        tables, from, size, others,
-    );
-    let same = same_texts(tables.nodes, tables.numbers, tables.strings, tables.text, keys, literals, others, count);
     ComparedKeys {
         literals,
         total,
@@ -205,13 +221,8 @@ pub(crate) fn compare_object_keys(
 {
     let first = first_of(tables.nodes, pattern) as usize;
     let count = count_of(tables.nodes, pattern) as usize;
-    let total = order_fields(
-        tables, first, count, order,
-    ) as usize;
+    let total = order_fields(tables, first, count, order) as usize;
     let from = first_of(tables.nodes, value) as usize;
     let size = count_of(tables.nodes, value) as usize;
-    compare_texts(
-        tables, first, order, total, from, size, keys,
-        others,
-    )
+    compare_texts(tables, first, order, total, from, size, keys, others)
 }

@@ -9,7 +9,6 @@ ghost use Rattle.common_example.specs.Common.{example_result, pattern_side, Comm
 ghost use Rattle.common_example.specs.code.Example.{given_result};
 ghost use Rattle.common_example.specs.code.Common.{SidesCheckedIn, WriteAsks, WrittenIn, GiveAsks, GivenIn, PassedAsks, PassedIn};
 
-use table::tables::Tables;
 use classes::{HEAD_WORDS, LINK_WORDS, PLACES};
 use example::{Given, write_example};
 use graph::node_places::node_place;
@@ -17,6 +16,7 @@ use planner::buffer::clear;
 use run::inner::names::start_list;
 use sides::{ScopedPattern, SideAnswer, check_side};
 use table::TableRefusal;
+use table::tables::Tables;
 use unifying::unify_patterns;
 
 mod classes;
@@ -85,16 +85,10 @@ fn answer_of(given: Given) -> ExampleAnswer
 }
 
 // The refusals of one side.
-pub fn refused_side(
-    tables: &Tables<'_>,
-    pattern: ScopedPattern,
-    values: &[u32],
-) -> Checked
+pub fn refused_side(tables: &Tables<'_>, pattern: ScopedPattern, values: &[u32]) -> Checked
     ensures { SideCheckedIn (contents tables.now) pattern values result }
 {
-    let answer = check_side(
-        tables, pattern, values,
-    );
+    let answer = check_side(tables, pattern, values);
     refusal(answer)
 }
 
@@ -108,15 +102,11 @@ fn check_sides(
 ) -> Checked
     ensures { SidesCheckedIn (contents tables.now) first values1 second values2 result }
 {
-    let one = refused_side(
-        tables, first, values1,
-    );
+    let one = refused_side(tables, first, values1);
     if let Checked::Refused(answer) = one {
         return Checked::Refused(answer);
     }
-    refused_side(
-        tables, second, values2,
-    )
+    refused_side(tables, second, values2)
 }
 
 // The value of the joined roots' class.
@@ -133,9 +123,7 @@ fn write_joined(
     requires { WriteAsks (contents tables.now) held1.now root1 heads.now links.now classes.now }
     ensures { let T = contents tables.now in WrittenIn T held1 root1 heads links classes example_nodes example_children result }
 {
-    let place = node_place(
-        tables, held1, root1, 0,
-    );
+    let place = node_place(tables, held1, root1, 0);
     let entries = tables.children.len() as u32;
     let given = write_example(
         tables.nodes,
@@ -235,9 +223,7 @@ pub fn common_example(
 ) -> ExampleAnswer
     ensures { let T = contents tables.now in CommonIn T first values1 second values2 example_nodes example_children result }
 {
-    let checked = check_sides(
-        tables, first, values1, second, values2,
-    );
+    let checked = check_sides(tables, first, values1, second, values2);
     if let Checked::Refused(answer) = checked {
         clear(example_nodes);
         clear(example_children);

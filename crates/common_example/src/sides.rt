@@ -8,11 +8,11 @@ ghost use Rattle.run.specs.code.NamesPost.{KnownAsks};
 ghost use Rattle.common_example.specs.Common.{pattern_side};
 ghost use Rattle.common_example.specs.code.Sides.{ValuesAnswered, InsideAsks, InsideAnswered, RootAsks, RootAnswered, SideAnswered};
 
-use table::tables::Tables;
 use run::inner::checks::{is_simple, values_listed};
 use run::inner::names::known_listed;
 use scope::{Scope, ScopingMode};
 use table::reading::is_node;
+use table::tables::Tables;
 use table::{TableAnswer, TableRefusal, check};
 use value::inner::admitted::mark_nodes;
 
@@ -36,11 +36,7 @@ pub enum SideAnswer {
 }
 
 // Is every listed node a value?
-fn all_listed(
-    tables: &Tables<'_>,
-    pattern: u32,
-    values: &[u32],
-) -> bool
+fn all_listed(tables: &Tables<'_>, pattern: u32, values: &[u32]) -> bool
     requires { AllAsks (contents tables.now) pattern values.now }
     ensures { result ≡ values_listed (contents tables.now) values.now }
 {
@@ -59,14 +55,10 @@ fn check_values(
     requires { KnownAsks (contents tables.now) scope pattern values.now }
     ensures { ValuesAnswered (contents tables.now) scope scoping pattern values.now result }
 {
-    if !all_listed(
-        tables, pattern, values,
-    ) {
+    if !all_listed(tables, pattern, values) {
         return SideAnswer::NotAValue;
     }
-    if !known_listed(
-        tables, scope, scoping, pattern, values,
-    ) {
+    if !known_listed(tables, scope, scoping, pattern, values) {
         return SideAnswer::NameWithoutValue;
     }
     SideAnswer::Passed
@@ -86,9 +78,7 @@ fn check_inside(
     if !is_simple(tables, pattern) {
         return SideAnswer::PatternNotSimple;
     }
-    check_values(
-        tables, scope, scoping, pattern, values,
-    )
+    check_values(tables, scope, scoping, pattern, values)
 }
 
 // Of a table that passed the check.
@@ -108,16 +98,10 @@ fn check_root(
     if values.len() < tables.names.len() / 2 {
         return SideAnswer::ListTooShort;
     }
-    check_inside(
-        tables, scope, scoping, pattern, values,
-    )
+    check_inside(tables, scope, scoping, pattern, values)
 }
 
-pub(crate) fn check_side(
-    tables: &Tables<'_>,
-    pattern: ScopedPattern,
-    values: &[u32],
-) -> SideAnswer
+pub(crate) fn check_side(tables: &Tables<'_>, pattern: ScopedPattern, values: &[u32]) -> SideAnswer
     ensures { SideAnswered (contents tables.now) (pattern_side pattern values.now) result }
 {
     let scope = pattern.scope;
@@ -126,11 +110,5 @@ pub(crate) fn check_side(
     if let TableAnswer::Refused(refused) = checked {
         return SideAnswer::TableRefused(refused);
     }
-    check_root(
-        tables,
-        scope,
-        scoping,
-        pattern.root,
-        values,
-    )
+    check_root(tables, scope, scoping, pattern.root, values)
 }

@@ -3,13 +3,13 @@ ghost use Rattle.table.specs.Contents.{contents};
 ghost use Rattle.table.specs.Lent.{given, lent};
 ghost use Rattle.common_example.specs.code.arrays.Unifying.{LinksFrom, LinksMade, GraphAsks, GraphMade, PatternsAsks, Unifies};
 
-use table::tables::Tables;
 use crate::classes::{HEAD_WORDS, LINK_WORDS, PLACES};
 use crate::graph::key_order::order_children;
 use crate::graph::likes::like_nodes;
 use crate::graph::node_places::{node_place, side_places};
 use crate::graph::words::{head_words, link_words};
 use crate::roots::unify_roots;
+use table::tables::Tables;
 use value::inner::admitted::mark_nodes;
 
 fn graph_links(
@@ -43,9 +43,7 @@ pub(crate) fn make_graph(
     let marks = mark_nodes(tables, true);
     let like = like_nodes(tables.nodes, tables.numbers, tables.strings, tables.text);
     head_words(tables.nodes, &marks, &like, heads);
-    graph_links(
-        tables, held1, held2, &marks, &like, links,
-    );
+    graph_links(tables, held1, held2, &marks, &like, links);
 }
 
 // False where no value is matched by both.
@@ -62,14 +60,8 @@ pub(crate) fn unify_patterns(
     requires { PatternsAsks (contents tables.now) held1.now held2.now root1 root2 }
     ensures { Unifies (contents tables.now) held1.now held2.now root1 root2 heads.new links.new classes.new result }
 {
-    make_graph(
-        tables, held1, held2, heads, links,
-    );
-    let a = node_place(
-        tables, held1, root1, 0,
-    );
-    let b = node_place(
-        tables, held2, root2, 1,
-    );
+    make_graph(tables, held1, held2, heads, links);
+    let a = node_place(tables, held1, root1, 0);
+    let b = node_place(tables, held2, root2, 1);
     unify_roots(heads, links, classes, a, b)
 }

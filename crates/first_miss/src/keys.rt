@@ -5,9 +5,9 @@ ghost use Rattle.std.specs.Prelude.{◌≡◌};
 ghost use Rattle.value.specs.code.Post.{KeySetsAsks};
 ghost use Rattle.first_miss.specs.code.Post.{comes_before, LesserAsks, LesserTold, MissingTold, OtherTold};
 
-use table::tables::Tables;
 use literal::Comparison;
 use table::reading::{child_at, compare_literals, count_of, first_of};
+use table::tables::Tables;
 use value::inner::fields::value_under;
 
 // Is a key before another, in key order?
@@ -31,37 +31,32 @@ fn comes_before<'a>(
 }
 
 // The least missing key so far, or 0, once a key is looked for in an object, at first at `position`.
-fn lesser_missing(
-    tables: &Tables<'_>,
-    object: u32,
-    position: usize,
-    key: u32,
-    least: u32,
-) -> u32
+fn lesser_missing(tables: &Tables<'_>, object: u32, position: usize, key: u32, least: u32) -> u32
     requires { LesserAsks (contents tables.now) object key least }
     ensures { LesserTold (contents tables.now) object key least result }
 {
-    let value = value_under(
-        tables, object, position, key,
-    );
+    let value = value_under(tables, object, position, key);
     if value != 0 {
         return least;
     }
     if least == 0 {
         return key;
     }
-    if comes_before(tables.nodes, tables.numbers, tables.strings, tables.text, key, least) {
+    if comes_before(
+        tables.nodes,
+        tables.numbers,
+        tables.strings,
+        tables.text,
+        key,
+        least,
+    ) {
         return key;
     }
     least
 }
 
 // The least key of one object that another lacks, or 0.
-pub(crate) fn missing_key(
-    tables: &Tables<'_>,
-    a: u32,
-    b: u32,
-) -> u32
+pub(crate) fn missing_key(tables: &Tables<'_>, a: u32, b: u32) -> u32
     requires { KeySetsAsks (contents tables.now) a b }
     ensures { MissingTold (contents tables.now) a b result }
 {
@@ -71,19 +66,13 @@ pub(crate) fn missing_key(
     while 0 < left {
         left -= 1;
         let key = child_at(tables.children, first + left * 2);
-        least = lesser_missing(
-            tables, b, left, key, least,
-        );
+        least = lesser_missing(tables, b, left, key, least);
     }
     least
 }
 
 // The first key, as written, of one object that another lacks, or 0.
-pub(crate) fn other_key(
-    tables: &Tables<'_>,
-    a: u32,
-    b: u32,
-) -> u32
+pub(crate) fn other_key(tables: &Tables<'_>, a: u32, b: u32) -> u32
     requires { KeySetsAsks (contents tables.now) a b }
     ensures { OtherTold (contents tables.now) a b result }
 {

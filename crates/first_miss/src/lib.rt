@@ -5,11 +5,11 @@ ghost use Rattle.table.specs.Contents.{contents};
 ghost use Rattle.table.specs.Lent.{lent};
 ghost use Rattle.first_miss.specs.Operations.{MissToldIn};
 
-use table::tables::Tables;
 use run::RunAnswer;
 use run::inner::names::start_list;
 use run::inner::refusals::{RunCheck, check_run};
 use scope::{Scope, ScopingMode};
+use table::tables::Tables;
 use walking::{Walked, walk};
 
 mod keys;
@@ -53,16 +53,12 @@ pub fn first_miss(
 ) -> MissAnswer
     ensures { MissToldIn values (contents tables.now) scope scoping pattern value result }
 {
-    let checked = check_run(
-        tables, scope, scoping, pattern, value, values,
-    );
+    let checked = check_run(tables, scope, scoping, pattern, value, values);
     if let RunCheck::Refused(answer) = checked {
         return MissAnswer::Refused(answer);
     }
     let mut list = start_list(tables.names, scope, scoping, values);
-    let walked = walk(
-        tables, &mut list, pattern, value,
-    );
+    let walked = walk(tables, &mut list, pattern, value);
     match walked {
         Walked::Matched => MissAnswer::Match,
         Walked::Missed(miss) => MissAnswer::NoMatch(miss),

@@ -4,12 +4,12 @@ ghost use Rattle.table.specs.Lent.{given, lent};
 ghost use Rattle.std.specs.Prelude.{◌≡◌};
 ghost use Rattle.first_miss.specs.code.Post.{literal_walked, array_walked, ObjectTold, LiteralAsks, ObjectAsks, WalkAsks, NameAsks, ItemsAsks, FieldsAsks, walk_nodes, walk_listed, walk_under, CameIn};
 
-use table::tables::Tables;
 use crate::keys::{missing_key, other_key};
 use crate::{Miss, Why};
 use run::inner::names::is_wildcard;
 use table::node_kind;
 use table::reading::{child_at, count_of, first_of, kind_of};
+use table::tables::Tables;
 use value::inner::equality::same_value;
 use value::inner::fields::value_under;
 
@@ -21,11 +21,7 @@ pub enum Walked {
 }
 
 // A literal of the pattern and a value.
-fn walk_literal(
-    tables: &Tables<'_>,
-    a: u32,
-    b: u32,
-) -> Walked
+fn walk_literal(tables: &Tables<'_>, a: u32, b: u32) -> Walked
     requires { LiteralAsks (contents tables.now) a b }
     ensures { result ≡ literal_walked (contents tables.now) a b }
 {
@@ -40,12 +36,7 @@ fn walk_literal(
 }
 
 // A name of the pattern and a value.
-fn walk_name(
-    tables: &Tables<'_>,
-    list: &mut [u32; 128],
-    a: u32,
-    b: u32,
-) -> Walked
+fn walk_name(tables: &Tables<'_>, list: &mut [u32; 128], a: u32, b: u32) -> Walked
     requires { NameAsks (contents tables.now) a b list.old }
     ensures { let T = contents tables.now in CameIn list T (walk_nodes T a b) result }
 {
@@ -91,11 +82,7 @@ fn walk_array(nodes: &[u32], a: u32, b: u32) -> Walked
 }
 
 // Is a value an object of the pattern's keys?
-fn walk_object(
-    tables: &Tables<'_>,
-    a: u32,
-    b: u32,
-) -> Walked
+fn walk_object(tables: &Tables<'_>, a: u32, b: u32) -> Walked
     requires { ObjectAsks (contents tables.now) a b }
     ensures { ObjectTold (contents tables.now) a b result }
 {
@@ -126,12 +113,7 @@ fn walk_object(
 }
 
 #[cycle(walk_walk_fields_walk_items)]
-pub(crate) fn walk(
-    tables: &Tables<'_>,
-    list: &mut [u32; 128],
-    a: u32,
-    b: u32,
-) -> Walked
+pub(crate) fn walk(tables: &Tables<'_>, list: &mut [u32; 128], a: u32, b: u32) -> Walked
     requires { WalkAsks (contents tables.now) a b list.old }
     ensures { let T = contents tables.now in CameIn list T (walk_nodes T a b) result }
 {
@@ -158,12 +140,7 @@ pub(crate) fn walk(
 
 // The items of two arrays of one length.
 #[cycle(walk_walk_fields_walk_items)]
-fn walk_items(
-    tables: &Tables<'_>,
-    list: &mut [u32; 128],
-    a: u32,
-    b: u32,
-) -> Walked
+fn walk_items(tables: &Tables<'_>, list: &mut [u32; 128], a: u32, b: u32) -> Walked
     requires { ItemsAsks (contents tables.now) a b list.old }
     ensures { let T = contents tables.now in CameIn list T (walk_listed T a b) result }
 {
@@ -173,9 +150,7 @@ fn walk_items(
     for i in 0..count {
         let item = child_at(tables.children, at + i);
         let part = child_at(tables.children, from + i);
-        let walked = walk(
-            tables, list, item, part,
-        );
+        let walked = walk(tables, list, item, part);
         if let Walked::Missed(miss) = walked {
             return Walked::Missed(miss);
         }
@@ -185,12 +160,7 @@ fn walk_items(
 
 // The fields of two objects of the same keys, as the pattern has them.
 #[cycle(walk_walk_fields_walk_items)]
-fn walk_fields(
-    tables: &Tables<'_>,
-    list: &mut [u32; 128],
-    a: u32,
-    b: u32,
-) -> Walked
+fn walk_fields(tables: &Tables<'_>, list: &mut [u32; 128], a: u32, b: u32) -> Walked
     requires { FieldsAsks (contents tables.now) a b list.old }
     ensures { let T = contents tables.now in CameIn list T (walk_under T a b) result }
 {
@@ -201,9 +171,7 @@ fn walk_fields(
         let key = child_at(tables.children, place);
         let value = child_at(tables.children, place + 1);
         let part = value_under(tables, b, i, key);
-        let walked = walk(
-            tables, list, value, part,
-        );
+        let walked = walk(tables, list, value, part);
         if let Walked::Missed(miss) = walked {
             return Walked::Missed(miss);
         }

@@ -8,12 +8,12 @@ ghost use Rattle.value.specs.Value.{value_of, same};
 ghost use Rattle.planner.specs.code.Post.{NameNumber};
 ghost use Rattle.matching.specs.code.Post.{held_value, EntryAsks, ItemsAsks, FieldsAsks, CameIn, CompareAsks, PatternAsks, PatternCame};
 
-use table::tables::Tables;
 use crate::links::{entry_number, link_entries};
 use planner::buffer::{ENTRY_WORDS, PATTERN_WORDS};
 use planner::entry_kind;
 use table::node_kind;
 use table::reading::{child_at, count_of, first_of, kind_of};
+use table::tables::Tables;
 use value::inner::equality::same_value;
 use value::inner::fields::{same_key_sets, value_under};
 
@@ -27,12 +27,7 @@ fn bind_name(nodes: &[u32], list: &mut [u32; 128], node: u32, value: u32)
 }
 
 // Is a value equal to that of the name at a node?
-fn equals_name(
-    tables: &Tables<'_>,
-    list: &[u32; 128],
-    node: u32,
-    value: u32,
-) -> bool
+fn equals_name(tables: &Tables<'_>, list: &[u32; 128], node: u32, value: u32) -> bool
     requires { CompareAsks (contents tables.now) list.now node value }
     ensures { let T = contents tables.now in result ≡ same (held_value T list.now node) (value_of (expr T value)) }
 {
@@ -66,9 +61,7 @@ fn match_entry(
         return true;
     }
     if kind == entry_kind::COMPARE_EXPRESSION {
-        return equals_name(
-            tables, list, node, value,
-        );
+        return equals_name(tables, list, node, value);
     }
     if kind == entry_kind::COMPARE_LITERAL {
         return same_value(tables, node, value);
@@ -127,10 +120,7 @@ fn match_items(
     for i in 0..count {
         let item = entry_number(links[start + i as usize]);
         let part = child_at(tables.children, from + i as usize);
-        if !match_entry(
-            tables, scratch, starts, links, item, part,
-            rest, list,
-        ) {
+        if !match_entry(tables, scratch, starts, links, item, part, rest, list) {
             return false;
         }
     }
@@ -164,13 +154,8 @@ fn match_fields(
     for i in 0..count {
         let field = entry_number(links[start + i as usize]);
         let key = scratch[field * ENTRY_WORDS + 3];
-        let part = value_under(
-            tables, value, i as usize, key,
-        );
-        if !match_entry(
-            tables, scratch, starts, links, field, part,
-            rest, list,
-        ) {
+        let part = value_under(tables, value, i as usize, key);
+        if !match_entry(tables, scratch, starts, links, field, part, rest, list) {
             return false;
         }
     }
@@ -199,10 +184,7 @@ pub fn match_pattern(
     let starts = linked.starts;
     let links = linked.entries;
     let mut list = start;
-    let matched = match_entry(
-        tables, scratch, &starts, &links, 0, value, 32,
-        &mut list,
-    );
+    let matched = match_entry(tables, scratch, &starts, &links, 0, value, 32, &mut list);
     if matched {
         return Matched {
             matched: true,

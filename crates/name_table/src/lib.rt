@@ -9,10 +9,10 @@ ghost use Rattle.std.specs.Prelude.{◌≡◌, ◌≤◌};
 ghost use Rattle.name_table.specs.Adding.{has_names, checked_in_use, allowed, number_from, at_end, add_outcome};
 ghost use Rattle.name_table.specs.Answer.{NameAddedIn};
 
-use table::tables::Tables;
 use scope::Scope;
 use table::limits::within_limits;
 use table::reading::{name_bytes, same_bytes};
+use table::tables::Tables;
 use table::{TableAnswer, TableRefusal, check};
 
 // A name that the table rules don't allow is refused as BreaksRules.
@@ -35,10 +35,7 @@ fn has_names(names: &[u32], used: u32) -> bool
 }
 
 // The table check of the names in use, which are the first of the lent table.
-fn check_in_use(
-    tables: &Tables<'_>,
-    used: u32,
-) -> TableAnswer
+fn check_in_use(tables: &Tables<'_>, used: u32) -> TableAnswer
     ensures { tested_of result ≡ checked_in_use (contents tables.now) used }
 {
     if 128 < used {
@@ -56,7 +53,14 @@ fn check_in_use(
             Scope::new(0, false),
         );
     }
-    if within_limits(tables.nodes, tables.children, tables.numbers, &tables.names[..0], tables.strings, tables.text) {
+    if within_limits(
+        tables.nodes,
+        tables.children,
+        tables.numbers,
+        &tables.names[..0],
+        tables.strings,
+        tables.text,
+    ) {
         return TableAnswer::Refused(TableRefusal::BreaksRules);
     }
     TableAnswer::Refused(TableRefusal::OverLimit)

@@ -13,7 +13,6 @@ ghost use Rattle.planner.specs.Operations.{AnsweredIn};
 ghost use Rattle.operation.specs.Operation.{operation_outcome};
 ghost use Rattle.operation.specs.Version.{version_outcome};
 
-use table::tables::Tables;
 use crate::version::refusing_name;
 use assignment::AssignOp;
 use assignment::assignment::create_assignment_binding_plan;
@@ -24,6 +23,7 @@ use planner::destructuring::create_destructuring_plan;
 use planner::parameters::{create_loop_index_binding_plan, create_parameter_binding_plan};
 use scope::{Scope, ScopingMode};
 use some_in::create_some_in_binding_plan;
+use table::tables::Tables;
 
 // Versions of Rego; any number but 1 counts as 0.
 pub const REGO_V0: u32 = 0;
@@ -63,12 +63,7 @@ pub enum Operation {
 }
 
 // Version 0.
-fn plan_v0(
-    tables: &Tables<'_>,
-    scope: Scope,
-    operation: Operation,
-    plan: &mut [u32],
-) -> PlanAnswer
+fn plan_v0(tables: &Tables<'_>, scope: Scope, operation: Operation, plan: &mut [u32]) -> PlanAnswer
     ensures { AnsweredIn plan (operation_outcome (contents tables.now) scope operation) result }
 {
     match operation {
@@ -106,13 +101,8 @@ fn plan_v0(
             collection,
             key,
             reading,
-        } => create_some_in_binding_plan(
-            tables, scope, value, collection, key, reading,
-            plan,
-        ),
-        Operation::Index { root } => create_loop_index_binding_plan(
-            tables, scope, root, plan,
-        ),
+        } => create_some_in_binding_plan(tables, scope, value, collection, key, reading, plan),
+        Operation::Index { root } => create_loop_index_binding_plan(tables, scope, root, plan),
         Operation::Parameter { scoping, root } => create_parameter_binding_plan(
             tables, scope, scoping, root, plan,
         ),
@@ -129,14 +119,10 @@ pub fn plan(
 ) -> PlanAnswer
     ensures { AnsweredIn plan (version_outcome (contents tables.now) scope version operation) result }
 {
-    let name = refusing_name(
-        tables, scope, operation, version,
-    );
+    let name = refusing_name(tables, scope, operation, version);
     if name != 0 {
         clear(plan);
         return PlanAnswer::ReservedName { name };
     }
-    plan_v0(
-        tables, scope, operation, plan,
-    )
+    plan_v0(tables, scope, operation, plan)
 }

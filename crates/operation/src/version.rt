@@ -8,13 +8,13 @@ ghost use Rattle.planner.specs.code.Post.{GoodRoot};
 ghost use Rattle.operation.specs.Version.{reserved_in, first_reserved};
 ghost use Rattle.operation.specs.code.Reserved.{reserved_state, reserved_states, ReservedAsks, refusing_name};
 
-use table::tables::Tables;
 use crate::patterns::{patterns_of, roots_are_nodes};
 use crate::{Operation, REGO_V1};
 use planner::context::name_states;
 use planner::inner::names::first_name;
 use scope::{Scope, ScopingMode};
 use table::reading::name_class;
+use table::tables::Tables;
 use table::{NameClass, TableAnswer, check};
 
 // The state of a name, 0 for one that is not reserved.
@@ -42,52 +42,31 @@ fn reserved_states(names: &[u32], text: &[u8], scope: Scope, scoping: ScopingMod
 }
 
 // The node of the first reserved name that the pattern would plan, or 0.
-fn reserved_in(
-    tables: &Tables<'_>,
-    scope: Scope,
-    scoping: ScopingMode,
-    root: u32,
-) -> u32
+fn reserved_in(tables: &Tables<'_>, scope: Scope, scoping: ScopingMode, root: u32) -> u32
     requires { GoodRoot (contents tables.now) root }
     ensures { result ≡ reserved_in (contents tables.now) scope scoping root }
 {
     let reserved = reserved_states(tables.names, tables.text, scope, scoping);
     let sets = false;
     let keys = false;
-    first_name(
-        tables, &reserved, sets, keys, root,
-    )
+    first_name(tables, &reserved, sets, keys, root)
 }
 
 // That of the first pattern that has one.
-fn first_reserved(
-    tables: &Tables<'_>,
-    scope: Scope,
-    operation: Operation,
-) -> u32
+fn first_reserved(tables: &Tables<'_>, scope: Scope, operation: Operation) -> u32
     requires { ReservedAsks (contents tables.now) operation }
     ensures { result ≡ first_reserved (contents tables.now) scope operation }
 {
     let patterns = patterns_of(operation);
     let scoping = patterns.scoping;
-    let node = reserved_in(
-        tables,
-        scope,
-        scoping,
-        patterns.first,
-    );
+    let node = reserved_in(tables, scope, scoping, patterns.first);
     if node != 0 {
         return node;
     }
     if !patterns.two {
         return 0;
     }
-    reserved_in(
-        tables,
-        scope,
-        scoping,
-        patterns.second,
-    )
+    reserved_in(tables, scope, scoping, patterns.second)
 }
 
 // The node of the name that refuses the operation, or 0: under version 1, where table check and roots don't refuse it.
@@ -109,7 +88,5 @@ pub(crate) fn refusing_name(
     if !roots_are_nodes(tables.nodes, operation) {
         return 0;
     }
-    first_reserved(
-        tables, scope, operation,
-    )
+    first_reserved(tables, scope, operation)
 }

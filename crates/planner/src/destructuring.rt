@@ -5,13 +5,13 @@ ghost use Rattle.planner.specs.code.Post.{GoodRoot};
 ghost use Rattle.planner.specs.Operations.{pattern_outcome, AnsweredIn};
 ghost use Rattle.planner.specs.code.Validation.{planned_if, outcome_if};
 
-use table::tables::Tables;
 use crate::PlanAnswer;
 use crate::buffer::{clear, close};
 use crate::inner::destructuring::plan_pattern;
 use crate::inner::parameters::validate_pattern_bindings;
 use scope::{Scope, ScopingMode};
 use table::reading::is_node;
+use table::tables::Tables;
 use table::{TableAnswer, check};
 
 // A pattern of a good table: its plan in the lent buffer, or, if it is validated, its first name that is defined already.
@@ -27,22 +27,12 @@ fn deliver_pattern(
     ensures { AnsweredIn plan (planned_if validate (contents tables.now) scope scoping root) result }
 {
     let mut binders = [0u32; 128];
-    let planned = plan_pattern(
-        tables,
-        scope,
-        scoping,
-        root,
-        &mut binders,
-        plan,
-        0,
-    );
+    let planned = plan_pattern(tables, scope, scoping, root, &mut binders, plan, 0);
     let count = planned.next;
     if !validate {
         return close(plan, 0, count);
     }
-    let name = validate_pattern_bindings(
-        tables, scope, &binders, root,
-    );
+    let name = validate_pattern_bindings(tables, scope, &binders, root);
     if name != 0 {
         clear(plan);
         return PlanAnswer::VariableAlreadyDefined { name };
@@ -70,9 +60,7 @@ pub(crate) fn create_plan(
         clear(plan);
         return PlanAnswer::RootOutside;
     }
-    deliver_pattern(
-        tables, scope, scoping, validate, root, plan,
-    )
+    deliver_pattern(tables, scope, scoping, validate, root, plan)
 }
 
 // The pattern call: the plan of a pattern in the lent buffer.
@@ -85,7 +73,5 @@ pub fn create_destructuring_plan(
 ) -> PlanAnswer
     ensures { AnsweredIn plan (pattern_outcome (contents tables.now) scope scoping root) result }
 {
-    create_plan(
-        tables, scope, scoping, false, root, plan,
-    )
+    create_plan(tables, scope, scoping, false, root, plan)
 }

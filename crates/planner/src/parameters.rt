@@ -3,10 +3,10 @@ ghost use Rattle.table.specs.Contents.{contents};
 ghost use Rattle.table.specs.Lent.{lent};
 ghost use Rattle.planner.specs.Operations.{index_outcome, parameter_outcome, AnsweredIn};
 
-use table::tables::Tables;
 use crate::PlanAnswer;
 use crate::destructuring::{create_destructuring_plan, create_plan};
 use scope::{Scope, ScopingMode};
+use table::tables::Tables;
 
 // The loop index call: its plan respects the parent scope.
 pub fn create_loop_index_binding_plan(
@@ -17,13 +17,7 @@ pub fn create_loop_index_binding_plan(
 ) -> PlanAnswer
     ensures { AnsweredIn plan (index_outcome (contents tables.now) scope root) result }
 {
-    create_destructuring_plan(
-        tables,
-        scope,
-        ScopingMode::RespectParent,
-        root,
-        plan,
-    )
+    create_destructuring_plan(tables, scope, ScopingMode::RespectParent, root, plan)
 }
 
 // The parameter call: only AllowShadowing parameters are validated.
@@ -37,15 +31,7 @@ pub fn create_parameter_binding_plan(
     ensures { AnsweredIn plan (parameter_outcome (contents tables.now) scope scoping root) result }
 {
     match scoping {
-        ScopingMode::RespectParent => {
-            create_plan(
-                tables, scope, scoping, false, root, plan,
-            )
-        }
-        ScopingMode::AllowShadowing => {
-            create_plan(
-                tables, scope, scoping, true, root, plan,
-            )
-        }
+        ScopingMode::RespectParent => { create_plan(tables, scope, scoping, false, root, plan) }
+        ScopingMode::AllowShadowing => { create_plan(tables, scope, scoping, true, root, plan) }
     }
 }

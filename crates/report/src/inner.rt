@@ -7,10 +7,10 @@ ghost use Rattle.base.specs.Lists.{tabulate};
 ghost use Rattle.planner.specs.code.Post.{GoodRoot};
 ghost use Rattle.report.specs.code.Post.{met_words, met_mark};
 
-use table::tables::Tables;
 use planner::buffer::PATTERN_WORDS;
 use planner::inner::destructuring::plan_pattern;
 use scope::{Scope, ScopingMode};
+use table::tables::Tables;
 
 // 2 for a name that is met.
 fn met_mark(met: &[u32; 128], i: usize) -> u32
@@ -35,10 +35,7 @@ pub(crate) fn mark_met(met: &[u32; 128], list: &mut [u32])
 }
 
 // 2 for each name that a pattern meets, else 0: they are those that it would plan if none were known.
-pub fn names_met(
-    tables: &Tables<'_>,
-    pattern: u32,
-) -> [u32; 128]
+pub fn names_met(tables: &Tables<'_>, pattern: u32) -> [u32; 128]
     requires { GoodRoot (contents tables.now) pattern }
     ensures { result ≡ met_words (expr (contents tables.now) pattern) }
 {

@@ -7,20 +7,15 @@ ghost use Rattle.planner.specs.code.Post.{Walks, WalksChildren, GoodRoot};
 ghost use Rattle.report.specs.ComputedKeys.{key_name, key_names, names_as_keys};
 ghost use Rattle.report.specs.code.Post.{report_words, marked, keys_below, ObjectAsks};
 
-use table::tables::Tables;
 use crate::inner::names_met;
 use planner::context::name_states;
 use scope::{Scope, ScopingMode};
 use table::node_kind;
 use table::reading::{child_at, count_of, first_of, kind_of};
+use table::tables::Tables;
 
 // 2 for a key that is a name; `_`, and no other name, has state 2.
-fn mark_key(
-    tables: &Tables<'_>,
-    states: &[u8; 128],
-    key: u32,
-    met: &mut [u32; 128],
-)
+fn mark_key(tables: &Tables<'_>, states: &[u8; 128], key: u32, met: &mut [u32; 128])
     requires { Walks (contents tables.now) states.now key }
     ensures { met.new ≡ marked (key_name (expr (contents tables.now) key)) met.old }
 {
@@ -33,12 +28,7 @@ fn mark_key(
 }
 
 // Those of one object.
-fn mark_object_keys(
-    tables: &Tables<'_>,
-    states: &[u8; 128],
-    object: u32,
-    met: &mut [u32; 128],
-)
+fn mark_object_keys(tables: &Tables<'_>, states: &[u8; 128], object: u32, met: &mut [u32; 128])
     requires { ObjectAsks (contents tables.now) states.now object }
     ensures { met.new ≡ marked (key_names (fields_of (contents tables.now) object)) met.old }
 {
@@ -46,9 +36,7 @@ fn mark_object_keys(
     let mut more = count_of(tables.nodes, object) as usize;
     while 0 < more {
         let key = child_at(tables.children, place);
-        mark_key(
-            tables, states, key, met,
-        );
+        mark_key(tables, states, key, met);
         place += 2;
         more -= 1;
     }
@@ -56,12 +44,7 @@ fn mark_object_keys(
 
 // Those of the objects at a node and below it, through arrays and object values.
 #[cycle(mark_keys_mark_keys_below)]
-fn mark_keys(
-    tables: &Tables<'_>,
-    states: &[u8; 128],
-    node: u32,
-    met: &mut [u32; 128],
-)
+fn mark_keys(tables: &Tables<'_>, states: &[u8; 128], node: u32, met: &mut [u32; 128])
     requires { Walks (contents tables.now) states.now node }
     ensures { met.new ≡ marked (names_as_keys (expr (contents tables.now) node)) met.old }
 {
@@ -69,19 +52,13 @@ fn mark_keys(
     let at = first_of(tables.nodes, node) as usize;
     let left = count_of(tables.nodes, node) as usize;
     if kind == node_kind::ARRAY {
-        mark_keys_below(
-            tables, states, node, at, 1, left, met,
-        );
+        mark_keys_below(tables, states, node, at, 1, left, met);
         return;
     }
     if kind == node_kind::OBJECT {
-        mark_object_keys(
-            tables, states, node, met,
-        );
+        mark_object_keys(tables, states, node, met);
         let values = at + 1;
-        mark_keys_below(
-            tables, states, node, values, 2, left, met,
-        );
+        mark_keys_below(tables, states, node, values, 2, left, met);
     }
 }
 
@@ -103,27 +80,25 @@ fn mark_keys_below(
     let mut more = left;
     while 0 < more {
         let child = child_at(tables.children, place);
-        mark_keys(
-            tables, states, child, met,
-        );
+        mark_keys(tables, states, child, met);
         place += step;
         more -= 1;
     }
 }
 
 // 2 for each name that a pattern meets or that stands as a computed key in it, else 0.
-pub(crate) fn names_reported(
-    tables: &Tables<'_>,
-    pattern: u32,
-) -> [u32; 128]
+pub(crate) fn names_reported(tables: &Tables<'_>, pattern: u32) -> [u32; 128]
     requires { GoodRoot (contents tables.now) pattern }
     ensures { result ≡ report_words (expr (contents tables.now) pattern) }
 {
     let none_known = Scope::new(0, false);
-    let states = name_states(tables.names, tables.text, none_known, ScopingMode::AllowShadowing);
-    let mut met = names_met(tables, pattern);
-    mark_keys(
-        tables, &states, pattern, &mut met,
+    let states = name_states(
+        tables.names,
+        tables.text,
+        none_known,
+        ScopingMode::AllowShadowing,
     );
+    let mut met = names_met(tables, pattern);
+    mark_keys(tables, &states, pattern, &mut met);
     met
 }

@@ -7,7 +7,6 @@ ghost use Rattle.std.specs.Prelude.{◌≡◌};
 ghost use Rattle.report.specs.Report.{ReportedIn};
 ghost use Rattle.report.specs.code.Post.{EntryBound, marked_by, BoundAsks, BoundMarked, ReportAsks, PlannedMarked, ReportMarked};
 
-use table::tables::Tables;
 use inner::mark_met;
 use keys::names_reported;
 use planner::buffer::{ENTRY_WORDS, PATTERN_WORDS, clear};
@@ -15,6 +14,7 @@ use planner::entry_kind;
 use planner::inner::destructuring::plan_pattern;
 use scope::{Scope, ScopingMode};
 use table::reading::{first_of, is_node};
+use table::tables::Tables;
 use table::{TableAnswer, TableRefusal, check};
 
 pub mod inner;
@@ -90,9 +90,7 @@ fn report_names(
 {
     let met = names_reported(tables, pattern);
     mark_met(&met, list);
-    mark_planned(
-        tables, scope, scoping, pattern, list,
-    );
+    mark_planned(tables, scope, scoping, pattern, list);
 }
 
 // For each name 1 bound in the pattern's plan, 2 met or a computed key but not bound there, else 0.
@@ -118,8 +116,6 @@ pub fn names_report(
         clear(list);
         return ReportAnswer::ListTooShort;
     }
-    report_names(
-        tables, scope, scoping, pattern, list,
-    );
+    report_names(tables, scope, scoping, pattern, list);
     ReportAnswer::Reported
 }

@@ -6,7 +6,6 @@ ghost use Rattle.table.specs.Lent.{given, lent};
 ghost use Rattle.run.specs.Operations.{RanIn};
 ghost use Rattle.run.specs.code.Post.{RunAsks, MatchValuesAsks, ValuesCameIn, CarriedIn};
 
-use table::tables::Tables;
 use inner::names::{set_names, start_list};
 use inner::refusals::{RunCheck, check_run};
 use matching::inner::match_pattern;
@@ -14,6 +13,7 @@ use planner::buffer::{ENTRY_WORDS, PATTERN_WORDS, clear, close, copy_entries};
 use planner::inner::destructuring::plan_pattern;
 use scope::{Scope, ScopingMode};
 use table::TableRefusal;
+use table::tables::Tables;
 
 pub mod inner;
 
@@ -45,9 +45,7 @@ fn match_values(
     ensures { let T = contents tables.now in ValuesCameIn values T scope scoping scratch.now count binders.now value result }
 {
     let start = start_list(tables.names, scope, scoping, values);
-    let done = match_pattern(
-        tables, scratch, count, value, start,
-    );
+    let done = match_pattern(tables, scratch, count, value, start);
     if !done.matched {
         return RunAnswer::NoMatch;
     }
@@ -87,8 +85,7 @@ fn carry_out(
         return RunAnswer::PlanTooLarge { needed: count };
     }
     match_values(
-        tables, scope, scoping, &scratch, count, &binders,
-        value, values,
+        tables, scope, scoping, &scratch, count, &binders, value, values,
     )
 }
 
@@ -104,15 +101,10 @@ pub fn run(
 ) -> RunAnswer
     ensures { RanIn values plan (contents tables.now) scope scoping pattern value result }
 {
-    let checked = check_run(
-        tables, scope, scoping, pattern, value, values,
-    );
+    let checked = check_run(tables, scope, scoping, pattern, value, values);
     if let RunCheck::Refused(answer) = checked {
         clear(plan);
         return answer;
     }
-    carry_out(
-        tables, scope, scoping, pattern, value, values,
-        plan,
-    )
+    carry_out(tables, scope, scoping, pattern, value, values, plan)
 }

@@ -8,20 +8,14 @@ ghost use Rattle.checks.specs.code.Post.{items_at};
 ghost use Rattle.some_in.specs.SomeIn.{any_fits, items_structure, collection_structure};
 ghost use Rattle.some_in.specs.code.Post.{ItemsAsks};
 
-use table::tables::Tables;
 use checks::inner::check_literal_structure;
 use checks::{LiteralStructureCheck, Reading, is_mismatch};
 use table::node_kind;
 use table::reading::{child_at, count_of, first_of, kind_of};
+use table::tables::Tables;
 
 // Does one of `left` items from child entry `at` on match the pattern, or is it unknown?
-fn any_fits(
-    tables: &Tables<'_>,
-    pattern: u32,
-    at: usize,
-    left: usize,
-    reading: Reading,
-) -> bool
+fn any_fits(tables: &Tables<'_>, pattern: u32, at: usize, left: usize, reading: Reading) -> bool
     requires { ItemsAsks (contents tables.now) pattern at left }
     ensures { let T = contents tables.now in result ≡ any_fits reading (items_at T at left) (expr T pattern) }
 {
@@ -29,9 +23,7 @@ fn any_fits(
     let mut more = left;
     while 0 < more {
         let item = child_at(tables.children, place);
-        let check = check_literal_structure(
-            tables, pattern, item, reading,
-        );
+        let check = check_literal_structure(tables, pattern, item, reading);
         if !is_mismatch(check) {
             return true;
         }
@@ -55,15 +47,11 @@ fn check_collection_items(
     if left == 0 {
         return LiteralStructureCheck::Unknown;
     }
-    if any_fits(
-        tables, pattern, at, left, reading,
-    ) {
+    if any_fits(tables, pattern, at, left, reading) {
         return LiteralStructureCheck::Match;
     }
     let item = child_at(tables.children, at);
-    check_literal_structure(
-        tables, pattern, item, reading,
-    )
+    check_literal_structure(tables, pattern, item, reading)
 }
 
 pub(crate) fn check_collection(
@@ -80,7 +68,5 @@ pub(crate) fn check_collection(
     }
     let at = first_of(tables.nodes, collection) as usize;
     let left = count_of(tables.nodes, collection) as usize;
-    check_collection_items(
-        tables, pattern, at, left, reading,
-    )
+    check_collection_items(tables, pattern, at, left, reading)
 }

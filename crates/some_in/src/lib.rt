@@ -10,7 +10,6 @@ ghost use Rattle.planner.specs.code.Post.{GoodPair};
 ghost use Rattle.some_in.specs.SomeIn.{some_in_planned, some_in_outcome};
 ghost use Rattle.some_in.specs.code.Post.{PlaceAsks, Validated, SomeInClosed, ValueAsks, ValueAnswered, KeyAsks};
 
-use table::tables::Tables;
 use crate::collection::check_collection;
 use checks::{LiteralStructureCheck, Reading};
 use planner::PlanAnswer;
@@ -19,6 +18,7 @@ use planner::inner::destructuring::plan_pattern;
 use planner::inner::parameters::validate_pattern_bindings;
 use scope::{Scope, ScopingMode};
 use table::reading::is_node;
+use table::tables::Tables;
 use table::{TableAnswer, check};
 
 // A pattern's plan in the buffer: the place after its entries, and the first name that is defined already, or 0.
@@ -49,9 +49,7 @@ fn plan_validated(
         at,
     );
     let end = planned.next;
-    let name = validate_pattern_bindings(
-        tables, scope, &binders, root,
-    );
+    let name = validate_pattern_bindings(tables, scope, &binders, root);
     ValidatedPlan { end, name }
 }
 
@@ -100,18 +98,14 @@ fn plan_value(
     requires { ValueAsks (contents tables.now) value collection at }
     ensures { ValueAnswered (contents tables.now) scope value collection form reading at plan.old plan.new result }
 {
-    let value_plan = plan_validated(
-        tables, scope, value, plan, at,
-    );
+    let value_plan = plan_validated(tables, scope, value, plan, at);
     if value_plan.name != 0 {
         clear(plan);
         return PlanAnswer::VariableAlreadyDefined {
             name: value_plan.name,
         };
     }
-    let check = check_collection(
-        tables, value, collection, reading,
-    );
+    let check = check_collection(tables, value, collection, reading);
     deliver_some_in(plan, form, check, value_plan.end)
 }
 
@@ -127,9 +121,7 @@ fn plan_key(
     requires { KeyAsks (contents tables.now) value collection key }
     ensures { AnsweredIn plan (some_in_planned (contents tables.now) scope value collection key reading) result }
 {
-    let key_plan = plan_validated(
-        tables, scope, key, plan, 0,
-    );
+    let key_plan = plan_validated(tables, scope, key, plan, 0);
     if key_plan.name != 0 {
         clear(plan);
         return PlanAnswer::VariableAlreadyDefined {
@@ -159,10 +151,7 @@ fn plan_without_key(
     requires { GoodPair (contents tables.now) value collection }
     ensures { AnsweredIn plan (some_in_planned (contents tables.now) scope value collection 0 reading) result }
 {
-    plan_value(
-        tables, scope, value, collection, 0, reading, plan,
-        0,
-    )
+    plan_value(tables, scope, value, collection, 0, reading, plan, 0)
 }
 
 // Key root 0 says that there is no key.
@@ -191,16 +180,11 @@ pub fn create_some_in_binding_plan(
         return PlanAnswer::RootOutside;
     }
     if key == 0 {
-        return plan_without_key(
-            tables, scope, value, collection, reading, plan,
-        );
+        return plan_without_key(tables, scope, value, collection, reading, plan);
     }
     if !is_node(tables.nodes, key) {
         clear(plan);
         return PlanAnswer::RootOutside;
     }
-    plan_key(
-        tables, scope, value, collection, key, reading,
-        plan,
-    )
+    plan_key(tables, scope, value, collection, key, reading, plan)
 }

@@ -7,9 +7,7 @@ ghost use Rattle.table.specs.Rules.{within_limits};
 use crate::tables::Tables;
 
 // Is no table over its limit? Refusal 1, before all else of the check.
-pub fn within_limits(
-    tables: &Tables<'_>,
-) -> bool
+pub fn within_limits(tables: &Tables<'_>) -> bool
     ensures { result ≡ within_limits (contents tables.now) }
 {
     if 512 < tables.nodes.len() / 5 {

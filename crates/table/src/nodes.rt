@@ -6,13 +6,11 @@ ghost use Rattle.table.specs.Tables.{tables};
 ghost use Rattle.base.specs.Lists.{all_from};
 ghost use Rattle.table.specs.code.Passes.{head_ok_at, children_below_at, NodesAsks, nodes_ok};
 
-use crate::tables::Tables;
 use crate::distinct::{distinct_entries, places_apart};
 use crate::inner::node::{children_below, span_ok, words_ok};
+use crate::tables::Tables;
 
-fn heads_ok(
-    tables: &Tables<'_>,
-) -> bool
+fn heads_ok(tables: &Tables<'_>) -> bool
     requires { length tables.now.nodes.now / 5 ≤ 512 }
     ensures { result ≡ all_from (head_ok_at (contents tables.now)) 0 (length tables.now.nodes.now / 5) }
 {
@@ -42,9 +40,7 @@ fn all_below(nodes: &[u32], children: &[u32]) -> bool
 }
 
 // The children come last: by then no child entry serves two nodes, so each is looked at once.
-pub(crate) fn nodes_ok(
-    tables: &Tables<'_>,
-) -> bool
+pub(crate) fn nodes_ok(tables: &Tables<'_>) -> bool
     requires { NodesAsks (contents tables.now) }
     ensures { result ≡ nodes_ok (contents tables.now) }
 {

@@ -7,10 +7,10 @@ ghost use Rattle.base.specs.Lists.{all_from};
 ghost use Rattle.table.specs.Rules.{within_limits, whole_records, name_ok, name_ok_at, number_ok, entry_ok, scope_ok, follows_rules};
 ghost use Rattle.table.specs.code.Passes.{lists_ok};
 
-use crate::tables::Tables;
 use crate::inner::node::in_range;
 use crate::nodes::nodes_ok;
 use crate::reading::{is_node, name_bytes, name_length, name_start, same_bytes};
+use crate::tables::Tables;
 use literal::is_number;
 use scope::Scope;
 
@@ -107,14 +107,17 @@ fn scope_ok(names: &[u32], text: &[u8], scope: Scope) -> bool
     same_bytes(name_bytes(names, text, underscore), b"_")
 }
 
-pub(crate) fn follows_rules(
-    tables: &Tables<'_>,
-    scope: Scope,
-) -> bool
+pub(crate) fn follows_rules(tables: &Tables<'_>, scope: Scope) -> bool
     requires { within_limits (contents tables.now) ≡ true }
     ensures { result ≡ follows_rules (contents tables.now) scope }
 {
-    if !lists_ok(tables.nodes, tables.children, tables.numbers, tables.names, tables.text) {
+    if !lists_ok(
+        tables.nodes,
+        tables.children,
+        tables.numbers,
+        tables.names,
+        tables.text,
+    ) {
         return false;
     }
     if !nodes_ok(tables) {

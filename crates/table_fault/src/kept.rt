@@ -7,7 +7,6 @@ ghost use Rattle.table.specs.Rules.{number_ok};
 ghost use Rattle.table_fault.specs.Rules.{mark_ok_at};
 ghost use Rattle.table_fault.specs.code.Asking.{kept_at, Asked, NodeAsked};
 
-use table::tables::Tables;
 use crate::node::{kind_listed, range_ok, text_ok, unused_zero};
 use crate::repeats::{has_new_places, is_new_entry, is_new_name};
 use crate::rule;
@@ -16,12 +15,10 @@ use table::inner::depth::depths_ok;
 use table::inner::node::{children_below, span_ok};
 use table::reading::{child_at, count_of, first_of, is_node, kind_of};
 use table::rules::name_ok;
+use table::tables::Tables;
 
 // Rules 1 to 9, of the tables as a whole.
-fn whole_kept(
-    tables: &Tables<'_>,
-    rule: u32,
-) -> bool
+fn whole_kept(tables: &Tables<'_>, rule: u32) -> bool
     requires { (1 ≤ rule) × (rule ≤ 9) }
     ensures { result ≡ kept_at (contents tables.now) [] rule 0 }
 {
@@ -55,11 +52,7 @@ fn mark_ok(marks: &[u8], i: usize) -> bool
 }
 
 // Rules 13 to 18, of one node.
-fn node_kept(
-    tables: &Tables<'_>,
-    rule: u32,
-    node: u32,
-) -> bool
+fn node_kept(tables: &Tables<'_>, rule: u32, node: u32) -> bool
     requires { NodeAsked (contents tables.now) rule node }
     ensures { result ≡ kept_at (contents tables.now) [] rule node }
 {
@@ -79,12 +72,7 @@ fn node_kept(
 }
 
 // The other rules.
-fn other_kept(
-    tables: &Tables<'_>,
-    marks: &[u8],
-    rule: u32,
-    place: u32,
-) -> bool
+fn other_kept(tables: &Tables<'_>, marks: &[u8], rule: u32, place: u32) -> bool
     requires { Asked (contents tables.now) marks.now rule place × (9 < rule) }
     ensures { result ≡ kept_at (contents tables.now) marks.now rule place }
 {
@@ -103,19 +91,12 @@ fn other_kept(
 }
 
 // Asked only where all rules before are kept, and this rule at all places before.
-pub(crate) fn is_kept(
-    tables: &Tables<'_>,
-    marks: &[u8],
-    rule: u32,
-    place: u32,
-) -> bool
+pub(crate) fn is_kept(tables: &Tables<'_>, marks: &[u8], rule: u32, place: u32) -> bool
     requires { Asked (contents tables.now) marks.now rule place }
     ensures { result ≡ kept_at (contents tables.now) marks.now rule place }
 {
     if rule <= rule::LAST_WHOLE {
         return whole_kept(tables, rule);
     }
-    other_kept(
-        tables, marks, rule, place,
-    )
+    other_kept(tables, marks, rule, place)
 }

@@ -8,10 +8,10 @@ ghost use Rattle.std.specs.Prelude.{◌≡◌};
 ghost use Rattle.table_fault.specs.Fault.{FaultAnswered, broken_place};
 ghost use Rattle.table_fault.specs.code.Asking.{numbered, Reached, place_told, refusal_by};
 
-use table::tables::Tables;
 use kept::is_kept;
 use places::{count_places, first_place};
 use table::TableRefusal;
+use table::tables::Tables;
 
 mod kept;
 mod node;
@@ -53,21 +53,22 @@ fn refusal_of(rule: u32) -> TableRefusal
 }
 
 // The first place at which a rule is broken. All rules before it are kept.
-fn first_broken(
-    tables: &Tables<'_>,
-    marks: &[u8],
-    rule: u32,
-) -> BrokenPlace
+fn first_broken(tables: &Tables<'_>, marks: &[u8], rule: u32) -> BrokenPlace
     requires { Reached (contents tables.now) marks.now rule }
     ensures { place_told result ≡ broken_place (numbered (contents tables.now) marks.now rule) }
 {
     let first = first_place(rule);
-    let end = first as usize + count_places(tables.nodes, tables.children, tables.numbers, tables.names, rule);
+    let end = first as usize
+        + count_places(
+            tables.nodes,
+            tables.children,
+            tables.numbers,
+            tables.names,
+            rule,
+        );
     let mut place = first;
     while (place as usize) < end {
-        if !is_kept(
-            tables, marks, rule, place,
-        ) {
+        if !is_kept(tables, marks, rule, place) {
             return BrokenPlace::At { place };
         }
         place += 1;
@@ -76,10 +77,7 @@ fn first_broken(
 }
 
 // The first rule that is broken, at its first place; the marks as bytes, 0 for those that are not lent.
-pub fn table_fault(
-    tables: &Tables<'_>,
-    marks: &[u8],
-) -> FaultAnswer
+pub fn table_fault(tables: &Tables<'_>, marks: &[u8]) -> FaultAnswer
     ensures { FaultAnswered (contents tables.now) marks.now result }
 {
     for rule in 1..=rule::LAST {

@@ -6,10 +6,10 @@ ghost use Rattle.table.specs.Tables.{tables, kind_of};
 ghost use Rattle.table.specs.Rules.{name_text_ok};
 ghost use Rattle.table_fault.specs.Rules.{kind_listed, unused_zero, node_range_ok};
 
-use table::tables::Tables;
 use table::inner::node::{in_range, name_text_ok};
 use table::node_kind;
 use table::reading::{count_of, first_of, kind_of};
+use table::tables::Tables;
 
 pub(crate) fn kind_listed(kind: u32) -> bool
     ensures { result ≡ kind_listed kind }
@@ -53,10 +53,7 @@ fn is_name(name: usize, names: usize) -> bool
 }
 
 // Do first and count lie within what they point into?
-pub(crate) fn range_ok(
-    tables: &Tables<'_>,
-    node: u32,
-) -> bool
+pub(crate) fn range_ok(tables: &Tables<'_>, node: u32) -> bool
     ensures { result ≡ node_range_ok (contents tables.now) node }
 {
     let first = first_of(tables.nodes, node) as usize;

@@ -4,11 +4,11 @@ ghost use Rattle.table.specs.Lent.{given, lent};
 ghost use Rattle.std.specs.Prelude.{◌≡◌, cond};
 ghost use Rattle.tolerance.specs.code.Post.{OwnLabels, EndsFrom, DecideAsks, DecidedIn};
 
-use table::tables::Tables;
 use crate::ToleranceAnswer;
 use crate::classes::all_free;
 use crate::meeting::meet;
 use crate::ranges::{range_ok, sign_of, size_of};
+use table::tables::Tables;
 
 // Each node is a class of its own.
 fn own_labels() -> [u32; 513]

@@ -7,7 +7,6 @@ ghost use Rattle.std.specs.Prelude.{◌≡◌};
 ghost use Rattle.tolerance.specs.Operations.{JudgedIn};
 ghost use Rattle.tolerance.specs.code.Post.{ToJudge, GivenAsks, given_ok};
 
-use table::tables::Tables;
 use deciding::decide;
 use names::{known_values, set_names};
 use planner::buffer::{ENTRY_WORDS, clear, close};
@@ -15,6 +14,7 @@ use planner::inner::destructuring::plan_pattern;
 use ranges::{names_ok, numbers_ok};
 use run::{RunAnswer, run};
 use scope::{Scope, ScopingMode};
+use table::tables::Tables;
 
 mod classes;
 mod deciding;
@@ -49,14 +49,10 @@ fn ranges_given(
     if highest.len() / 2 < tables.nodes.len() / 5 {
         return false;
     }
-    if !numbers_ok(
-        tables, lowest, highest, value,
-    ) {
+    if !numbers_ok(tables, lowest, highest, value) {
         return false;
     }
-    names_ok(
-        tables, lowest, highest, list,
-    )
+    names_ok(tables, lowest, highest, list)
 }
 
 // A run that nothing refuses: the plan in the buffer, then the answer.
@@ -76,20 +72,10 @@ fn judge(
     ensures { JudgedIn values lowest highest plan (contents tables.now) scope scoping pattern value result }
 {
     let mut binders = [0u32; 128];
-    let planned = plan_pattern(
-        tables,
-        scope,
-        scoping,
-        pattern,
-        &mut binders,
-        plan,
-        0,
-    );
+    let planned = plan_pattern(tables, scope, scoping, pattern, &mut binders, plan, 0);
     close(plan, 0, planned.next);
     let mut list = known;
-    let answer = decide(
-        tables, lowest, highest, &mut list, pattern, value,
-    );
+    let answer = decide(tables, lowest, highest, &mut list, pattern, value);
     if let ToleranceAnswer::Always = answer {
         set_names(tables.names, &list, values);
         return answer;
@@ -113,18 +99,13 @@ pub fn run_with_tolerance(
 {
     // Without space for a plan a run is refused with 6, unless it is with another number.
     let mut none = [0u32; 1];
-    let asked = run(
-        tables, scope, scoping, pattern, value, values,
-        &mut none,
-    );
+    let asked = run(tables, scope, scoping, pattern, value, values, &mut none);
     let RunAnswer::PlanTooLarge { needed } = asked else {
         clear(plan);
         return ToleranceAnswer::Refused(asked);
     };
     let known = known_values(tables.names, tables.text, scope, scoping, values);
-    if !ranges_given(
-        tables, value, lowest, highest, &known,
-    ) {
+    if !ranges_given(tables, value, lowest, highest, &known) {
         clear(plan);
         return ToleranceAnswer::RangeWrong;
     }
@@ -133,7 +114,6 @@ pub fn run_with_tolerance(
         return ToleranceAnswer::Refused(asked);
     }
     judge(
-        tables, scope, scoping, pattern, value, values,
-        lowest, highest, known, plan,
+        tables, scope, scoping, pattern, value, values, lowest, highest, known, plan,
     )
 }

@@ -4,11 +4,11 @@ ghost use Rattle.table.specs.Lent.{given, lent};
 ghost use Rattle.std.specs.Prelude.{◌≡◌, true, get_or};
 ghost use Rattle.tolerance.specs.code.Post.{EquatedIn, LiteralAsks, MeetAsks, NameAsks, MeetItemsAsks, MeetFieldsAsks, MetIn, conditions_at, meets_nodes, meets_listed, meets_under};
 
-use table::tables::Tables;
 use crate::classes::{fix_node, join_nodes};
 use run::inner::names::is_wildcard;
 use table::node_kind;
 use table::reading::{child_at, count_of, first_of, kind_of};
+use table::tables::Tables;
 use value::inner::fields::{same_literals, value_under};
 
 // Word i, or 0 behind the end.
@@ -35,10 +35,24 @@ fn meet_literals(
     ensures { let T = contents tables.now in EquatedIn labels lows highs (conditions_at T pattern a b) result }
 {
     if kind_of(tables.nodes, a) != node_kind::NUMBER {
-        return same_literals(tables.nodes, tables.numbers, tables.strings, tables.text, a, b);
+        return same_literals(
+            tables.nodes,
+            tables.numbers,
+            tables.strings,
+            tables.text,
+            a,
+            b,
+        );
     }
     if kind_of(tables.nodes, b) != node_kind::NUMBER {
-        return same_literals(tables.nodes, tables.numbers, tables.strings, tables.text, a, b);
+        return same_literals(
+            tables.nodes,
+            tables.numbers,
+            tables.strings,
+            tables.text,
+            a,
+            b,
+        );
     }
     if pattern {
         let place = first_of(tables.nodes, a) as usize * 2;
@@ -65,14 +79,10 @@ pub(crate) fn meet(
 {
     let kind = kind_of(tables.nodes, a);
     if kind <= node_kind::LAST_LITERAL {
-        return meet_literals(
-            tables, labels, lows, highs, pattern, a, b,
-        );
+        return meet_literals(tables, labels, lows, highs, pattern, a, b);
     }
     if kind == node_kind::NAME {
-        return meet_name(
-            tables, list, labels, lows, highs, a, b,
-        );
+        return meet_name(tables, list, labels, lows, highs, a, b);
     }
     if kind_of(tables.nodes, b) != kind {
         return false;
@@ -97,9 +107,7 @@ pub(crate) fn meet(
             count as usize,
         );
     }
-    meet_fields(
-        tables, list, labels, lows, highs, pattern, a, b,
-    )
+    meet_fields(tables, list, labels, lows, highs, pattern, a, b)
 }
 
 // A name of the pattern and a value.
@@ -126,9 +134,7 @@ fn meet_name(
         list[place] = b;
         return true;
     }
-    meet(
-        tables, list, labels, lows, highs, false, held, b,
-    )
+    meet(tables, list, labels, lows, highs, false, held, b)
 }
 
 // `left` items from child entries `at` and `from` on.
@@ -151,10 +157,7 @@ fn meet_items(
     for i in 0..left {
         let a = child_at(tables.children, at + i);
         let b = child_at(tables.children, from + i);
-        if !meet(
-            tables, list, labels, lows, highs, pattern, a,
-            b,
-        ) {
+        if !meet(tables, list, labels, lows, highs, pattern, a, b) {
             return false;
         }
     }
@@ -186,10 +189,7 @@ fn meet_fields(
         if other == 0 {
             return false;
         }
-        if !meet(
-            tables, list, labels, lows, highs, pattern,
-            value, other,
-        ) {
+        if !meet(tables, list, labels, lows, highs, pattern, value, other) {
             return false;
         }
     }

@@ -7,12 +7,12 @@ ghost use Rattle.table.specs.Tables.{record_word};
 ghost use Rattle.tolerance.specs.Operations.{range_ok};
 ghost use Rattle.tolerance.specs.code.Post.{RangesAsks, ListedAsks, NamesAsks, numbers_ok, numbers_ok_in};
 
-use table::tables::Tables;
 use crate::classes::at_most;
 use crate::meeting::word_of;
 use literal::is_number;
 use table::node_kind;
 use table::reading::{child_at, count_of, first_of, kind_of};
+use table::tables::Tables;
 
 // The two words of a node's end: 1 for below zero or 0, then the size.
 pub(crate) fn sign_of(words: &[u64], node: u32) -> u64
@@ -61,12 +61,7 @@ fn step_of(kind: u32) -> usize
 }
 
 // Has each number of a value, object keys aside, such a range?
-pub(crate) fn numbers_ok(
-    tables: &Tables<'_>,
-    lowest: &[u64],
-    highest: &[u64],
-    node: u32,
-) -> bool
+pub(crate) fn numbers_ok(tables: &Tables<'_>, lowest: &[u64], highest: &[u64], node: u32) -> bool
     requires { RangesAsks (contents tables.now) node }
     ensures { result ≡ numbers_ok (contents tables.now) lowest.now highest.now node }
 {
@@ -82,9 +77,7 @@ pub(crate) fn numbers_ok(
     let count = count_of(tables.nodes, node) as usize;
     for i in 0..count {
         let child = child_at(tables.children, first + i * step);
-        if !numbers_ok(
-            tables, lowest, highest, child,
-        ) {
+        if !numbers_ok(tables, lowest, highest, child) {
             return false;
         }
     }
@@ -106,9 +99,7 @@ fn listed_ok(
     if node == 0 {
         return true;
     }
-    numbers_ok(
-        tables, lowest, highest, node,
-    )
+    numbers_ok(tables, lowest, highest, node)
 }
 
 // Has each number of the names' values such a range?
@@ -122,9 +113,7 @@ pub(crate) fn names_ok(
     ensures { let T = contents tables.now in result ≡ all_from (numbers_ok_in T lowest.now highest.now list.now) 0 128 }
 {
     for i in 0..128 {
-        if !listed_ok(
-            tables, lowest, highest, list, i,
-        ) {
+        if !listed_ok(tables, lowest, highest, list, i) {
             return false;
         }
     }

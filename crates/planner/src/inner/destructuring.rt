@@ -8,13 +8,13 @@ ghost use Rattle.planner.specs.Steps.{written_steps, steps};
 ghost use Rattle.planner.specs.code.Post.{NameNumber, Walks, WalksChildren, StepRoom, Counts, PlanAsks, PlannedIn, PatternAsks, PatternPlannedIn};
 ghost use Rattle.planner.specs.code.Passes.{unbound_in, bind_name, binders_of, binders_below, steps_below};
 
-use table::tables::Tables;
 use crate::context::name_states;
 use crate::inner::names::span_of;
 use crate::inner::plans::lay_out;
 use scope::{Scope, ScopingMode};
 use table::node_kind;
 use table::reading::{child_at, first_of, kind_of};
+use table::tables::Tables;
 
 // The place after a plan's entries, and how often the two passes went into a node.
 #[derive(Clone, Copy)]
@@ -58,10 +58,7 @@ fn decide(
     let at = span.at;
     let step = span.step;
     let left = span.left;
-    decide_children(
-        tables, states, binders, node, at, step, left,
-        steps,
-    );
+    decide_children(tables, states, binders, node, at, step, left, steps);
 }
 
 // The children of `parent` at `at`, `at + step` and so on, `left` of them.
@@ -85,9 +82,7 @@ fn decide_children(
     let mut more = left;
     while 0 < more {
         let child = child_at(tables.children, place);
-        decide(
-            tables, states, binders, child, steps,
-        );
+        decide(tables, states, binders, child, steps);
         place += step;
         more -= 1;
     }
@@ -108,12 +103,9 @@ pub fn create_destructuring_plan_with_tracking(
     ensures counted { result.steps ≡ steps (unbound_in states.now) (expr (contents tables.now) root) }
 {
     let mut steps: usize = 0;
-    decide(
-        tables, states, binders, root, &mut steps,
-    );
+    decide(tables, states, binders, root, &mut steps);
     let next = lay_out(
-        tables, states, binders, root, 0, position, plan,
-        at, &mut steps,
+        tables, states, binders, root, 0, position, plan, at, &mut steps,
     );
     Progress { next, steps }
 }
@@ -133,7 +125,5 @@ pub fn plan_pattern(
     ensures counted { result.steps ≡ steps (is_unbound scope scoping) (expr (contents tables.now) root) }
 {
     let states = name_states(tables.names, tables.text, scope, scoping);
-    create_destructuring_plan_with_tracking(
-        tables, &states, root, 0, binders, plan, at,
-    )
+    create_destructuring_plan_with_tracking(tables, &states, root, 0, binders, plan, at)
 }

@@ -7,12 +7,12 @@ ghost use Rattle.table.specs.Tables.{child_at};
 ghost use Rattle.planner.specs.code.Post.{OrderAsks, Arranged};
 ghost use Rattle.planner.specs.code.Ordering.{FieldAdded, FindAsks, FoundIn, AddAsks};
 
-use table::tables::Tables;
 use crate::fields::wide;
 use base::bytes::insert_at;
 use literal::{Comparison, LiteralRef};
 use table::Key;
 use table::reading::{child_at, compare_literal_to_node, extract_literal_key};
+use table::tables::Tables;
 
 // How many of the fields in order have literal keys, and how many there are.
 #[derive(Clone, Copy)]
@@ -62,7 +62,16 @@ pub fn find_field(
     while low < high {
         let middle = low + (high - low) / 2;
         let other = wide(order[middle]);
-        let way = compare_keys(tables.nodes, tables.children, tables.numbers, tables.strings, tables.text, first, key, other);
+        let way = compare_keys(
+            tables.nodes,
+            tables.children,
+            tables.numbers,
+            tables.strings,
+            tables.text,
+            first,
+            key,
+            other,
+        );
         match way {
             Comparison::Equal => {
                 return Found {
@@ -102,9 +111,7 @@ fn add_field(
             total: total + 1,
         };
     };
-    let found = find_field(
-        tables, first, order, literals, key,
-    );
+    let found = find_field(tables, first, order, literals, key);
     let place = found.place;
     if found.equal {
         order[place] = field;
@@ -118,12 +125,7 @@ fn add_field(
 }
 
 // The fields of an object whose child entries start at `first`; how many are in order.
-pub fn order_fields(
-    tables: &Tables<'_>,
-    first: usize,
-    count: usize,
-    order: &mut [u8; 256],
-) -> u32
+pub fn order_fields(tables: &Tables<'_>, first: usize, count: usize, order: &mut [u8; 256]) -> u32
     requires { OrderAsks (contents tables.now) first count }
     ensures { Arranged (contents tables.now) first count order.old order.new result }
 {
@@ -132,9 +134,7 @@ pub fn order_fields(
         total: 0,
     };
     for i in 0..count {
-        sizes = add_field(
-            tables, first, i as u8, order, sizes,
-        );
+        sizes = add_field(tables, first, i as u8, order, sizes);
     }
     sizes.total as u32
 }

@@ -7,9 +7,9 @@ ghost use Rattle.planner.specs.Names.{occurrences, first_node};
 ghost use Rattle.planner.specs.code.Post.{NameNumber, Walks, WalksChildren};
 ghost use Rattle.planner.specs.code.Validation.{marked_in, occurrences_below, SpanOf};
 
-use table::tables::Tables;
 use table::node_kind;
 use table::reading::{child_at, count_of, first_of, kind_of};
+use table::tables::Tables;
 
 // Child entries at `at`, `at + step` and so on, `left` of them.
 #[derive(Clone, Copy)]
@@ -72,13 +72,7 @@ fn marked_node(flags: &[u8; 128], node: u32, name: u32) -> u32
 
 // The node of the first name with flag 1, or 0. `_`, and no other name, must have flag 2.
 #[cycle(first_name_first_name_children)]
-pub fn first_name(
-    tables: &Tables<'_>,
-    flags: &[u8; 128],
-    sets: bool,
-    keys: bool,
-    node: u32,
-) -> u32
+pub fn first_name(tables: &Tables<'_>, flags: &[u8; 128], sets: bool, keys: bool, node: u32) -> u32
     requires { Walks (contents tables.now) flags.now node }
     ensures { result ≡ first_node (marked_in flags.now) (occurrences sets keys (expr (contents tables.now) node)) }
 {
@@ -89,9 +83,7 @@ pub fn first_name(
     let at = span.at;
     let step = span.step;
     let left = span.left;
-    first_name_children(
-        tables, flags, sets, keys, node, at, step, left,
-    )
+    first_name_children(tables, flags, sets, keys, node, at, step, left)
 }
 
 // In the children of `parent` at `at`, `at + step` and so on, `left` of them.
@@ -113,9 +105,7 @@ fn first_name_children(
     let mut more = left;
     while 0 < more {
         let child = child_at(tables.children, place);
-        let found = first_name(
-            tables, flags, sets, keys, child,
-        );
+        let found = first_name(tables, flags, sets, keys, child);
         if found != 0 {
             return found;
         }

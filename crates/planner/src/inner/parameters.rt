@@ -5,10 +5,10 @@ ghost use Rattle.std.specs.Prelude.{◌≡◌};
 ghost use Rattle.planner.specs.code.Post.{GoodRoot};
 ghost use Rattle.planner.specs.code.Validation.{first_defined};
 
-use table::tables::Tables;
 use crate::context::name_flags;
 use crate::inner::names::first_name;
 use scope::{Scope, ScopingMode};
+use table::tables::Tables;
 
 // The first name of a pattern that is defined already, or 0. `binders` are those of its plan.
 pub fn validate_pattern_bindings(
@@ -28,7 +28,5 @@ pub fn validate_pattern_bindings(
         true,
         binders,
     );
-    first_name(
-        tables, &flags, true, false, root,
-    )
+    first_name(tables, &flags, true, false, root)
 }

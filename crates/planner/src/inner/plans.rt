@@ -8,13 +8,13 @@ ghost use Rattle.planner.specs.Entries.{WroteIn};
 ghost use Rattle.planner.specs.code.Passes.{name_entry_kind, leaf_entry_kind, lay_out, lay_steps, lay_out_items, lay_out_ordered};
 ghost use Rattle.planner.specs.code.Post.{NameNumber, StepRoom, Counts, LayAsks, LayObjectAsks, LayItemsAsks, LayOrderedAsks};
 
-use table::tables::Tables;
 use crate::buffer::put_entry;
 use crate::entry_kind;
 use crate::fields::field_at;
 use crate::inner::fields::order_fields;
 use table::node_kind;
 use table::reading::{child_at, count_of, first_of, kind_of};
+use table::tables::Tables;
 
 // `_` is ignored, a binder binds, any other name is compared.
 fn name_kind(states: &[u8; 128], binders: &[u32; 128], node: u32, name: u32) -> u32
@@ -84,8 +84,7 @@ pub(crate) fn lay_out(
     }
     if kind == node_kind::OBJECT {
         return lay_object(
-            tables, states, binders, node, key, position,
-            plan, at, steps,
+            tables, states, binders, node, key, position, plan, at, steps,
         );
     }
     put_entry(plan, at, leaf_kind(kind), node, 0, key, position);
@@ -117,8 +116,7 @@ fn lay_items(
     while 0 < more {
         let child = child_at(tables.children, place);
         here = lay_out(
-            tables, states, binders, child, 0, position,
-            plan, here, steps,
+            tables, states, binders, child, 0, position, plan, here, steps,
         );
         place += 1;
         more -= 1;
@@ -148,9 +146,7 @@ fn lay_object(
     let first = first_of(tables.nodes, node) as usize;
     let count = count_of(tables.nodes, node) as usize;
     let mut order = [0u8; 256];
-    let total = order_fields(
-        tables, first, count, &mut order,
-    );
+    let total = order_fields(tables, first, count, &mut order);
     put_entry(plan, at, entry_kind::OBJECT, node, total, key, position);
     lay_fields(
         tables,

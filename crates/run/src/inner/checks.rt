@@ -9,14 +9,11 @@ ghost use Rattle.value.specs.Value.{is_value};
 ghost use Rattle.run.specs.Operations.{values_listed};
 ghost use Rattle.run.specs.code.ChecksPost.{marked_node, marked_if_listed, all_marked, ValuesAsks, AllAsks};
 
-use table::tables::Tables;
 use table::reading::is_node;
+use table::tables::Tables;
 use value::inner::admitted::mark_nodes;
 
-pub fn is_simple(
-    tables: &Tables<'_>,
-    node: u32,
-) -> bool
+pub fn is_simple(tables: &Tables<'_>, node: u32) -> bool
     requires { GoodRoot (contents tables.now) node }
     ensures { result ≡ simple (expr (contents tables.now) node) }
 {
@@ -60,11 +57,7 @@ pub fn values_listed(nodes: &[u32], names: &[u32], marks: &[u8; 512], values: &[
 }
 
 // Are the value and every listed node values?
-pub(crate) fn all_values(
-    tables: &Tables<'_>,
-    value: u32,
-    values: &[u32],
-) -> bool
+pub(crate) fn all_values(tables: &Tables<'_>, value: u32, values: &[u32]) -> bool
     requires { AllAsks (contents tables.now) value values.now }
     ensures { let T = contents tables.now in result ≡ (is_value (expr T value) && values_listed T values.now) }
 {

@@ -9,11 +9,11 @@ ghost use Rattle.planner.specs.code.Post.{NameNumber};
 ghost use Rattle.run.specs.Operations.{known_listed};
 ghost use Rattle.run.specs.code.NamesPost.{ListAsks, StartOf, NamesSet, has_value, all_have_values, KnownAsks};
 
-use table::tables::Tables;
 use report::inner::names_met;
 use scope::{Binding, Scope, ScopingMode};
 use table::NameClass;
 use table::reading::name_class;
+use table::tables::Tables;
 
 pub fn is_wildcard(names: &[u32], text: &[u8], name: u32) -> bool
     ensures { result ≡ is_wildcard (tables [] [] [] names.now [] text.now) name }

@@ -3,12 +3,12 @@ ghost use Rattle.table.specs.Contents.{contents};
 ghost use Rattle.table.specs.Lent.{given, lent};
 ghost use Rattle.run.specs.code.Post.{CheckedAsks, CheckToldIn};
 
-use table::tables::Tables;
 use crate::RunAnswer;
 use crate::inner::checks::{all_values, is_simple};
 use crate::inner::names::known_listed;
 use scope::{Scope, ScopingMode};
 use table::reading::is_node;
+use table::tables::Tables;
 use table::{TableAnswer, check};
 
 #[derive(Clone, Copy)]
@@ -32,14 +32,10 @@ fn check_inside(
     if !is_simple(tables, pattern) {
         return RunCheck::Refused(RunAnswer::PatternNotSimple);
     }
-    if !all_values(
-        tables, value, values,
-    ) {
+    if !all_values(tables, value, values) {
         return RunCheck::Refused(RunAnswer::NotAValue);
     }
-    if !known_listed(
-        tables, scope, scoping, pattern, values,
-    ) {
+    if !known_listed(tables, scope, scoping, pattern, values) {
         return RunCheck::Refused(RunAnswer::NameWithoutValue);
     }
     RunCheck::Passed
@@ -69,7 +65,5 @@ pub fn check_run(
     if values.len() < tables.names.len() / 2 {
         return RunCheck::Refused(RunAnswer::ListTooShort);
     }
-    check_inside(
-        tables, scope, scoping, pattern, value, values,
-    )
+    check_inside(tables, scope, scoping, pattern, value, values)
 }

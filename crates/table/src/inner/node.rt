@@ -6,9 +6,9 @@ ghost use Rattle.table.specs.Tables.{tables, first_word_of, count_of};
 ghost use Rattle.table.specs.Rules.{span_ok, name_text_ok, words_ok, children_below};
 ghost use Rattle.table.specs.code.Passes.{words_ok_at};
 
-use crate::tables::Tables;
 use crate::node_kind;
 use crate::reading::{bytes_between, child_at, name_bytes, node_word, same_bytes, width_at};
+use crate::tables::Tables;
 
 // Does a range end no later than what it points into?
 pub fn in_range(start: usize, count: usize, length: usize) -> bool
@@ -72,10 +72,7 @@ fn name_words_ok(nodes: &[u32], names: &[u32], text: &[u8], i: usize) -> bool
 }
 
 // What first and count are, by the kind.
-pub(crate) fn words_ok(
-    tables: &Tables<'_>,
-    i: usize,
-) -> bool
+pub(crate) fn words_ok(tables: &Tables<'_>, i: usize) -> bool
     requires { i < length tables.now.nodes.now / 5 }
     ensures { result ≡ words_ok_at (contents tables.now) i }
 {

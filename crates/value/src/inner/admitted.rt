@@ -7,10 +7,10 @@ ghost use Rattle.table.specs.Decode.{expr, fields};
 ghost use Rattle.planner.specs.Simple.{differing, keys_of, admitted};
 ghost use Rattle.value.specs.code.Post.{mark_of, items_marked, fields_marked, EntriesAsks, MarkAsks, node_marks, KeysAsks};
 
-use table::tables::Tables;
 use planner::inner::fields::order_fields;
 use table::node_kind;
 use table::reading::{child_at, count_of, first_of, kind_of};
+use table::tables::Tables;
 
 fn mark_of(admitted: bool) -> u8
     ensures { result ≡ mark_of admitted }
@@ -62,28 +62,17 @@ fn fields_marked(nodes: &[u32], children: &[u32], marks: &[u8; 512], at: usize, 
 }
 
 // Do the literal keys of `count` fields differ? In order, equal keys are one.
-fn keys_differ(
-    tables: &Tables<'_>,
-    first: usize,
-    count: usize,
-) -> bool
+fn keys_differ(tables: &Tables<'_>, first: usize, count: usize) -> bool
     requires { KeysAsks (contents tables.now) first count }
     ensures { let T = contents tables.now in result ≡ differing (keys_of (fields (expr T) T.children first count)) }
 {
     let mut order = [0u8; 256];
-    let total = order_fields(
-        tables, first, count, &mut order,
-    );
+    let total = order_fields(tables, first, count, &mut order);
     total as usize == count
 }
 
 // A node by the marks of those below it; `admit` admits names and underscores.
-fn admits(
-    tables: &Tables<'_>,
-    admit: bool,
-    marks: &[u8; 512],
-    node: u32,
-) -> bool
+fn admits(tables: &Tables<'_>, admit: bool, marks: &[u8; 512], node: u32) -> bool
     requires { MarkAsks (contents tables.now) admit marks.now node }
     ensures { result ≡ admitted admit (expr (contents tables.now) node) }
 {
@@ -110,22 +99,14 @@ fn admits(
 }
 
 // The marks of all nodes, and 0 past them.
-pub fn mark_nodes(
-    tables: &Tables<'_>,
-    admit: bool,
-) -> [u8; 512]
+pub fn mark_nodes(tables: &Tables<'_>, admit: bool) -> [u8; 512]
     requires { WellFormed (contents tables.now) }
     ensures { result ≡ node_marks (contents tables.now) admit }
 {
     let mut marks = [0u8; 512];
     let total = tables.nodes.len() / 5;
     for n in 0..total {
-        let ok = admits(
-            tables,
-            admit,
-            &marks,
-            (n + 1) as u32,
-        );
+        let ok = admits(tables, admit, &marks, (n + 1) as u32);
         marks[n] = mark_of(ok);
     }
     marks

@@ -7,9 +7,9 @@ ghost use Rattle.planner.specs.Simple.{keys_of};
 ghost use Rattle.value.specs.Value.{same_key_sets};
 ghost use Rattle.value.specs.code.Post.{same_literals, ChildrenAsks, under_from, under_in, KeyedObject, KeySetsAsks};
 
-use table::tables::Tables;
 use literal::Comparison;
 use table::reading::{child_at, compare_literals, count_of, first_of};
+use table::tables::Tables;
 
 // Are two nodes equal literals?
 pub fn same_literals<'a>(
@@ -32,12 +32,7 @@ pub fn same_literals<'a>(
 }
 
 // The value node of the first of `left` fields under a key, or 0.
-fn scan_under(
-    tables: &Tables<'_>,
-    at: usize,
-    left: usize,
-    key: u32,
-) -> u32
+fn scan_under(tables: &Tables<'_>, at: usize, left: usize, key: u32) -> u32
     requires { ChildrenAsks (contents tables.now) at 2 left }
     ensures { let T = contents tables.now in result ≡ under_from T (literal_at T key) at left }
 {
@@ -45,7 +40,14 @@ fn scan_under(
     let mut more = left;
     while 0 < more {
         let other = child_at(tables.children, place);
-        if same_literals(tables.nodes, tables.numbers, tables.strings, tables.text, key, other) {
+        if same_literals(
+            tables.nodes,
+            tables.numbers,
+            tables.strings,
+            tables.text,
+            key,
+            other,
+        ) {
             return child_at(tables.children, place + 1);
         }
         place += 2;
@@ -55,12 +57,7 @@ fn scan_under(
 }
 
 // An object's value node under a key, or 0. The field at `position` is looked at first.
-pub fn value_under(
-    tables: &Tables<'_>,
-    object: u32,
-    position: usize,
-    key: u32,
-) -> u32
+pub fn value_under(tables: &Tables<'_>, object: u32, position: usize, key: u32) -> u32
     requires { KeyedObject (contents tables.now) object }
     ensures { result ≡ under_in (contents tables.now) object key }
 {
@@ -69,21 +66,22 @@ pub fn value_under(
     if position < count {
         let place = first + position * 2;
         let other = child_at(tables.children, place);
-        if same_literals(tables.nodes, tables.numbers, tables.strings, tables.text, key, other) {
+        if same_literals(
+            tables.nodes,
+            tables.numbers,
+            tables.strings,
+            tables.text,
+            key,
+            other,
+        ) {
             return child_at(tables.children, place + 1);
         }
     }
-    scan_under(
-        tables, first, count, key,
-    )
+    scan_under(tables, first, count, key)
 }
 
 // Have two objects the same keys? With as many keys, those of the first need only be the second's.
-pub fn same_key_sets(
-    tables: &Tables<'_>,
-    a: u32,
-    b: u32,
-) -> bool
+pub fn same_key_sets(tables: &Tables<'_>, a: u32, b: u32) -> bool
     requires { KeySetsAsks (contents tables.now) a b }
     ensures { let T = contents tables.now in result ≡ same_key_sets (keys_of (fields_of T a)) (keys_of (fields_of T b)) }
 {
