@@ -1,5 +1,6 @@
 use Rattle.planner.proofs.buffer.Filling.{filling_next, filling_ends, word_out}
 use Rattle.planner.proofs.buffer.Copies.{clearing_start}
+use native.Mathlib.Omega.{arith}
 use borrow.Author.Rules.{rules}
 use Rattle.planner.proofs.buffer.clear_after.Goals as goal
 
@@ -10,4 +11,4 @@ pub loop-i-preserved : goal.loop-i-preserved
 loop-i-preserved c = search (filling_next, word_out, rules)
 
 pub returns : goal.returns
-returns c = search (filling_ends, rules)
+returns c = let long = c.loop-i.invariant.0.long in filling_ends c.loop-i.invariant.0 (omega arith)
