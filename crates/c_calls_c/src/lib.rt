@@ -12,6 +12,8 @@ ghost use Rattle.std.specs.Prelude.{◌≡◌};
 ghost use Rattle.table.specs.Lent.{lent};
 ghost use Rattle.table.specs.Tables.{tables};
 
+use table::tables::Tables;
+
 // Plans the operation into the buffer, for a version of Rego: any but 1 is version 0. Roots that it doesn't use are ignored.
 #[unsafe(no_mangle)]
 pub extern "C" fn teluddru_plan<'a>(
@@ -34,9 +36,16 @@ pub extern "C" fn teluddru_plan<'a>(
 ) -> u32
     ensures { PlanCalledIn plan answer (lent nodes children numbers names strings text) marks operation scheduler scoping first second key version result }
 {
+    let tables = Tables {
+        nodes,
+        children,
+        numbers,
+        names,
+        strings,
+        text,
+    };
     c_calls::planning::teluddru_plan(
-        nodes, children, numbers, names, strings, text, marks, operation, scheduler, scoping,
-        first, second, key, version, plan, answer,
+        &tables, marks, operation, scheduler, scoping, first, second, key, version, plan, answer,
     )
 }
 
@@ -60,9 +69,16 @@ pub extern "C" fn teluddru_run<'a>(
 ) -> u32
     ensures { let T = lent nodes children numbers names strings text in RunCalledIn values plan answer T marks scheduler scoping pattern value result }
 {
+    let tables = Tables {
+        nodes,
+        children,
+        numbers,
+        names,
+        strings,
+        text,
+    };
     c_calls::running::teluddru_run(
-        nodes, children, numbers, names, strings, text, marks, scheduler, scoping, pattern, value,
-        values, plan, answer,
+        &tables, marks, scheduler, scoping, pattern, value, values, plan, answer,
     )
 }
 
@@ -88,9 +104,16 @@ pub extern "C" fn teluddru_run_with_tolerance<'a>(
 ) -> u32
     ensures { ToleratedIn values lowest highest plan answer (lent nodes children numbers names strings text) marks scheduler scoping pattern value result }
 {
+    let tables = Tables {
+        nodes,
+        children,
+        numbers,
+        names,
+        strings,
+        text,
+    };
     c_calls::tolerating::teluddru_run_with_tolerance(
-        nodes, children, numbers, names, strings, text, marks, scheduler, scoping, pattern, value,
-        values, lowest, highest, plan, answer,
+        &tables, marks, scheduler, scoping, pattern, value, values, lowest, highest, plan, answer,
     )
 }
 
@@ -113,9 +136,16 @@ pub extern "C" fn teluddru_first_miss<'a>(
 ) -> u32
     ensures { let T = lent nodes children numbers names strings text in MissCalledIn values answer T marks scheduler scoping pattern value result }
 {
+    let tables = Tables {
+        nodes,
+        children,
+        numbers,
+        names,
+        strings,
+        text,
+    };
     c_calls::misses::teluddru_first_miss(
-        nodes, children, numbers, names, strings, text, marks, scheduler, scoping, pattern, value,
-        values, answer,
+        &tables, marks, scheduler, scoping, pattern, value, values, answer,
     )
 }
 
@@ -137,9 +167,16 @@ pub extern "C" fn teluddru_names_report<'a>(
 ) -> u32
     ensures { let T = lent nodes children numbers names strings text in ReportCalledIn list answer T marks scheduler scoping pattern result }
 {
+    let tables = Tables {
+        nodes,
+        children,
+        numbers,
+        names,
+        strings,
+        text,
+    };
     c_calls::reporting::teluddru_names_report(
-        nodes, children, numbers, names, strings, text, marks, scheduler, scoping, pattern, list,
-        answer,
+        &tables, marks, scheduler, scoping, pattern, list, answer,
     )
 }
 
@@ -157,9 +194,15 @@ pub extern "C" fn teluddru_table_fault<'a>(
 ) -> u32
     ensures { FaultCalledIn answer (lent nodes children numbers names strings text) marks result }
 {
-    c_calls::faults::teluddru_table_fault(
-        nodes, children, numbers, names, strings, text, marks, answer,
-    )
+    let tables = Tables {
+        nodes,
+        children,
+        numbers,
+        names,
+        strings,
+        text,
+    };
+    c_calls::faults::teluddru_table_fault(&tables, marks, answer)
 }
 
 // Adds the name that stands at a range of the text. The first `used` places of the name table hold names, the others are free.
@@ -200,9 +243,15 @@ pub extern "C" fn teluddru_plan_body<'a>(
 ) -> u32
     ensures { BodyCalledIn marks plan answer (lent nodes children numbers names strings text) scheduler lines result }
 {
-    c_calls::bodies::teluddru_plan_body(
-        nodes, children, numbers, names, strings, text, marks, scheduler, lines, plan, answer,
-    )
+    let tables = Tables {
+        nodes,
+        children,
+        numbers,
+        names,
+        strings,
+        text,
+    };
+    c_calls::bodies::teluddru_plan_body(&tables, marks, scheduler, lines, plan, answer)
 }
 
 // Gives a value that both patterns match, or none. Its nodes go on from the tables', its child entries from their child list.
@@ -233,13 +282,16 @@ pub extern "C" fn teluddru_common_example<'a>(
         let second = given_side marks2 scheduler2 scoping2 pattern2 values2 in
         ExampleCalledIn T first second example_nodes example_children answer result }
 {
-    c_calls::examples::teluddru_common_example(
+    let tables = Tables {
         nodes,
         children,
         numbers,
         names,
         strings,
         text,
+    };
+    c_calls::examples::teluddru_common_example(
+        &tables,
         marks1,
         scheduler1,
         scoping1,

@@ -43,24 +43,11 @@ fn check_in_use(tables: &Tables<'_>, used: u32) -> TableAnswer
     }
     if has_names(tables.names, used) {
         let words = used as usize * 2;
-        return check(
-            tables.nodes,
-            tables.children,
-            tables.numbers,
-            &tables.names[..words],
-            tables.strings,
-            tables.text,
-            Scope::new(0, false),
-        );
+        let names = &tables.names[..words];
+        return check(&Tables { names, ..*tables }, Scope::new(0, false));
     }
-    if within_limits(
-        tables.nodes,
-        tables.children,
-        tables.numbers,
-        &tables.names[..0],
-        tables.strings,
-        tables.text,
-    ) {
+    let names = &tables.names[..0];
+    if within_limits(&Tables { names, ..*tables }) {
         return TableAnswer::Refused(TableRefusal::BreaksRules);
     }
     TableAnswer::Refused(TableRefusal::OverLimit)
@@ -123,7 +110,15 @@ pub fn add_name<'a>(
 ) -> NameAnswer
     ensures { NameAddedIn names (add_outcome (tables nodes.now children.now numbers.now names.old strings.now text.now) used start size) used start size result }
 {
-    let checked = check_in_use(nodes, children, numbers, names, strings, text, used);
+    let tables = Tables {
+        nodes,
+        children,
+        numbers,
+        names: &names[..],
+        strings,
+        text,
+    };
+    let checked = check_in_use(&tables, used);
     if let TableAnswer::Refused(refused) = checked {
         return NameAnswer::TableRefused(refused);
     }

@@ -12,6 +12,7 @@ use operation::numbers::{OperationNumbers, operation_of};
 use operation::row::{Row, row_from, row_of};
 use planner::buffer::{ENTRY_WORDS, clear};
 use scope::{ByteScope, Scope};
+use table::tables::Tables;
 
 const PLAN_WORDS: usize = ENTRY_WORDS * 1536;
 
@@ -71,18 +72,15 @@ fn plan_tables(
     let strings = places.strings;
     let text = places.text;
     let end = places.end;
-    let answer = operation::plan(
-        &nodes[..node_words],
-        &children[..child_words],
-        &numbers[..number_words],
-        &names[..name_words],
-        &sheet[strings..text],
-        &sheet[text..end],
-        scope,
-        operation_of(operation),
-        REGO_V0,
-        plan,
-    );
+    let tables = Tables {
+        nodes: &nodes[..node_words],
+        children: &children[..child_words],
+        numbers: &numbers[..number_words],
+        names: &names[..name_words],
+        strings: &sheet[strings..text],
+        text: &sheet[text..end],
+    };
+    let answer = operation::plan(&tables, scope, operation_of(operation), REGO_V0, plan);
     row_of(answer)
 }
 

@@ -6,6 +6,7 @@ ghost use Rattle.teluddru.specs.code.Copying.{lent_words};
 use crate::records::NameWords;
 use body::BodyPlanned;
 use scope::Scope;
+use table::tables::Tables;
 
 pub(crate) fn body_words<'a>(
     nodes: &[u32],
@@ -23,15 +24,13 @@ pub(crate) fn body_words<'a>(
 {
     let all = &names.words[..];
     let end = names.count * 2;
-    body::plan_body(
+    let tables = Tables {
         nodes,
         children,
         numbers,
-        &all[..end],
+        names: &all[..end],
         strings,
         text,
-        scope,
-        lines,
-        plan,
-    )
+    };
+    body::plan_body(&tables, scope, lines, plan)
 }

@@ -6,6 +6,7 @@ ghost use Rattle.teluddru.specs.code.Copying.{lent_words};
 use crate::records::NameWords;
 use common_example::ExampleAnswer;
 use common_example::sides::ScopedPattern;
+use table::tables::Tables;
 
 pub(crate) fn example_words<'a>(
     nodes: &[u32],
@@ -27,13 +28,16 @@ pub(crate) fn example_words<'a>(
 {
     let all = &names.words[..];
     let end = names.count * 2;
-    common_example::common_example(
+    let tables = Tables {
         nodes,
         children,
         numbers,
-        &all[..end],
+        names: &all[..end],
         strings,
         text,
+    };
+    common_example::common_example(
+        &tables,
         first,
         values1,
         second,

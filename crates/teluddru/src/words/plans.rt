@@ -8,6 +8,7 @@ use crate::records::NameWords;
 use operation::Operation;
 use planner::PlanAnswer;
 use scope::Scope;
+use table::tables::Tables;
 
 pub(crate) fn plan_words<'a>(
     nodes: &[u32],
@@ -26,16 +27,13 @@ pub(crate) fn plan_words<'a>(
 {
     let all = &names.words[..];
     let end = names.count * 2;
-    operation::plan(
+    let tables = Tables {
         nodes,
         children,
         numbers,
-        &all[..end],
+        names: &all[..end],
         strings,
         text,
-        scope,
-        operation,
-        version,
-        plan,
-    )
+    };
+    operation::plan(&tables, scope, operation, version, plan)
 }

@@ -6,6 +6,7 @@ ghost use Rattle.teluddru.specs.code.Copying.{lent_words};
 use crate::records::NameWords;
 use report::{ReportAnswer, names_report};
 use scope::{Scope, ScopingMode};
+use table::tables::Tables;
 
 pub(crate) fn report_words<'a>(
     nodes: &[u32],
@@ -24,16 +25,13 @@ pub(crate) fn report_words<'a>(
 {
     let all = &names.words[..];
     let end = names.count * 2;
-    names_report(
+    let tables = Tables {
         nodes,
         children,
         numbers,
-        &all[..end],
+        names: &all[..end],
         strings,
         text,
-        scope,
-        scoping,
-        pattern,
-        list,
-    )
+    };
+    names_report(&tables, scope, scoping, pattern, list)
 }

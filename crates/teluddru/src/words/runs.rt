@@ -6,6 +6,7 @@ ghost use Rattle.teluddru.specs.code.Copying.{lent_words};
 use crate::records::NameWords;
 use run::{RunAnswer, run};
 use scope::{Scope, ScopingMode};
+use table::tables::Tables;
 
 pub(crate) fn run_words<'a>(
     nodes: &[u32],
@@ -26,18 +27,13 @@ pub(crate) fn run_words<'a>(
 {
     let all = &names.words[..];
     let end = names.count * 2;
-    run(
+    let tables = Tables {
         nodes,
         children,
         numbers,
-        &all[..end],
+        names: &all[..end],
         strings,
         text,
-        scope,
-        scoping,
-        pattern,
-        value,
-        values,
-        plan,
-    )
+    };
+    run(&tables, scope, scoping, pattern, value, values, plan)
 }

@@ -5,6 +5,7 @@ ghost use Rattle.tolerance.specs.Operations.{JudgedIn};
 
 use crate::records::NameWords;
 use scope::{Scope, ScopingMode};
+use table::tables::Tables;
 use tolerance::ToleranceAnswer;
 
 pub(crate) fn tolerance_words<'a>(
@@ -28,20 +29,15 @@ pub(crate) fn tolerance_words<'a>(
 {
     let all = &names.words[..];
     let end = names.count * 2;
-    tolerance::run_with_tolerance(
+    let tables = Tables {
         nodes,
         children,
         numbers,
-        &all[..end],
+        names: &all[..end],
         strings,
         text,
-        scope,
-        scoping,
-        pattern,
-        value,
-        values,
-        lowest,
-        highest,
-        plan,
+    };
+    tolerance::run_with_tolerance(
+        &tables, scope, scoping, pattern, value, values, lowest, highest, plan,
     )
 }
