@@ -23,7 +23,7 @@ use planner::inner::destructuring::plan_pattern;
 use scope::{Scope, ScopingMode};
 use table::reading::{first_of, is_node, kind_of, name_class};
 use table::tables::Tables;
-use table::{NameClass, TableAnswer, check, node_kind};
+use table::{NameClass, check, node_kind};
 
 // The small scratch: an entry for each of 64 nodes, and the words of these nodes, five each.
 const SMALL_WORDS: usize = 64 * ENTRY_WORDS;
@@ -330,7 +330,7 @@ pub fn create_assignment_binding_plan(
     ensures { AnsweredIn plan (assignment_outcome (contents tables.now) scope op left right reading) result }
 {
     let checked = check(tables, scope);
-    if let TableAnswer::Refused(refused) = checked {
+    if let Err(refused) = checked {
         clear(plan);
         return PlanAnswer::TableRefused(refused);
     }

@@ -13,7 +13,7 @@ use run::inner::names::known_listed;
 use scope::{Scope, ScopingMode};
 use table::reading::is_node;
 use table::tables::Tables;
-use table::{TableAnswer, TableRefusal, check};
+use table::{TableRefusal, check};
 use value::inner::admitted::mark_nodes;
 
 // A pattern's node, with the scope that its names are read in.
@@ -107,7 +107,7 @@ pub(crate) fn check_side(tables: &Tables<'_>, pattern: ScopedPattern, values: &[
     let scope = pattern.scope;
     let scoping = pattern.scoping;
     let checked = check(tables, scope);
-    if let TableAnswer::Refused(refused) = checked {
+    if let Err(refused) = checked {
         return SideAnswer::TableRefused(refused);
     }
     check_root(tables, scope, scoping, pattern.root, values)

@@ -12,8 +12,7 @@ use Rattle.base.specs.Lists.{part}
 use Rattle.base.specs.Refusal.{over_limit, Tested, passed, refused, require, require_or, no_place}
 use Rattle.scope.specs.declared.Scope.{Scope}
 use Rattle.scope.specs.Scope.{new_scope}
-use Rattle.table.specs.declared.TableAnswer.{TableAnswer}
-use Rattle.table.specs.declared.TableAnswer.TheVariants.{Sound, Refused}
+use Rattle.std.proofs.Common.{Result, Ok, Err}
 use Rattle.table.specs.declared.TableRefusal.{TableRefusal}
 use Rattle.table.specs.declared.TableRefusal.TheVariants.{OverLimit, BreaksRules}
 use Rattle.table.specs.Tables.{Tables, tables, record_word, name_bytes}
@@ -62,7 +61,7 @@ table_check T used there = rw (there, within-limits T used (enough_places T.name
 
 -- the check of the names in use
 module _ (nodes ch nums names strings text : List ℕ) (used : ℕ) where
-  pub use_over : 128 < used → tested_of (Refused OverLimit) ≡ checked_in_use (tables nodes ch nums names strings text) used
+  pub use_over : 128 < used → tested_of (Err OverLimit) ≡ checked_in_use (tables nodes ch nums names strings text) used
   unfolding checked_in_use
   use_over many = simp (lt-leb used 128 many, and-false)
 
@@ -73,15 +72,15 @@ module _ (nodes ch nums names strings text : List ℕ) (used : ℕ) where
       unfolding within_limits
       others_within = limits ∙ rw (le-leb used 128 few)
 
-      pub use_broken : r ≡ false → within ≡ true → tested_of (Refused BreaksRules) ≡ checked_in_use (tables nodes ch nums names strings text) used
+      pub use_broken : r ≡ false → within ≡ true → tested_of (Err BreaksRules) ≡ checked_in_use (tables nodes ch nums names strings text) used
       unfolding checked_in_use
       use_broken lacks told-so = rw (← others_within, told-so, ← told, lacks)
 
-      pub use_limits : within ≡ false → tested_of (Refused OverLimit) ≡ checked_in_use (tables nodes ch nums names strings text) used
+      pub use_limits : within ≡ false → tested_of (Err OverLimit) ≡ checked_in_use (tables nodes ch nums names strings text) used
       unfolding checked_in_use
       use_limits no_more = rw (← others_within, no_more)
 
-  pub use_checked : {r : Bool} {s : Scope} {a : TableAnswer} → r ≡ has_names names used → r ≡ true → s ≡ new_scope 0 false
+  pub use_checked : {r : Bool} {s : Scope} {a : Result Unit TableRefusal} → r ≡ has_names names used → r ≡ true → s ≡ new_scope 0 false
       → TableAnswered (in_use (tables nodes ch nums names strings text) used) s a → tested_of a ≡ checked_in_use (tables nodes ch nums names strings text) used
   use_checked told has bare done =
       done.answer ∙ (ap (checked (in_use (tables nodes ch nums names strings text) used)) bare ∙ sym (table_check (tables nodes ch nums names strings text) used (sym told ∙ has)))
@@ -163,12 +162,12 @@ module _ (names : List ℕ) (used start size : ℕ) where
       rw (a, b) (record { answer = refl; names = rw e (sets-eq new_words names (used * 2) (omega arith) ∙ append_assoc (take (used * 2) names) new_words (drop (used * 2 + 2) names)) })
 
 -- the whole call
-module _ (nodes ch nums names strings text : List ℕ) (used start size : ℕ) {checking : TableAnswer} (told : tested_of checking ≡ checked_in_use (tables nodes ch nums names strings text) used) where
-  pub add_table : {a : TableRefusal} → checking ≡ Refused a → NameAdded (add_outcome (tables nodes ch nums names strings text) used start size) used start size names names (Name.TableRefused a)
+module _ (nodes ch nums names strings text : List ℕ) (used start size : ℕ) {checking : Result Unit TableRefusal} (told : tested_of checking ≡ checked_in_use (tables nodes ch nums names strings text) used) where
+  pub add_table : {a : TableRefusal} → checking ≡ Err a → NameAdded (add_outcome (tables nodes ch nums names strings text) used start size) used start size names names (Name.TableRefused a)
   unfolding add_outcome
   add_table is = rw (← told, is) (record { answer = refl; names = refl })
 
-  module _ (sound : checking ≡ Sound) where
+  module _ (sound : checking ≡ Ok tt) where
     passes : checked_in_use (tables nodes ch nums names strings text) used ≡ passed
     passes = sym told ∙ ap tested_of sound
 

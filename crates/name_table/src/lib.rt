@@ -13,7 +13,7 @@ use scope::Scope;
 use table::limits::within_limits;
 use table::reading::{name_bytes, same_bytes};
 use table::tables::Tables;
-use table::{TableAnswer, TableRefusal, check};
+use table::{TableRefusal, check};
 
 // A name that the table rules don't allow is refused as BreaksRules.
 #[derive(Clone, Copy)]
@@ -35,11 +35,11 @@ fn has_names(names: &[u32], used: u32) -> bool
 }
 
 // The table check of the names in use, which are the first of the lent table.
-fn check_in_use(tables: &Tables<'_>, used: u32) -> TableAnswer
+fn check_in_use(tables: &Tables<'_>, used: u32) -> Result<(), TableRefusal>
     ensures { tested_of result ≡ checked_in_use (contents tables.now) used }
 {
     if 128 < used {
-        return TableAnswer::Refused(TableRefusal::OverLimit);
+        return Err(TableRefusal::OverLimit);
     }
     if has_names(tables.names, used) {
         let words = used as usize * 2;
@@ -48,9 +48,9 @@ fn check_in_use(tables: &Tables<'_>, used: u32) -> TableAnswer
     }
     let names = &tables.names[..0];
     if within_limits(&Tables { names, ..*tables }) {
-        return TableAnswer::Refused(TableRefusal::BreaksRules);
+        return Err(TableRefusal::BreaksRules);
     }
-    TableAnswer::Refused(TableRefusal::OverLimit)
+    Err(TableRefusal::OverLimit)
 }
 
 // May a name have this range of the text?
@@ -119,7 +119,7 @@ pub fn add_name<'a>(
         text,
     };
     let checked = check_in_use(&tables, used);
-    if let TableAnswer::Refused(refused) = checked {
+    if let Err(refused) = checked {
         return NameAnswer::TableRefused(refused);
     }
     if !is_allowed(text, start, size) {

@@ -10,8 +10,7 @@ use Rattle.base.specs.Refusal as Refusal
 use Rattle.base.specs.Refusal.{Refusal, Tested, passed, root_outside, reserved_name}
 use Rattle.scope.specs.declared.Scope.{Scope}
 use Rattle.scope.specs.declared.ScopingMode.TheVariants.{RespectParent}
-use Rattle.table.specs.declared.TableAnswer.{TableAnswer}
-use Rattle.table.specs.declared.TableAnswer.TheVariants.{Sound, Refused}
+use Rattle.std.proofs.Common.{Result, Ok, Err}
 use Rattle.table.specs.declared.TableRefusal.{TableRefusal}
 use Rattle.table.specs.Tables.{Tables}
 use Rattle.table.specs.Check.{checked, table_refused, tested_of, TableAnswered, all_nodes}
@@ -86,7 +85,7 @@ version_laws = record {
 }
 
 -- the search for the name is asked where the table check and the roots pass
-pub ask_names : (T : Tables) (s : Scope) (operation : Operation) {c : TableAnswer} → TableAnswered T s c → c ≡ Sound
+pub ask_names : (T : Tables) (s : Scope) (operation : Operation) {c : Result Unit TableRefusal} → TableAnswered T s c → c ≡ Ok tt
     → {inside : Bool} → inside ≡ all_nodes (in_nodes T.nodes) (roots_of operation) → not inside ≡ false → ReservedAsks T operation
 ask_names T s operation told sound {inside} are in_table =
     record { table = sound_well T s told sound; roots = sym (are ∙ nodes_of_table T (roots_of operation)) ∙ not-false inside in_table }
@@ -96,11 +95,11 @@ module _ (T : Tables) (s : Scope) (version : ℕ) (operation : Operation) where
   pub none_other : (version ≡ 1 → ⊥) → 0 ≡ refusing_name T s version operation
   none_other other = simp (ne_eqb version 1 other)
 
-  module _ (one : version ≡ 1) {c : TableAnswer} (told : TableAnswered T s c) where
-    pub none_table : {d : TableRefusal} → c ≡ Refused d → 0 ≡ refusing_name T s version operation
+  module _ (one : version ≡ 1) {c : Result Unit TableRefusal} (told : TableAnswered T s c) where
+    pub none_table : {d : TableRefusal} → c ≡ Err d → 0 ≡ refusing_name T s version operation
     none_table {d} e = let p : checked T s ≡ Refusal.refused (table_refused d) = sym told.answer ∙ ap tested_of e in simp (eq-eqb version 1 one, p)
 
-    module _ (sound : c ≡ Sound) {inside : Bool} (are : inside ≡ all_nodes (in_nodes T.nodes) (roots_of operation)) where
+    module _ (sound : c ≡ Ok tt) {inside : Bool} (are : inside ≡ all_nodes (in_nodes T.nodes) (roots_of operation)) where
       pub none_roots : not inside ≡ true → 0 ≡ refusing_name T s version operation
       none_roots out =
           let i : all_nodes T (roots_of operation) ≡ false = sym (are ∙ nodes_of_table T (roots_of operation)) ∙ not-true inside out in

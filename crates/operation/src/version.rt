@@ -15,7 +15,7 @@ use planner::inner::names::first_name;
 use scope::{Scope, ScopingMode};
 use table::reading::name_class;
 use table::tables::Tables;
-use table::{NameClass, TableAnswer, check};
+use table::{NameClass, check};
 
 // The state of a name, 0 for one that is not reserved.
 fn reserved_state(names: &[u32], text: &[u8], name: u32, state: u8) -> u8
@@ -82,7 +82,7 @@ pub(crate) fn refusing_name(
         return 0;
     }
     let checked = check(tables, scope);
-    if let TableAnswer::Refused(refused) = checked {
+    if let Err(refused) = checked {
         return 0;
     }
     if !roots_are_nodes(tables.nodes, operation) {

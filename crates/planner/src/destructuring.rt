@@ -10,9 +10,9 @@ use crate::buffer::{clear, close};
 use crate::inner::destructuring::plan_pattern;
 use crate::inner::parameters::validate_pattern_bindings;
 use scope::{Scope, ScopingMode};
+use table::check;
 use table::reading::is_node;
 use table::tables::Tables;
-use table::{TableAnswer, check};
 
 // A pattern of a good table: its plan in the lent buffer, or, if it is validated, its first name that is defined already.
 fn deliver_pattern(
@@ -52,7 +52,7 @@ pub(crate) fn create_plan(
     ensures { AnsweredIn plan (outcome_if validate (contents tables.now) scope scoping root) result }
 {
     let checked = check(tables, scope);
-    if let TableAnswer::Refused(refused) = checked {
+    if let Err(refused) = checked {
         clear(plan);
         return PlanAnswer::TableRefused(refused);
     }

@@ -11,8 +11,7 @@ use lib.Seq.{get_or-set_same, get_or-set_other, ext_get_or}
 use Rattle.scope.specs.declared.Scope.{Scope}
 use Rattle.scope.specs.declared.ScopingMode.{ScopingMode}
 use Rattle.scope.specs.Scope.{is_unbound}
-use Rattle.table.specs.declared.TableAnswer.{TableAnswer}
-use Rattle.table.specs.declared.TableAnswer.TheVariants.{Sound, Refused}
+use Rattle.std.proofs.Common.{Result, Ok, Err}
 use Rattle.table.specs.declared.TableRefusal.{TableRefusal}
 use Rattle.table.specs.Tables.{Tables, first_word_of, name_count, is_node}
 use Rattle.table.specs.Expr as Expr
@@ -264,20 +263,20 @@ module _ (T : Tables) (s : Scope) (mode : ScopingMode) (pattern : ℕ) {before :
     }
 
 -- the refusals
-module _ (T : Tables) (s : Scope) (mode : ScopingMode) (pattern : ℕ) (before : List ℕ) {c : TableAnswer} (is : TableAnswered T s c) where
+module _ (T : Tables) (s : Scope) (mode : ScopingMode) (pattern : ℕ) (before : List ℕ) {c : Result Unit TableRefusal} (is : TableAnswered T s c) where
   reports : {after : List ℕ} (o : ReportOutcome) {r : ReportAnswer} → report_outcome T s pattern before ≡ o → report_line r ≡ report_answer o → after ≡ report_list o T s mode pattern before → ReportedBy T s mode pattern before after r
   reports o e l f = record { answer = l ∙ sym (ap report_answer e); list = f ∙ sym (ap (λ (x : ReportOutcome). report_list x T s mode pattern before) e) }
 
   abbrev sound : ReportOutcome
   sound = require (all_nodes T (pattern ∷ [])) root_outside (require (leb (name_count T) (length before)) list_too_short filled)
 
-  by_check : {d : TableAnswer} → c ≡ d → report_outcome T s pattern before ≡ tested_or refused (tested_of d) sound
+  by_check : {d : Result Unit TableRefusal} → c ≡ d → report_outcome T s pattern before ≡ tested_or refused (tested_of d) sound
   by_check p = ap (λ (t : Tested). tested_or refused t sound) (sym is.answer ∙ ap tested_of p)
 
-  pub report_table : {d : TableRefusal} {after : List ℕ} → c ≡ Refused d → after ≡ replicate (length before) 0 → ReportedBy T s mode pattern before after (TableRefused d)
+  pub report_table : {d : TableRefusal} {after : List ℕ} → c ≡ Err d → after ≡ replicate (length before) 0 → ReportedBy T s mode pattern before after (TableRefused d)
   report_table {d} p z = reports (refused (table_refused d)) (by_check p) refl z
 
-  module _ (told-sound : c ≡ Sound) {inside : Bool} (told : inside ≡ is_node T pattern) where
+  module _ (told-sound : c ≡ Ok tt) {inside : Bool} (told : inside ≡ is_node T pattern) where
     passed : report_outcome T s pattern before ≡ sound
     passed = by_check told-sound
 

@@ -15,7 +15,7 @@ use planner::inner::destructuring::plan_pattern;
 use scope::{Scope, ScopingMode};
 use table::reading::{first_of, is_node};
 use table::tables::Tables;
-use table::{TableAnswer, TableRefusal, check};
+use table::{TableRefusal, check};
 
 pub mod inner;
 mod keys;
@@ -104,7 +104,7 @@ pub fn names_report(
     ensures { ReportedIn list (contents tables.now) scope scoping pattern result }
 {
     let checked = check(tables, scope);
-    if let TableAnswer::Refused(refused) = checked {
+    if let Err(refused) = checked {
         clear(list);
         return ReportAnswer::TableRefused(refused);
     }

@@ -12,8 +12,7 @@ use Rattle.base.specs.Refusal as Tested
 use Rattle.scope.specs.declared.Scope.{Scope}
 use Rattle.scope.specs.declared.ScopingMode.{ScopingMode}
 use Rattle.scope.specs.Scope.{known}
-use Rattle.table.specs.declared.TableAnswer.{TableAnswer}
-use Rattle.table.specs.declared.TableAnswer.TheVariants as Table
+use Rattle.std.proofs.Common.{Result, Ok, Err}
 use Rattle.table.specs.declared.TableRefusal.{TableRefusal}
 use Rattle.table.specs.Tables.{Tables, name_count, is_node}
 use Rattle.table.specs.Decode.{expr}
@@ -103,14 +102,14 @@ module _ (T : Tables) (s : Scope) (mode : ScopingMode) (pattern value : ℕ) (va
               })
 
 -- 2. The table check, the roots, the length of the list
-module _ (T : Tables) (s : Scope) (mode : ScopingMode) (pattern value : ℕ) (values : List ℕ) {c : TableAnswer} (is : TableAnswered T s c) where
-  ends : {d : TableAnswer} → c ≡ d → run_outcome T s mode pattern value values ≡ table_first (tested_of d) (run_checked T s mode pattern value values)
+module _ (T : Tables) (s : Scope) (mode : ScopingMode) (pattern value : ℕ) (values : List ℕ) {c : Result Unit TableRefusal} (is : TableAnswered T s c) where
+  ends : {d : Result Unit TableRefusal} → c ≡ d → run_outcome T s mode pattern value values ≡ table_first (tested_of d) (run_checked T s mode pattern value values)
   ends p = ap (λ (t : Tested). table_first t (run_checked T s mode pattern value values)) (sym is.answer ∙ ap tested_of p)
 
-  pub table_refused_lem : {d : TableRefusal} → c ≡ Table.Refused d → CheckTold T s mode pattern value values (Refused (TableRefused d))
+  pub table_refused_lem : {d : TableRefusal} → c ≡ Err d → CheckTold T s mode pattern value values (Refused (TableRefused d))
   table_refused_lem {d} p = turns T s mode pattern value values (table_refused d) (TableRefused d) (ends p) refl
 
-  module _ (sound : c ≡ Table.Sound) where
+  module _ (sound : c ≡ Ok tt) where
     outcome_is : run_outcome T s mode pattern value values ≡ run_checked T s mode pattern value values
     outcome_is = ends sound
 
@@ -130,7 +129,7 @@ module _ (T : Tables) (s : Scope) (mode : ScopingMode) (pattern value : ℕ) (va
               let g = lt-leb (name_count T) (length values) lt in
               turns T s mode pattern value values list_too_short ListTooShort (outcome_is ∙ rw (e, f, g)) refl
 
-pub ask_checked : (T : Tables) (s : Scope) (pattern value : ℕ) (values : List ℕ) {c : TableAnswer} → TableAnswered T s c → c ≡ Table.Sound → {one : Bool} → one ≡ is_node T pattern → not one ≡ false → {two : Bool} → two ≡ is_node T value → not two ≡ false
+pub ask_checked : (T : Tables) (s : Scope) (pattern value : ℕ) (values : List ℕ) {c : Result Unit TableRefusal} → TableAnswered T s c → c ≡ Ok tt → {one : Bool} → one ≡ is_node T pattern → not one ≡ false → {two : Bool} → two ≡ is_node T value → not two ≡ false
     → length T.names / 2 ≤ length values → CheckedAsks T s pattern value values
 ask_checked T s pattern value values is sound one one_inside two two-inside long = record { sound = check_passes T s is sound; pattern_node = root_node T pattern one one_inside; value_node_lem = root_node T value two two-inside; long = long }
 

@@ -1,4 +1,5 @@
 -- `some .. in`, answer by answer.
+use Rattle.table.specs.declared.TableRefusal.{TableRefusal}
 use Prim.Native.Nat.{ℕ}
 use mathlib.Core.Path.{◌≡◌, sym, ◌∙◌}
 use mathlib.Core.Bool.{Bool, true, false, cond, not}
@@ -9,8 +10,7 @@ use lib.Dec.{eqb}
 use lib.ListN.{length, replicate}
 use Rattle.scope.specs.declared.Scope.{Scope}
 use Rattle.scope.specs.declared.ScopingMode.TheVariants.{RespectParent}
-use Rattle.table.specs.declared.TableAnswer.{TableAnswer}
-use Rattle.table.specs.declared.TableAnswer.TheVariants.{Sound}
+use Rattle.std.proofs.Common.{Result, Ok}
 use Rattle.table.specs.Tables.{Tables, is_node}
 use Rattle.table.specs.Check.{checked, TableAnswered, all_nodes}
 use Rattle.table.specs.Decode.{expr}
@@ -90,7 +90,7 @@ key_decides T value collection key {v} {l} in-value at_value in-collection at-co
     rw (w, q) e
 
 -- the table check and the roots
-module _ (T : Tables) (s : Scope) {c : TableAnswer} (is : TableAnswered T s c) (told : c ≡ Sound) where
+module _ (T : Tables) (s : Scope) {c : Result Unit TableRefusal} (is : TableAnswered T s c) (told : c ≡ Ok tt) where
   sound : checked T s ≡ passed
   sound = check_passes T s is told
 

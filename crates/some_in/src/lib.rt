@@ -17,9 +17,9 @@ use planner::buffer::{clear, close};
 use planner::inner::destructuring::plan_pattern;
 use planner::inner::parameters::validate_pattern_bindings;
 use scope::{Scope, ScopingMode};
+use table::check;
 use table::reading::is_node;
 use table::tables::Tables;
-use table::{TableAnswer, check};
 
 // A pattern's plan in the buffer: the place after its entries, and the first name that is defined already, or 0.
 #[derive(Clone, Copy)]
@@ -167,7 +167,7 @@ pub fn create_some_in_binding_plan(
     ensures { AnsweredIn plan (some_in_outcome (contents tables.now) scope value collection key reading) result }
 {
     let checked = check(tables, scope);
-    if let TableAnswer::Refused(refused) = checked {
+    if let Err(refused) = checked {
         clear(plan);
         return PlanAnswer::TableRefused(refused);
     }

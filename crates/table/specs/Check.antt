@@ -4,8 +4,7 @@ use Rattle.base.specs.Refusal.{Refusal, over_limit, breaks_rules, too_deep, equa
 use Rattle.scope.specs.declared.Scope.{Scope}
 use Rattle.table.specs.Tables.{Tables, is_node}
 use Rattle.table.specs.Rules.{within_limits, follows_rules, shallow, names_differ}
-use Rattle.table.specs.declared.TableAnswer.{TableAnswer}
-use Rattle.table.specs.declared.TableAnswer.TheVariants.{Sound, Refused}
+use Rattle.std.specs.Prelude.{Result, Ok, Err}
 use Rattle.table.specs.declared.TableRefusal.{TableRefusal}
 use Rattle.table.specs.declared.TableRefusal.TheVariants.{OverLimit, BreaksRules, TooDeep, EqualNames}
 
@@ -24,16 +23,16 @@ table_refused BreaksRules = breaks_rules
 table_refused TooDeep = too_deep
 table_refused EqualNames = equal_names
 
-abbrev pub tested_of : TableAnswer → Tested
-tested_of Sound = passed
-tested_of (Refused r) = refused (table_refused r)
+abbrev pub tested_of : Result Unit TableRefusal → Tested
+tested_of (Ok done) = passed
+tested_of (Err r) = refused (table_refused r)
 
-pub record TableAnswered (T : Tables) (s : Scope) (r : TableAnswer) : Type 0 where
+pub record TableAnswered (T : Tables) (s : Scope) (r : Result Unit TableRefusal) : Type 0 where
   pub answer : tested_of r ≡ checked T s
 
 -- document 01's numbers settle the answer
 pub record TableLaws : Type 0 where
-  pub settled : (r q : TableAnswer) → tested_of r ≡ tested_of q → r ≡ q
+  pub settled : (r q : Result Unit TableRefusal) → tested_of r ≡ tested_of q → r ≡ q
 
 -- Is each root a node of the table?
 abbrev pub all_nodes : Tables → List ℕ → Bool

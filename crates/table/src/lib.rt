@@ -32,12 +32,6 @@ pub enum TableRefusal {
     EqualNames,
 }
 
-#[derive(Clone, Copy)]
-pub enum TableAnswer {
-    Sound,
-    Refused(TableRefusal),
-}
-
 // The number of a refusal.
 pub fn refusal_number(refused: TableRefusal) -> u32
     ensures { result ≡ (table_refused refused).number }
@@ -66,20 +60,20 @@ pub enum NameClass {
 }
 
 // The first that holds: over a limit, breaks a rule, too deep, two names of equal bytes.
-pub fn check(tables: &Tables<'_>, scope: Scope) -> TableAnswer
+pub fn check(tables: &Tables<'_>, scope: Scope) -> Result<(), TableRefusal>
     ensures { TableAnswered (contents tables.now) scope result }
 {
     if !within_limits(tables) {
-        return TableAnswer::Refused(TableRefusal::OverLimit);
+        return Err(TableRefusal::OverLimit);
     }
     if !follows_rules(tables, scope) {
-        return TableAnswer::Refused(TableRefusal::BreaksRules);
+        return Err(TableRefusal::BreaksRules);
     }
     if !depths_ok(tables.nodes, tables.children, tables.nodes.len() / 5) {
-        return TableAnswer::Refused(TableRefusal::TooDeep);
+        return Err(TableRefusal::TooDeep);
     }
     if !names_differ(tables.names, tables.text) {
-        return TableAnswer::Refused(TableRefusal::EqualNames);
+        return Err(TableRefusal::EqualNames);
     }
-    TableAnswer::Sound
+    Ok(())
 }

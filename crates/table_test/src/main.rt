@@ -5,7 +5,7 @@ ghost use Rattle.std.specs.Prelude.{◌≤◌, IfOk};
 
 use scope::Scope;
 use std::io;
-use table::{TableAnswer, refusal_number};
+use table::refusal_number;
 
 const NODES: [[u32; 5]; 16] = [
     [1, 0, 1, 0, 2], // "ab"
@@ -111,10 +111,10 @@ fn value_of(code: u64) -> u64 {
     }
 }
 
-fn number_of(answer: TableAnswer) -> u64 {
+fn number_of(answer: Result<(), TableRefusal>) -> u64 {
     match answer {
-        TableAnswer::Sound => 0,
-        TableAnswer::Refused(refused) => refusal_number(refused) as u64,
+        Ok(()) => 0,
+        Err(refused) => refusal_number(refused) as u64,
     }
 }
 

@@ -1,4 +1,5 @@
 -- `:=` and `=`, answer by answer.
+use Rattle.table.specs.declared.TableRefusal.{TableRefusal}
 use Prim.Native.Nat.{ℕ, ◌/◌, ◌≤◌}
 use mathlib.Core.Path.{◌≡◌, refl, sym, ap, ap₂, subst, ◌∙◌}
 use mathlib.Core.List.{List, [], ◌∷◌}
@@ -9,8 +10,7 @@ use lib.Dec.{eqb, leb}
 use lib.ListN.{length, replicate}
 use Rattle.scope.specs.declared.Scope.{Scope}
 use Rattle.scope.specs.declared.ScopingMode.TheVariants.{RespectParent, AllowShadowing}
-use Rattle.table.specs.declared.TableAnswer.{TableAnswer}
-use Rattle.table.specs.declared.TableAnswer.TheVariants.{Sound}
+use Rattle.std.proofs.Common.{Result, Ok}
 use Rattle.table.specs.declared.NameClass.{NameClass}
 use Rattle.table.specs.declared.NameClass.TheVariants.{Underscore, InputOrData, Ordinary}
 use Rattle.table.specs.Tables.{Tables, kind_of, first_word_of, name_bytes, is_node}
@@ -211,7 +211,7 @@ module _ (T : Tables) (s : Scope) (op : AssignOp) (left right : ℕ) (reading : 
   assigns_equals e a = simp e a
 
 -- the table check and both roots
-module _ (T : Tables) (s : Scope) (op : AssignOp) (left right : ℕ) (reading : Reading) {c : TableAnswer} (is : TableAnswered T s c) (sound : c ≡ Sound) {before later : List ℕ} where
+module _ (T : Tables) (s : Scope) (op : AssignOp) (left right : ℕ) (reading : Reading) {c : Result Unit TableRefusal} (is : TableAnswered T s c) (sound : c ≡ Ok tt) {before later : List ℕ} where
   module _ {l : Bool} (in_left : l ≡ is_node T left) where
     pub left_outside : not l ≡ true → later ≡ replicate (length before) 0 → Answered (assignment_outcome T s op left right reading) before later RootOutside
     left_outside n z =

@@ -10,8 +10,7 @@ use Rattle.base.specs.Refusal as Refusal
 use Rattle.scope.specs.declared.Scope.{Scope}
 use Rattle.scope.specs.declared.ScopingMode.{ScopingMode}
 use Rattle.scope.specs.Scope.{known}
-use Rattle.table.specs.declared.TableAnswer.{TableAnswer}
-use Rattle.table.specs.declared.TableAnswer.TheVariants.{Sound, Refused}
+use Rattle.std.proofs.Common.{Result, Ok, Err}
 use Rattle.table.specs.declared.TableRefusal.{TableRefusal}
 use Rattle.table.specs.Tables.{Tables, name_count, is_node}
 use Rattle.table.specs.Decode.{expr}
@@ -99,16 +98,16 @@ module _ (T : Tables) (s : Scope) (mode : ScopingMode) (pattern : ℕ) (values :
     inside_end long {r} i = let e = told_yes told root in let g = le-leb (name_count T) (length values) long in record { answer = i.answer ∙ sym (rw (e, g)) }
 
 -- the table check
-pub ask_root : (T : Tables) (s : Scope) {c : TableAnswer} → TableAnswered T s c → c ≡ Sound → RootAsks T s
+pub ask_root : (T : Tables) (s : Scope) {c : Result Unit TableRefusal} → TableAnswered T s c → c ≡ (Ok tt) → RootAsks T s
 ask_root T s is sound = record { sound = check_passes T s is sound }
 
-module _ (T : Tables) (p : ScopedPattern) (values : List ℕ) {c : TableAnswer} (is : TableAnswered T p.scope c) where
-  first : {d : TableAnswer} → c ≡ d → side_checked T (pattern_side p values) ≡ tested_or Refusal.refused (tested_of d) (root_tested T p.scope p.scoping p.root values)
+module _ (T : Tables) (p : ScopedPattern) (values : List ℕ) {c : Result Unit TableRefusal} (is : TableAnswered T p.scope c) where
+  first : {d : Result Unit TableRefusal} → c ≡ d → side_checked T (pattern_side p values) ≡ tested_or Refusal.refused (tested_of d) (root_tested T p.scope p.scoping p.root values)
   unfolding side_checked inside_tested values_tested root_tested
   first e = ap (λ (t : Tested). tested_or Refusal.refused t (root_tested T p.scope p.scoping p.root values)) (sym is.answer ∙ ap tested_of e)
 
-  pub table_refused_lem : {d : TableRefusal} → c ≡ Refused d → SideAnswered T (pattern_side p values) (Side.TableRefused d)
+  pub table_refused_lem : {d : TableRefusal} → c ≡ Err d → SideAnswered T (pattern_side p values) (Side.TableRefused d)
   table_refused_lem e = record { answer = sym (first e) }
 
-  pub side_ends : c ≡ Sound → {r : SideAnswer} → RootAnswered T p.scope p.scoping p.root values r → SideAnswered T (pattern_side p values) r
+  pub side_ends : c ≡ (Ok tt) → {r : SideAnswer} → RootAnswered T p.scope p.scoping p.root values r → SideAnswered T (pattern_side p values) r
   side_ends sound {r} i = record { answer = i.answer ∙ sym (first sound) }

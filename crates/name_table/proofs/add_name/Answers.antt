@@ -2,8 +2,8 @@ use Rattle.name_table.proofs.Cases.{add_table, few_used, add_barred, range_insid
 use borrow.Author.Rules.{rules}
 use Rattle.name_table.proofs.add_name.Goals as goal
 
-pub returns-in-Refused : goal.returns-in-Refused
-returns-in-Refused c = search (add_table, rules)
+pub returns-in-Err : goal.returns-in-Err
+returns-in-Err c = search (add_table, rules)
 
 pub returns-then-not-is_allowed : goal.returns-then-not-is_allowed
 returns-then-not-is_allowed c = search (add_barred, rules)

@@ -10,8 +10,7 @@ use lib.ListN.{length, get_or, replicate}
 use Rattle.scope.specs.declared.Scope.{Scope}
 use Rattle.scope.specs.declared.ScopingMode.{ScopingMode}
 use Rattle.base.specs.Refusal as Refusal
-use Rattle.table.specs.declared.TableAnswer.{TableAnswer}
-use Rattle.table.specs.declared.TableAnswer.TheVariants.{Sound, Refused}
+use Rattle.std.proofs.Common.{Result, Ok, Err}
 use Rattle.table.specs.declared.TableRefusal.{TableRefusal}
 use Rattle.table.specs.Tables.{Tables, node_count, is_node}
 use Rattle.table.specs.Check.{checked, table_refused, TableAnswered, tested_of, all_nodes}
@@ -66,10 +65,10 @@ unfolding answered written
 refuses a l e = record { answer = l; buffer = e }
 
 -- the table check, the root, and a plan that is delivered
-pub check_passes : (T : Tables) (s : Scope) {c : TableAnswer} → TableAnswered T s c → c ≡ Sound → checked T s ≡ passed
+pub check_passes : (T : Tables) (s : Scope) {c : Result Unit TableRefusal} → TableAnswered T s c → c ≡ (Ok tt) → checked T s ≡ passed
 check_passes T s is sound = sym is.answer ∙ ap tested_of sound
 
-pub sound_well : (T : Tables) (s : Scope) {c : TableAnswer} → TableAnswered T s c → c ≡ Sound → WellFormed T
+pub sound_well : (T : Tables) (s : Scope) {c : Result Unit TableRefusal} → TableAnswered T s c → c ≡ (Ok tt) → WellFormed T
 sound_well T s is sound = (sound_table T s (check_passes T s is sound)).well_formed_lem
 
 is-node : (T : Tables) (root : ℕ) {inside : Bool} → inside ≡ is_node T root → not inside ≡ false → is_node T root ≡ true
@@ -80,7 +79,7 @@ root_node T root told in_table =
     let b = and_true (leb 1 root) _ (is-node T root told in_table) in
     record { low = leb-true 1 root b.0; high = leb-true root (node_count T) b.1 }
 
-pub good_root : (T : Tables) (s : Scope) {c : TableAnswer} → TableAnswered T s c → c ≡ Sound → (root : ℕ) {inside : Bool} → inside ≡ is_node T root → not inside ≡ false → GoodRoot T root
+pub good_root : (T : Tables) (s : Scope) {c : Result Unit TableRefusal} → TableAnswered T s c → c ≡ (Ok tt) → (root : ℕ) {inside : Bool} → inside ≡ is_node T root → not inside ≡ false → GoodRoot T root
 good_root T s is sound root told in_table = record { table = sound_well T s is sound; node = root_node T root told in_table }
 
 -- a table that passed the check, and the roots of an operation
@@ -91,11 +90,11 @@ module _ (T : Tables) (s : Scope) (sound : checked T s ≡ passed) (roots : List
   pub roots_pass : {r : PlanAnswer} → all_nodes T roots ≡ true → Answered o before later r → Answered (checked_first T s roots o) before later r
   roots_pass inside p = simp (sound, inside) p
 
-module _ (T : Tables) (s : Scope) {c : TableAnswer} (is : TableAnswered T s c) (before : List ℕ) where
-  pub table_refuses : (o : Outcome) {d : TableRefusal} {later : List ℕ} → c ≡ Refused d → later ≡ replicate (length before) 0 → Answered (table_first (checked T s) o) before later (TableRefused d)
+module _ (T : Tables) (s : Scope) {c : Result Unit TableRefusal} (is : TableAnswered T s c) (before : List ℕ) where
+  pub table_refuses : (o : Outcome) {d : TableRefusal} {later : List ℕ} → c ≡ Err d → later ≡ replicate (length before) 0 → Answered (table_first (checked T s) o) before later (TableRefused d)
   table_refuses o {d} p e = let q : checked T s ≡ Refusal.refused (table_refused d) = sym is.answer ∙ ap tested_of p in simp q (refuses (table_refused d) refl e)
 
-  module _ (sound : c ≡ Sound) where
+  module _ (sound : c ≡ Ok tt) where
     module _ (root : ℕ) {inside : Bool} (told : inside ≡ is_node T root) where
       pub root_refuses : (o : Outcome) {later : List ℕ} → not inside ≡ true → later ≡ replicate (length before) 0 → Answered (checked_first T s (root ∷ []) o) before later RootOutside
       root_refuses o {later} out e = let r : is_node T root ≡ false = sym told ∙ not-true inside out in roots_refuse T s (check_passes T s is sound) (root ∷ []) o (rw r) e

@@ -2,8 +2,8 @@ use Rattle.report.proofs.Reporting.{report_table, report_root, report_short, ask
 use borrow.Author.Rules.{rules}
 use Rattle.report.proofs.names_report.Goals as goal
 
-pub returns-in-Refused : goal.returns-in-Refused
-returns-in-Refused c = search (report_table, rules)
+pub returns-in-Err : goal.returns-in-Err
+returns-in-Err c = search (report_table, rules)
 
 pub returns-then-not-is_node : goal.returns-then-not-is_node
 returns-then-not-is_node c = search (report_root, rules)

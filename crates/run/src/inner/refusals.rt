@@ -7,9 +7,9 @@ use crate::RunAnswer;
 use crate::inner::checks::{all_values, is_simple};
 use crate::inner::names::known_listed;
 use scope::{Scope, ScopingMode};
+use table::check;
 use table::reading::is_node;
 use table::tables::Tables;
-use table::{TableAnswer, check};
 
 #[derive(Clone, Copy)]
 pub enum RunCheck {
@@ -53,7 +53,7 @@ pub fn check_run(
     ensures { CheckToldIn values (contents tables.now) scope scoping pattern value result }
 {
     let checked = check(tables, scope);
-    if let TableAnswer::Refused(refused) = checked {
+    if let Err(refused) = checked {
         return RunCheck::Refused(RunAnswer::TableRefused(refused));
     }
     if !is_node(tables.nodes, pattern) {

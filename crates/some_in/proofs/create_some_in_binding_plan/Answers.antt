@@ -3,8 +3,8 @@ use Rattle.some_in.proofs.Answers.{value_outside, collection_outside, goes_witho
 use borrow.Author.Rules.{rules}
 use Rattle.some_in.proofs.create_some_in_binding_plan.Goals as goal
 
-pub returns-in-Refused : goal.returns-in-Refused
-returns-in-Refused c = search (table_refuses, rules)
+pub returns-in-Err : goal.returns-in-Err
+returns-in-Err c = search (table_refuses, rules)
 
 pub returns-then-not-is_node : goal.returns-then-not-is_node
 returns-then-not-is_node c = search (value_outside, rules)

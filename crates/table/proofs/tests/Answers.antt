@@ -1,4 +1,5 @@
 -- The check's parts put together, answer by answer.
+use Rattle.table.specs.declared.TableRefusal.{TableRefusal}
 use Prim.Native.Nat.{ℕ, ◌+◌, ◌-◌, ◌/◌, ◌≤◌, ◌<◌}
 use mathlib.Core.Path.{◌≡◌, refl, sym, ap, ◌∙◌}
 use mathlib.Core.List.{List, []}
@@ -9,8 +10,7 @@ use borrow.Author.Tests.{leb-true}
 use lib.Dec.{eqb, leb}
 use lib.ListN.{length, get_or}
 use Rattle.scope.specs.declared.Scope.{Scope}
-use Rattle.table.specs.declared.TableAnswer.{TableAnswer}
-use Rattle.table.specs.declared.TableAnswer.TheVariants.{Sound, Refused}
+use Rattle.std.proofs.Common.{Result, Ok, Err}
 use Rattle.table.specs.declared.TableRefusal.TheVariants.{OverLimit, BreaksRules, TooDeep, EqualNames}
 use Rattle.table.specs.Tables.{Tables, tables, first_word_of, node_count, number_count, name_count, width, child_at}
 use Rattle.table.specs.Expr.{depth}
@@ -144,12 +144,12 @@ module _ (nodes ch nums names strings text : List ℕ) where
 
 -- the answers
 module _ (nodes ch nums names strings text : List ℕ) (s : Scope) {a : Bool} (limits : a ≡ within_limits (tables nodes ch nums names strings text)) where
-  pub answer_limit : not a ≡ true → TableAnswered (tables nodes ch nums names strings text) s (Refused OverLimit)
+  pub answer_limit : not a ≡ true → TableAnswered (tables nodes ch nums names strings text) s (Err OverLimit)
   unfolding checked
   answer_limit t = record { answer = rw (told_no limits t) }
 
   module _ (t : not a ≡ false) {b : Bool} (rules : b ≡ follows_rules (tables nodes ch nums names strings text) s) where
-    pub answer_rules : not b ≡ true → TableAnswered (tables nodes ch nums names strings text) s (Refused BreaksRules)
+    pub answer_rules : not b ≡ true → TableAnswered (tables nodes ch nums names strings text) s (Err BreaksRules)
     unfolding checked
     answer_rules u = record { answer = rw (told_yes limits t, told_no rules u) }
 
@@ -168,7 +168,7 @@ module _ (nodes ch nums names strings text : List ℕ) (s : Scope) {a : Bool} (l
         unfolding shallow
         told_shallow = deep.told (λ (n : ℕ). depth (expr (tables nodes ch nums names strings text) n)) (depths_of (tables nodes ch nums names strings text) well)
 
-        pub answer_deep : not d ≡ true → TableAnswered (tables nodes ch nums names strings text) s (Refused TooDeep)
+        pub answer_deep : not d ≡ true → TableAnswered (tables nodes ch nums names strings text) s (Err TooDeep)
         unfolding checked
         answer_deep v = record { answer = rw (told_yes limits t, told_yes rules u, told_no told_shallow v) }
 
@@ -177,25 +177,25 @@ module _ (nodes ch nums names strings text : List ℕ) (s : Scope) {a : Bool} (l
           unfolding names_differ
           same_names = refl
 
-          pub answer_names : not e ≡ true → TableAnswered (tables nodes ch nums names strings text) s (Refused EqualNames)
+          pub answer_names : not e ≡ true → TableAnswered (tables nodes ch nums names strings text) s (Err EqualNames)
           unfolding checked
           answer_names w = record { answer = rw (told_yes limits t, told_yes rules u, told_yes told_shallow v, told_no (differ ∙ same_names) w) }
 
-          pub answer_sound : not e ≡ false → TableAnswered (tables nodes ch nums names strings text) s Sound
+          pub answer_sound : not e ≡ false → TableAnswered (tables nodes ch nums names strings text) s (Ok tt)
           unfolding checked
           answer_sound w = record { answer = rw (told_yes limits t, told_yes rules u, told_yes told_shallow v, told_yes (differ ∙ same_names) w) }
 
 -- an answer from its number
-abbrev answer_in : Tested → TableAnswer
-answer_in passed = Sound
-answer_in (refused r) = cond (eqb r.number 1) (Refused OverLimit) (cond (eqb r.number 2) (Refused BreaksRules) (cond (eqb r.number 3) (Refused TooDeep) (Refused EqualNames)))
+abbrev answer_in : Tested → Result Unit TableRefusal
+answer_in passed = Ok tt
+answer_in (refused r) = cond (eqb r.number 1) (Err OverLimit) (cond (eqb r.number 2) (Err BreaksRules) (cond (eqb r.number 3) (Err TooDeep) (Err EqualNames)))
 
-back : (r : TableAnswer) → answer_in (tested_of r) ≡ r
-back Sound = refl
-back (Refused OverLimit) = refl
-back (Refused BreaksRules) = refl
-back (Refused TooDeep) = refl
-back (Refused EqualNames) = refl
+back : (r : Result Unit TableRefusal) → answer_in (tested_of r) ≡ r
+back (Ok tt) = refl
+back (Err OverLimit) = refl
+back (Err BreaksRules) = refl
+back (Err TooDeep) = refl
+back (Err EqualNames) = refl
 
 pub table_laws : TableLaws
 table_laws = record { settled = λ r q e. sym (back r) ∙ (ap answer_in e ∙ back q) }

@@ -3,8 +3,8 @@ use Rattle.planner.proofs.laws.Operations.{table_refuses, sound_well, root_node}
 use borrow.Author.Rules.{rules}
 use Rattle.assignment.proofs.assignment.create_assignment_binding_plan.Goals as goal
 
-pub returns-in-Refused : goal.returns-in-Refused
-returns-in-Refused c = search (table_refuses, rules)
+pub returns-in-Err : goal.returns-in-Err
+returns-in-Err c = search (table_refuses, rules)
 
 pub returns-then-not-is_node : goal.returns-then-not-is_node
 returns-then-not-is_node c = search (left_outside, rules)

@@ -2,8 +2,8 @@ use Rattle.common_example.proofs.loops.SideChecks.{table_refused_lem, ask_root, 
 use borrow.Author.Rules.{rules}
 use Rattle.common_example.proofs.sides.check_side.Goals as goal
 
-pub returns-in-Refused : goal.returns-in-Refused
-returns-in-Refused c = search (table_refused_lem, rules)
+pub returns-in-Err : goal.returns-in-Err
+returns-in-Err c = search (table_refused_lem, rules)
 
 pub check_root-requires : goal.check_root-requires
 check_root-requires c = search (ask_root, rules)

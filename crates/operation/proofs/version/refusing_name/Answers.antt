@@ -5,8 +5,8 @@ use Rattle.operation.proofs.version.refusing_name.Goals as goal
 pub returns-then-version-ne-REGO_V1 : goal.returns-then-version-ne-REGO_V1
 returns-then-version-ne-REGO_V1 c = search (none_other, rules)
 
-pub returns-in-Refused : goal.returns-in-Refused
-returns-in-Refused c = search (none_table, rules)
+pub returns-in-Err : goal.returns-in-Err
+returns-in-Err c = search (none_table, rules)
 
 pub returns-then-not-roots_are_nodes : goal.returns-then-not-roots_are_nodes
 returns-then-not-roots_are_nodes c = search (none_roots, rules)

@@ -2,8 +2,8 @@ use Rattle.planner.proofs.laws.Operations.{good_root, table_refuses, root_refuse
 use borrow.Author.Rules.{rules}
 use Rattle.planner.proofs.destructuring.create_plan.Goals as goal
 
-pub returns-in-Refused : goal.returns-in-Refused
-returns-in-Refused c = search (table_refuses, rules)
+pub returns-in-Err : goal.returns-in-Err
+returns-in-Err c = search (table_refuses, rules)
 
 pub returns-then-not-is_node : goal.returns-then-not-is_node
 returns-then-not-is_node c = search (root_refuses, rules)

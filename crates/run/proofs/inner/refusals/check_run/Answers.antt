@@ -2,8 +2,8 @@ use Rattle.run.proofs.Refusing.{table_refused_lem, pattern_outside, value_outsid
 use borrow.Author.Rules.{rules}
 use Rattle.run.proofs.inner.refusals.check_run.Goals as goal
 
-pub returns-in-Refused : goal.returns-in-Refused
-returns-in-Refused c = search (table_refused_lem, rules)
+pub returns-in-Err : goal.returns-in-Err
+returns-in-Err c = search (table_refused_lem, rules)
 
 pub returns-then-not-is_node : goal.returns-then-not-is_node
 returns-then-not-is_node c = search (pattern_outside, rules)
