@@ -35,25 +35,14 @@ fn compare_numbers(a_below: bool, a_size: u64, b_below: bool, b_size: u64) -> Co
     compare_sizes(a_size, b_size)
 }
 
-fn lesser(a: usize, b: usize) -> usize
-    ensures { result ≡ min a b }
-{
-    if a < b {
-        return a;
-    }
-    b
-}
-
 // Are the 64 bytes from `at` on the same? No way out of the loop: so it becomes vector code.
 fn same_chunk(a: &[u8], b: &[u8], at: usize) -> bool
     requires { (at + 64 ≤ length a.now) × (at + 64 ≤ length b.now) }
     ensures { result ≡ same_from a.now b.now at 64 }
 {
     let mut same = true;
-    let mut i: usize = 0;
-    while i < 64 {
+    for i in 0..64 {
         same = same & (a[at + i] == b[at + i]);
-        i += 1;
     }
     same
 }
@@ -62,15 +51,13 @@ fn same_chunk(a: &[u8], b: &[u8], at: usize) -> bool
 fn same_chunks(a: &[u8], b: &[u8]) -> usize
     ensures { Prefix a.now b.now result }
 {
-    let shorter = lesser(a.len(), b.len());
-    let mut i: usize = 0;
-    while 64 <= shorter - i {
-        if !same_chunk(a, b, i) {
-            return i;
+    let shorter = a.len().min(b.len());
+    for k in 0..shorter / 64 {
+        if !same_chunk(a, b, k * 64) {
+            return k * 64;
         }
-        i += 64;
     }
-    i
+    shorter / 64 * 64
 }
 
 fn wide(byte: u8) -> u64
@@ -103,13 +90,11 @@ fn compare_rest(a: &[u8], b: &[u8], from: usize) -> Comparison
     requires { Prefix a.now b.now from }
     ensures { result ≡ comparison_of (bytes_order a.now b.now) }
 {
-    let shorter = lesser(a.len(), b.len());
-    let mut i = from;
-    while i < shorter {
+    let shorter = a.len().min(b.len());
+    for i in from..shorter {
         if a[i] != b[i] {
             return compare_sizes(wide(a[i]), wide(b[i]));
         }
-        i += 1;
     }
     compare_sizes(a.len() as u64, b.len() as u64)
 }
@@ -118,17 +103,16 @@ fn compare_words(a: &[u8], b: &[u8], from: usize) -> Comparison
     requires { Prefix a.now b.now from }
     ensures { result ≡ comparison_of (bytes_order a.now b.now) }
 {
-    let shorter = lesser(a.len(), b.len());
-    let mut i = from;
-    while 8 <= shorter - i {
-        let x = word_at(a, i);
-        let y = word_at(b, i);
+    let shorter = a.len().min(b.len());
+    let words = (shorter - from) / 8;
+    for k in 0..words {
+        let x = word_at(a, from + k * 8);
+        let y = word_at(b, from + k * 8);
         if x != y {
             return compare_sizes(x, y);
         }
-        i += 8;
     }
-    compare_rest(a, b, i)
+    compare_rest(a, b, from + words * 8)
 }
 
 // The first byte that differs decides; a prefix comes first.

@@ -228,10 +228,8 @@ impl Scope {
         ensures { result ≡ to_bytes self }
     {
         let mut marks = [0u8; 128];
-        let mut i: usize = 0;
-        while i < 128 {
+        for i in 0..128 {
             marks[i] = self.mark(i as u32 + 1);
-            i += 1;
         }
         ByteScope {
             marks,
