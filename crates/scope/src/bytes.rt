@@ -11,9 +11,8 @@ use crate::name_set::NameSet;
 pub(crate) fn marks_ok(bytes: ByteScope) -> bool
     ensures { result ≡ marks_ok bytes }
 {
-    let marks = bytes.marks;
     let mut small = true;
-    for mark in &marks {
+    for mark in &bytes.marks {
         small = small & (*mark <= 31);
     }
     small
