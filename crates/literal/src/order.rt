@@ -1,5 +1,5 @@
 // The order of keys.
-ghost use Rattle.std.specs.Prelude.{◌≡◌, ◌+◌, ◌^◌, ◌<◌, ◌≤◌, min, length};
+ghost use Rattle.std.specs.Prelude.{◌≡◌, ◌+◌, ◌*◌, ◌^◌, ◌<◌, ◌≤◌, min, length};
 ghost use Rattle.literal.specs.Order.{nat_order, number_order, bytes_order, comparison_of, compared};
 ghost use Rattle.literal.specs.Reading.{literal_of, bytes_of};
 ghost use Rattle.literal.specs.code.Chunks.{Prefix, same_from, Said};
@@ -47,17 +47,17 @@ fn same_chunk(a: &[u8], b: &[u8], at: usize) -> bool
     same
 }
 
-// The bytes of the chunks that are the same at the front.
+// How many chunks of 64 bytes are the same at the front.
 fn same_chunks(a: &[u8], b: &[u8]) -> usize
-    ensures { Prefix a.now b.now result }
+    ensures { Prefix a.now b.now (result * 64) }
 {
-    let shorter = a.len().min(b.len());
-    for k in 0..shorter / 64 {
+    let chunks = a.len().min(b.len()) / 64;
+    for k in 0..chunks {
         if !same_chunk(a, b, k * 64) {
-            return k * 64;
+            return k;
         }
     }
-    shorter / 64 * 64
+    chunks
 }
 
 fn wide(byte: u8) -> u64
@@ -99,27 +99,27 @@ fn compare_rest(a: &[u8], b: &[u8], from: usize) -> Comparison
     compare_sizes(a.len() as u64, b.len() as u64)
 }
 
+// By words of eight bytes, where the first `from` are the same.
 fn compare_words(a: &[u8], b: &[u8], from: usize) -> Comparison
-    requires { Prefix a.now b.now from }
+    requires { Prefix a.now b.now (from * 8) }
     ensures { result ≡ comparison_of (bytes_order a.now b.now) }
 {
-    let shorter = a.len().min(b.len());
-    let words = (shorter - from) / 8;
-    for k in 0..words {
-        let x = word_at(a, from + k * 8);
-        let y = word_at(b, from + k * 8);
+    let words = a.len().min(b.len()) / 8;
+    for k in from..words {
+        let x = word_at(a, k * 8);
+        let y = word_at(b, k * 8);
         if x != y {
             return compare_sizes(x, y);
         }
     }
-    compare_rest(a, b, from + words * 8)
+    compare_rest(a, b, words * 8)
 }
 
-// The first byte that differs decides; a prefix comes first.
+// The first byte that differs decides; a prefix comes first. The library's order of byte slices takes them one by one.
 pub fn compare_bytes(a: &[u8], b: &[u8]) -> Comparison
     ensures { result ≡ comparison_of (bytes_order a.now b.now) }
 {
-    compare_words(a, b, same_chunks(a, b))
+    compare_words(a, b, same_chunks(a, b) * 8)
 }
 
 // The bytes with those of a string; no other reference has any.

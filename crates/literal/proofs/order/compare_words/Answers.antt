@@ -6,4 +6,4 @@ pub returns-then-x-y : goal.returns-then-x-y
 returns-then-x-y c = search (word_differs, rules)
 
 pub loop-k-preserved : goal.loop-k-preserved
-loop-k-preserved c = search (word_on {shorter = c.min-shorter.result} c.loop-k.invariant, rules)
+loop-k-preserved c = search (word_on {shorter = c.min-words.result} c.loop-k.invariant, rules)

@@ -1,6 +1,6 @@
 use Rattle.literal.specs.code.Chunks.{Prefix}
-use Prim.Native.Nat.{◌+◌, ◌*◌}
+use Prim.Native.Nat.{◌*◌}
 use Rattle.literal.proofs.order.compare_words.Given as goal
 
 abbrev pub invariant-loop-k : goal.invariant-loop-k
-invariant-loop-k l = Prefix l.a l.b (l.from + l.k * 8)
+invariant-loop-k l = Prefix l.a l.b (l.k * 8)
