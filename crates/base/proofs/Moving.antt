@@ -84,6 +84,22 @@ moved_up before place total item le lt =
     let a = append_assoc (take (place + 1) before) (take (total - place) (drop place before)) (drop (place + 1 + (total - place)) before) in
     simp (inside, room) (rw (a, end) (set_last before (take (total - place) (drop place before) ++ drop (total + 1) before) (place + 1) place item refl (omega arith)))
 
+-- the same, place by place
+pub inserting_start : (before : List ℕ) (place total : ℕ) → total < length before → place ≤ total → Moving before place total 1 before total
+inserting_start before place total room inside = moving_start before place total 1 (omega arith) inside
+
+module _ {before : List ℕ} {place total : ℕ} {here : List ℕ} {q : ℕ} (m : Moving before place total 1 here q) where
+  pub inserting_on : place < q → Moving before place total 1 (set here q (get_or here (q - 1) 0)) (q - 1)
+  inserting_on lt = let e : q - 1 + 1 ≡ q = omega arith in let on = moving_on m lt in rw e at on
+
+  pub inserting_ends : q ≤ place → (number : ℕ) → set here place number ≡ moved before place total number
+  inserting_ends le number =
+      let f = m.from in
+      let t = m.to in
+      let r = m.room in
+      let e = moving_ends m le in
+      rw e (moved_up before place total number (omega arith) (omega arith))
+
 -- the first of the moved items
 pub moved_take : {A : Type 0} (before : List A) (place total : ℕ) (item : A) → place ≤ total → total < length before
     → take (total + 1) (moved before place total item) ≡ take place before ++ (item ∷ take (total - place) (drop place before))
