@@ -1,14 +1,21 @@
--- Insertion: the numbers behind a place are moved up, and what is then where.
+-- Insertion: what stands behind a place is moved up, and what is then where.
 use Prim.Native.Nat.{ℕ, suc, ◌+◌, ◌-◌, ◌≤◌, ◌<◌}
 use mathlib.Core.Path.{◌≡◌, refl, sym, ap, ◌∙◌}
-use mathlib.Core.Bool.{Bool, true, false, cond, ◌&&◌}
 use mathlib.Core.List.{List, [], ◌∷◌, ◌++◌, append_assoc}
 use native.Mathlib.Omega.{arith}
-use borrow.Author.Tests.{le-leb, lt-leb, lt-ltb, le-ltb}
-use lib.Dec.{leb}
+use borrow.Author.Tests.{le-leb, lt-ltb}
 use lib.ListN.{length, get_or, take, drop, set, length-append, length-set, length-drop, get_or-append}
 use lib.Seq.{paste, paste-zero, take_at, drop_at, take-suc-set, drop-cons, get_or-take, get_or-drop, get_or_at, get_or-append-add, set-append_left, length-take-le, take-set-lt}
 use Rattle.base.specs.Insertion.{pushed, moved}
+
+-- an item is put at the last place of a front
+set_last : {A : Type 0} (l rest : List A) (n at : ℕ) (x : A) → n ≡ at + 1 → at < length l → set (take n l ++ rest) at x ≡ take at l ++ (x ∷ rest)
+set_last l rest n at x one lt =
+    let front = length-take-le n l (omega arith) in
+    let next : n ≡ suc at = omega arith in
+    set-append_left (take n l) rest at x (omega arith)
+    ∙ (ap (λ (k : List _). k ++ rest) (sym (take-set-lt n l at x (omega arith)) ∙ (ap (λ (k : ℕ). take k (set l at x)) next ∙ take-suc-set l at x lt))
+    ∙ append_assoc (take at l) (x ∷ []) rest)
 
 -- the move up by some places: what stood from q to `total` is moved
 pub record Moving (before : List ℕ) (place total by : ℕ) (here : List ℕ) (q : ℕ) : Type 0 where
@@ -39,12 +46,7 @@ module _ {before : List ℕ} {place total by : ℕ} {here : List ℕ} {q : ℕ} 
   put_at at x last =
       let r = m.room in
       let t = m.to in
-      let f = front_length in
-      let one : q + by ≡ suc at = omega arith in
-      ap (λ (l : List ℕ). set l at x) split
-      ∙ (set-append_left (take (q + by) before) rest at x (omega arith)
-      ∙ (ap (λ (l : List ℕ). l ++ rest) (sym (take-set-lt (q + by) before at x (omega arith)) ∙ (ap (λ (n : ℕ). take n (set before at x)) one ∙ take-suc-set before at x (omega arith)))
-      ∙ append_assoc (take at before) (x ∷ []) rest))
+      ap (λ (l : List ℕ). set l at x) split ∙ set_last before rest (q + by) at x (sym last) (omega arith)
 
   pub moving_on : place < q → Moving before place total by (set here (q - 1 + by) (get_or here (q - 1) 0)) (q - 1)
   unfolding rest
@@ -72,7 +74,17 @@ module _ {before : List ℕ} {place total by : ℕ} {here : List ℕ} {q : ℕ} 
   pub moving_ends : q ≤ place → here ≡ paste before (place + by) (drop place before) (total - place)
   moving_ends le = let f = m.from in let e : place ≡ q = omega arith in rw e m.parts
 
--- by one place: a number is put where the first stood
+-- by one place: an item is put where the first stood
+pub moved_up : {A : Type 0} (before : List A) (place total : ℕ) (item : A) → place ≤ total → total < length before
+    → set (paste before (place + 1) (drop place before) (total - place)) place item ≡ moved before place total item
+moved_up before place total item le lt =
+    let inside = le-leb place total le in
+    let room = lt-ltb total (length before) lt in
+    let end : place + 1 + (total - place) ≡ total + 1 = omega arith in
+    let a = append_assoc (take (place + 1) before) (take (total - place) (drop place before)) (drop (place + 1 + (total - place)) before) in
+    simp (inside, room) (rw (a, end) (set_last before (take (total - place) (drop place before) ++ drop (total + 1) before) (place + 1) place item refl (omega arith)))
+
+-- the same, place by place
 pub inserting_start : (before : List ℕ) (place total : ℕ) → total < length before → place ≤ total → Moving before place total 1 before total
 inserting_start before place total room inside = moving_start before place total 1 (omega arith) inside
 
@@ -81,53 +93,37 @@ module _ {before : List ℕ} {place total : ℕ} {here : List ℕ} {q : ℕ} (m 
   inserting_on lt = let e : q - 1 + 1 ≡ q = omega arith in let on = moving_on m lt in rw e at on
 
   pub inserting_ends : q ≤ place → (number : ℕ) → set here place number ≡ moved before place total number
-  unfolding rest
   inserting_ends le number =
       let f = m.from in
       let t = m.to in
       let r = m.room in
-      let e : place ≡ q = omega arith in
-      let end : q + 1 + (total - q) ≡ total + 1 = omega arith in
-      let inside = le-leb place total (omega arith) in
-      let room = lt-ltb total (length before) (omega arith) in
-      simp (inside, room) (rw e (put_at m q number refl ∙ rw end))
+      let e = moving_ends m le in
+      rw e (moved_up before place total number (omega arith) (omega arith))
 
--- no part of the list
-module _ (before : List ℕ) (place total number : ℕ) where
-  pub moved_out : length before ≤ total → before ≡ moved before place total number
-  moved_out le = go (leb place total) (le-ltb total (length before) le)
-    where
-      go : (b : Bool) {d : Bool} → d ≡ false → before ≡ cond (b && d) (pushed before place total number) before
-      go true e = simp e
-      go false e = refl
-
-  pub moved_behind : total < place → before ≡ moved before place total number
-  moved_behind lt = simp (lt-leb place total lt)
-
--- the first of the moved numbers
-pub moved_take : (before : List ℕ) (place total number : ℕ) → place ≤ total → total < length before
-    → take (total + 1) (moved before place total number) ≡ take place before ++ (number ∷ take (total - place) (drop place before))
-moved_take before place total number le lt =
+-- the first of the moved items
+pub moved_take : {A : Type 0} (before : List A) (place total : ℕ) (item : A) → place ≤ total → total < length before
+    → take (total + 1) (moved before place total item) ≡ take place before ++ (item ∷ take (total - place) (drop place before))
+moved_take before place total item le lt =
     let inside = le-leb place total le in
     let room = lt-ltb total (length before) lt in
-    let a = append_assoc (take place before) (number ∷ take (total - place) (drop place before)) (drop (total + 1) before) in
-    let x = length-append (take place before) (number ∷ take (total - place) (drop place before)) in
+    let a = append_assoc (take place before) (item ∷ take (total - place) (drop place before)) (drop (total + 1) before) in
+    let x = length-append (take place before) (item ∷ take (total - place) (drop place before)) in
     let y = length-take-le place before (omega arith) in
     let d = length-drop place before in
     let z = length-take-le (total - place) (drop place before) (omega arith) in
-    simp (inside, room) (rw (← a) (take_at (take place before ++ (number ∷ take (total - place) (drop place before))) (drop (total + 1) before) (total + 1) (omega arith)))
+    simp (inside, room) (rw (← a) (take_at (take place before ++ (item ∷ take (total - place) (drop place before))) (drop (total + 1) before) (total + 1) (omega arith)))
 
 -- those behind them
-pub moved_drop : (before : List ℕ) (place total number : ℕ) → place ≤ total → total < length before → drop (total + 1) (moved before place total number) ≡ drop (total + 1) before
-moved_drop before place total number le lt =
+pub moved_drop : {A : Type 0} (before : List A) (place total : ℕ) (item : A) → place ≤ total → total < length before → drop (total + 1) (moved before place total item) ≡ drop (total + 1) before
+moved_drop before place total item le lt =
     let inside = le-leb place total le in
     let room = lt-ltb total (length before) lt in
-    let a = append_assoc (take place before) (number ∷ take (total - place) (drop place before)) (drop (total + 1) before) in
-    let x = length-append (take place before) (number ∷ take (total - place) (drop place before)) in
+    let a = append_assoc (take place before) (item ∷ take (total - place) (drop place before)) (drop (total + 1) before) in
+    let x = length-append (take place before) (item ∷ take (total - place) (drop place before)) in
     let y = length-take-le place before (omega arith) in
     let d = length-drop place before in
     let z = length-take-le (total - place) (drop place before) (omega arith) in
-    simp (inside, room) (ap (drop (total + 1)) (sym a) ∙ drop_at (take place before ++ (number ∷ take (total - place) (drop place before))) (drop (total + 1) before) (total + 1) (omega arith))
+    simp (inside, room) (ap (drop (total + 1)) (sym a) ∙ drop_at (take place before ++ (item ∷ take (total - place) (drop place before))) (drop (total + 1) before) (total + 1) (omega arith))
 
 -- number by number
 module _ (before : List ℕ) (place total number : ℕ) (le : place ≤ total) (lt : total < length before) where

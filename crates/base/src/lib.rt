@@ -1,5 +1,4 @@
 // What all crates share: words about lists, document 01's refusals, and insertion into an array that is kept in order.
 #![tactic(auto)]
 
-pub mod bytes;
-pub mod words;
+pub mod insertion;

@@ -9,7 +9,7 @@ ghost use Rattle.planner.specs.code.Post.{OrderAsks};
 ghost use Rattle.checks.specs.code.Texts.{is_greater, TextAsksIn, TextPlace, AddKeyAsks, KeyAdded, SortedKeys, ordered_key, OrderedAsks, texts_agree, BothAsks, TextsComparedBy};
 ghost use Rattle.checks.specs.code.Post.{WorkingSpaces, ObjectsAsks, KeysComparedBy};
 
-use base::words::insert_at;
+use base::insertion::insert_at;
 use literal::{Comparison, LiteralRef};
 use planner::fields::field_at;
 use planner::inner::fields::order_fields;

@@ -60,8 +60,8 @@ prefix_same {a} {b} {at} (suc k) p h l e =
     let z : at + suc k ≡ at + k + 1 = omega arith in
     rw z on
 
-pub chunk_on : {a b : List ℕ} {i shorter : ℕ} {r : Bool} → Prefix a b i → shorter ≡ min (length a) (length b) → 64 ≤ shorter - i → r ≡ same_from a b i 64 → not r ≡ false → Prefix a b (i + 64)
-chunk_on {a} {b} {i} {r = r} p s le is t = prefix_same 64 p (omega arith) (omega arith) (sym is ∙ not-false r t)
+pub chunk_on : {a b : List ℕ} {i n shorter : ℕ} {r : Bool} → Prefix a b i → shorter ≡ min (length a) (length b) → n ≡ i + 64 → n ≤ shorter → r ≡ same_from a b i 64 → not r ≡ false → Prefix a b n
+chunk_on {a} {b} {i} {r = r} p s next le is t = rw next (prefix_same 64 p (omega arith) (omega arith) (sym is ∙ not-false r t))
 
 -- words: a number of two digits, the second below 256
 digit : (h g x y : ℕ) → x < 2 ^ 8 → y < 2 ^ 8 → nat_order (h * 256 + x) (g * 256 + y) ≡ then (nat_order h g) (nat_order x y)
@@ -145,8 +145,8 @@ module _ {a b : List ℕ} {i shorter : ℕ} (p : Prefix a b i) (s : shorter ≡ 
         sym p.rest ∙ said_order a b 0 0 i 8 (omega arith) (omega arith) sx.digits sy.digits
         ∙ rw (← sx.is, ← sy.is)
 
-    pub word_on : x ≡ y → Prefix a b (i + 8)
-    word_on e = record { left = omega arith; right = omega arith; rest = sym (rw (nat_same x y e) at word_order) }
+    pub word_on : x ≡ y → {n : ℕ} → n ≡ i + 8 → Prefix a b n
+    word_on e next = rw next (record { left = omega arith; right = omega arith; rest = sym (rw (nat_same x y e) at word_order) })
 
     pub word_differs : (x ≡ y → ⊥) → {r : Comparison} → r ≡ comparison_of (nat_order x y) → r ≡ comparison_of (bytes_order a b)
     word_differs ne is = is ∙ sym (ap comparison_of (word_order ∙ then_other x y _ ne))

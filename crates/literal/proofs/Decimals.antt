@@ -5,10 +5,12 @@ use mathlib.Core.List.{List, [], ◌∷◌, ◌++◌}
 use mathlib.Core.Logic.{◌⊎◌, inl, inr, ⊎_elim}
 use mathlib.Core.Path.{◌≡◌, refl, sym, ap, ◌∙◌}
 use native.Mathlib.Omega.{arith}
-use native.Mathlib.Nat.{pow-zero, pow-suc}
+use native.Mathlib.Nat.{pow-zero, pow-suc, one-le-pow}
 use lib.Dec.{ltb}
 use lib.ListN.{length, get_or, drop, length-append, get_or-append}
 use borrow.Author.Tests.{ltb-true, ltb-false, lt-ltb, le-ltb}
+use Rattle.std.specs.Prelude.{Option, None, Some}
+use Rattle.std.specs.Option.{IfNone, IfSome, unwrap_or}
 use Rattle.literal.specs.Text.{digit, digits, decimal, value, key_text}
 use Rattle.literal.specs.Literal.{number}
 use Rattle.literal.specs.Laws.{DecimalForm}
@@ -55,6 +57,25 @@ digits_length (suc m) (suc k) n h =
 pub some_digits : (k n : ℕ) → 0 < length (digits (suc k) n)
 some_digits k n =
     ⊎_elim (λ few. omega (arith, ap length (digits_one k n few))) (λ more. omega (arith, length_more k n more)) (few_or_more n)
+
+digits_at_least : (m k n : ℕ) → k < m → 10 ^ k ≤ n → suc k ≤ length (digits m n)
+digits_at_least zero k n lt h = absurd (omega arith)
+digits_at_least (suc m) zero n lt h = let some = some_digits m n in omega arith
+digits_at_least (suc m) (suc k) n lt h =
+    let low = rw (pow-suc 10 k) at h in
+    let some = one-le-pow k 10 (omega arith) in
+    omega (arith, length_more m n (omega arith), digits_at_least m k (n / 10) (omega arith) (omega arith))
+
+digits_between : (k n : ℕ) → k < 20 → 10 ^ k ≤ n → n < 10 * 10 ^ k → length (decimal n) ≡ k + 1
+digits_between k n lt low high =
+    let above = digits_at_least 20 k n lt low in
+    let below = digits_length 20 k n (rw (pow-suc 10 k) (omega arith)) in
+    omega arith
+
+pub digits_counted : (size : ℕ) (o : Option ℕ) → IfNone o (size ≡ 0) → IfSome o (λ k. 10 ^ k ≤ size) → IfSome o (λ k. size < 10 * 10 ^ k) → IfSome o (λ k. k < 20)
+    → unwrap_or o 0 + 1 ≡ length (decimal size)
+digits_counted size None none low high few = sym (ap length (digits_one 19 size (omega arith)))
+digits_counted size (Some k) none low high few = sym (digits_between k size few low high)
 
 -- Read back, the digits give the number.
 value_last : (at : ℕ) (ds : List ℕ) (d : ℕ) → value at (ds ++ (d ∷ [])) ≡ value at ds * 10 + (d - 48)

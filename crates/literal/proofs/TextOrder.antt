@@ -4,13 +4,10 @@ use mathlib.Core.Bool.{Bool, true, false, beq, not, ◌&&◌}
 use mathlib.Core.List.{List, [], ◌∷◌, ◌++◌}
 use mathlib.Core.Logic.{⊎_elim}
 use mathlib.Core.Path.{◌≡◌, refl, sym, ap, ◌∙◌}
-use native.Mathlib.Numerals.{add-one}
 use native.Mathlib.Omega.{arith}
-use lib.Dec.{eqb, ltb, eqb-suc-suc}
+use lib.Dec.{eqb}
 use lib.ListN.{length}
-use mir.Syntax.{w64}
-use mir.Val.{Fits}
-use borrow.Author.Tests.{eqb-true, ltb-true, ltb-false, eq-eqb, ne_eqb, not-true, not-false}
+use borrow.Author.Tests.{eqb-true, eq-eqb, ne_eqb, not-true, not-false}
 use Rattle.literal.specs.Order.{then, nat_order, bytes_order, comparison_of}
 use Rattle.literal.specs.Text.{digit, digits, decimal, signed, key_text, text_compared, texts_compared}
 use Rattle.literal.specs.Reading.{literal_of}
@@ -34,55 +31,6 @@ more_long k n h m =
     let e : suc (k - 1) ≡ k = omega arith in
     let rest = rw e at (some_digits (k - 1) (n / 10)) in
     omega (arith, length_more k n m)
-
--- Taking digits off two numbers: what is left has equally many if all have.
-pub record Shortening (a b x y : ℕ) : Type 0 where
-  pub left : ℕ
-  pub small_x : x < 10 ^ suc left
-  pub small_y : y < 10 ^ suc left
-  pub same_count : eqb (length (digits (suc left) x)) (length (digits (suc left) y)) ≡ eqb (length (decimal a)) (length (decimal b))
-
-pub shortening_start : (a b : ℕ) → Fits w64 a → Fits w64 b → Shortening a b a b
-shortening_start a b f g = record { left = 19; small_x = omega arith; small_y = omega arith; same_count = refl }
-
-module _ {a b x y : ℕ} (s : Shortening a b x y) where
-  pub shortening_on : 9 < x → 10 ≤ y → Shortening a b (x / 10) (y / 10)
-  shortening_on h k =
-      let l = s.left in
-      let room = more_room l x s.small_x (omega arith) in
-      let e : suc (l - 1) ≡ l = omega arith in
-      let p = length (digits l (x / 10)) in
-      let q = length (digits l (y / 10)) in
-      let px : length (digits (suc l) x) ≡ suc p = length_more l x (omega arith) ∙ add-one p in
-      let qy : length (digits (suc l) y) ≡ suc q = length_more l y k ∙ add-one q in
-      record {
-        left = l - 1;
-        small_x = rw e (below_tenth l x s.small_x);
-        small_y = rw e (below_tenth l y s.small_y);
-        same_count = rw e (sym (eqb-suc-suc p q) ∙ rw (px, qy) at s.same_count);
-      }
-
-  pub shortening_differs : 9 < x → y < 10 → false ≡ eqb (length (decimal a)) (length (decimal b))
-  shortening_differs h k =
-      let l = s.left in
-      let one = one_long l y k in
-      let m = more_long l x s.small_x (omega arith) in
-      sym (ne_eqb (length (digits (suc l) x)) (length (digits (suc l) y)) (λ e. omega arith)) ∙ s.same_count
-
-  pub shortening_ends : x ≤ 9 → ltb y 10 ≡ eqb (length (decimal a)) (length (decimal b))
-  shortening_ends h = go (ltb y 10) refl ∙ s.same_count
-    where
-      l : ℕ
-      l = s.left
-
-      one : length (digits (suc l) x) ≡ 1
-      one = one_long l x (omega arith)
-
-      go : (t : Bool) → ltb y 10 ≡ t → t ≡ eqb (length (digits (suc l) x)) (length (digits (suc l) y))
-      go true e = sym (eq-eqb (length (digits (suc l) x)) (length (digits (suc l) y)) (one ∙ sym (one_long l y (ltb-true y 10 e))))
-      go false e =
-          let m = more_long l y s.small_y (ltb-false y 10 e) in
-          sym (ne_eqb (length (digits (suc l) x)) (length (digits (suc l) y)) (λ i. omega (arith, one)))
 
 -- bytes of the same length, and one more byte each
 bytes_last : (xs ys : List ℕ) (d e : ℕ) → length xs ≡ length ys → bytes_order (xs ++ (d ∷ [])) (ys ++ (e ∷ [])) ≡ then (bytes_order xs ys) (nat_order d e)

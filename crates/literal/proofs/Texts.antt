@@ -6,41 +6,14 @@ use mathlib.Core.Logic.{⊎_elim}
 use mathlib.Core.Path.{◌≡◌, refl, sym, ap, ◌∙◌}
 use native.Mathlib.Numerals.{add-one}
 use native.Mathlib.Omega.{arith}
-use lib.ListN.{length, get_or, take, drop, set, length-set, take-append-drop}
-use lib.Seq.{drop-cons, drop-set-lt, take-set-le, take-suc-set, get_or-set_same, length-take-le, set_at, take-suc, take-length}
+use lib.ListN.{length, take, drop, set, length-set, take-append-drop}
+use lib.Seq.{drop-cons, drop-set-lt, take-set-le, take-suc-set, get_or-set_same}
 use mir.Syntax.{w64}
 use mir.Val.{Fits}
 use Rattle.literal.specs.Text.{digit, digits, decimal, signed}
 use Rattle.literal.specs.code.Written.{write_digits, Written}
 use Rattle.literal.specs.declared.KeyText.{KeyText}
-use Rattle.literal.proofs.Decimals.{digits_one, digits_more, few_or_more, below_tenth, more_room, length_more}
-
--- Counting: what was counted, and the digits that are left.
-pub record Counting (size count rest : ℕ) : Type 0 where
-  pub low : 1 ≤ count
-  pub high : count ≤ 20
-  pub small : rest < 10 ^ (21 - count)
-  pub same : count + length (digits (21 - count) rest) ≡ length (decimal size) + 1
-
-pub counting_start : (size : ℕ) → Fits w64 size → Counting size 1 size
-counting_start size f = record { low = omega arith; high = omega arith; small = omega arith; same = omega arith }
-
-module _ {size count rest : ℕ} (c : Counting size count rest) where
-  pub counting_on : 9 < rest → Counting size (count + 1) (rest / 10)
-  counting_on h =
-      let e : 21 - count ≡ suc (20 - count) = omega arith in
-      let f : 21 - (count + 1) ≡ 20 - count = omega arith in
-      let small = rw e at c.small in
-      let more = length_more (20 - count) rest (omega arith) in
-      let same = rw e at c.same in
-      let room = more_room (20 - count) rest small (omega arith) in
-      record { low = omega arith; high = omega arith; small = rw f (below_tenth (20 - count) rest small); same = rw f (omega arith) }
-
-  pub counting_ends : rest ≤ 9 → count ≡ length (decimal size)
-  counting_ends h =
-      let e : 21 - count ≡ suc (20 - count) = omega arith in
-      let same = rw e at c.same in
-      omega (arith, ap length (digits_one (20 - count) rest (omega arith)))
+use Rattle.literal.proofs.Decimals.{digits_one, digits_more, few_or_more, length_more}
 
 -- Writing digits: the digits that are left make of the array what all of them make of it as it was.
 pub record Writing (out₀ : List ℕ) (start count size : ℕ) (out : List ℕ) (left rest : ℕ) : Type 0 where
@@ -132,35 +105,3 @@ module _ (below : Bool) (size : ℕ) (out : List ℕ) {count : ℕ} (is : count 
         answer = rw h (ap KeyText.Written is);
         array = e ∙ (written_digits out 0 count size (above_digits_room h) ∙ rw (h, whole, end));
       }
-
--- a word's text, as far as it is copied
-pub record Copying (out₀ word : List ℕ) (i : ℕ) (out : List ℕ) : Type 0 where
-  pub inside : i ≤ length word
-  pub room : length word ≤ length out₀
-  pub long : length out ≡ length out₀
-  pub same : out ≡ take i word ++ drop i out₀
-
-pub copying_start : (out word : List ℕ) → length word ≤ length out → Copying out word 0 out
-copying_start out word h = record { inside = omega arith; room = h; long = refl; same = refl }
-
-module _ {out₀ word : List ℕ} {i : ℕ} {out : List ℕ} (c : Copying out₀ word i out) where
-  pub copying_on : i < length word → Copying out₀ word (i + 1) (set out i (get_or word i 0))
-  copying_on h =
-      let x = get_or word i 0 in
-      let room = c.room in
-      let front : length (take i word) ≡ i = length-take-le i word (omega arith) in
-      let more : take (i + 1) word ≡ take i word ++ (x ∷ []) = rw (add-one i, take-suc word i 0 h) in
-      let old : drop i out₀ ≡ get_or out₀ i 0 ∷ drop (i + 1) out₀ = rw (add-one i, drop-cons out₀ i 0 (omega arith)) in
-      let stored : set (take i word ++ drop i out₀) i x ≡ take i word ++ x ∷ drop (i + 1) out₀ =
-      rw (old, set_at (take i word) (get_or out₀ i 0) (drop (i + 1) out₀) x i front) in
-      record {
-        inside = omega arith;
-        room = room;
-        long = length-set out i x ∙ c.long;
-        same = rw (c.same, more, append_assoc) stored;
-      }
-
-  pub copied : length word ≤ i → Written word out₀ out (KeyText.Written i)
-  copied h =
-      let e : i ≡ length word = omega (arith, c.inside) in
-      record { answer = ap KeyText.Written e; array = rw (take-length word) at (rw e at c.same) }

@@ -30,6 +30,7 @@ pub enum Comparison {
 }
 
 // Where the text of a key stands: in the lent bytes, or in the first bytes of the caller's array.
+// Three ways to answer, so no Option or Result says them.
 #[derive(Clone, Copy)]
 pub enum KeyText {
     Lent,

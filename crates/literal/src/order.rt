@@ -1,5 +1,5 @@
 // The order of keys.
-ghost use Rattle.std.specs.Prelude.{◌≡◌, ◌+◌, ◌^◌, ◌<◌, ◌≤◌, min, length};
+ghost use Rattle.std.specs.Prelude.{◌≡◌, ◌+◌, ◌*◌, ◌^◌, ◌<◌, ◌≤◌, min, length};
 ghost use Rattle.literal.specs.Order.{nat_order, number_order, bytes_order, comparison_of, compared};
 ghost use Rattle.literal.specs.Reading.{literal_of, bytes_of};
 ghost use Rattle.literal.specs.code.Chunks.{Prefix, same_from, Said};
@@ -35,42 +35,29 @@ fn compare_numbers(a_below: bool, a_size: u64, b_below: bool, b_size: u64) -> Co
     compare_sizes(a_size, b_size)
 }
 
-fn lesser(a: usize, b: usize) -> usize
-    ensures { result ≡ min a b }
-{
-    if a < b {
-        return a;
-    }
-    b
-}
-
 // Are the 64 bytes from `at` on the same? No way out of the loop: so it becomes vector code.
 fn same_chunk(a: &[u8], b: &[u8], at: usize) -> bool
     requires { (at + 64 ≤ length a.now) × (at + 64 ≤ length b.now) }
     ensures { result ≡ same_from a.now b.now at 64 }
 {
     let mut same = true;
-    let mut i: usize = 0;
-    while i < 64 {
+    for i in 0..64 {
         same = same & (a[at + i] == b[at + i]);
-        i += 1;
     }
     same
 }
 
-// The bytes of the chunks that are the same at the front.
+// How many chunks of 64 bytes are the same at the front.
 fn same_chunks(a: &[u8], b: &[u8]) -> usize
-    ensures { Prefix a.now b.now result }
+    ensures { Prefix a.now b.now (result * 64) }
 {
-    let shorter = lesser(a.len(), b.len());
-    let mut i: usize = 0;
-    while 64 <= shorter - i {
-        if !same_chunk(a, b, i) {
-            return i;
+    let chunks = a.len().min(b.len()) / 64;
+    for k in 0..chunks {
+        if !same_chunk(a, b, k * 64) {
+            return k;
         }
-        i += 64;
     }
-    i
+    chunks
 }
 
 fn wide(byte: u8) -> u64
@@ -103,39 +90,36 @@ fn compare_rest(a: &[u8], b: &[u8], from: usize) -> Comparison
     requires { Prefix a.now b.now from }
     ensures { result ≡ comparison_of (bytes_order a.now b.now) }
 {
-    let shorter = lesser(a.len(), b.len());
-    let mut i = from;
-    while i < shorter {
+    let shorter = a.len().min(b.len());
+    for i in from..shorter {
         if a[i] != b[i] {
             return compare_sizes(wide(a[i]), wide(b[i]));
         }
-        i += 1;
     }
     compare_sizes(a.len() as u64, b.len() as u64)
 }
 
+// By words of eight bytes, where the first `from` are the same.
 fn compare_words(a: &[u8], b: &[u8], from: usize) -> Comparison
-    requires { Prefix a.now b.now from }
+    requires { Prefix a.now b.now (from * 8) }
     ensures { result ≡ comparison_of (bytes_order a.now b.now) }
 {
-    let shorter = lesser(a.len(), b.len());
-    let mut i = from;
-    while 8 <= shorter - i {
-        let x = word_at(a, i);
-        let y = word_at(b, i);
+    let words = a.len().min(b.len()) / 8;
+    for k in from..words {
+        let x = word_at(a, k * 8);
+        let y = word_at(b, k * 8);
         if x != y {
             return compare_sizes(x, y);
         }
-        i += 8;
     }
-    compare_rest(a, b, i)
+    compare_rest(a, b, words * 8)
 }
 
-// The first byte that differs decides; a prefix comes first.
+// The first byte that differs decides; a prefix comes first. The library's order of byte slices takes them one by one.
 pub fn compare_bytes(a: &[u8], b: &[u8]) -> Comparison
     ensures { result ≡ comparison_of (bytes_order a.now b.now) }
 {
-    compare_words(a, b, same_chunks(a, b))
+    compare_words(a, b, same_chunks(a, b) * 8)
 }
 
 // The bytes with those of a string; no other reference has any.

@@ -23,13 +23,7 @@ pub fn string_bytes<'a>(strings: &'a [u8], text: &'a [u8], l: LiteralRef) -> &'a
 fn digit_count(size: u64) -> usize
     ensures { result ≡ length (decimal size) }
 {
-    let mut count = 1;
-    let mut rest = size;
-    while 9 < rest {
-        rest = rest / 10;
-        count += 1;
-    }
-    count
+    size.checked_ilog10().unwrap_or(0) as usize + 1
 }
 
 // The lowest digits of a number, count of them, from start on.
@@ -37,10 +31,8 @@ fn write_digits(out: &mut [u8], start: usize, count: usize, size: u64)
     requires { start + count ≤ length out.old }
     ensures { out.new ≡ write_digits out.old start count size }
 {
-    let mut left = count;
     let mut rest = size;
-    while 0 < left {
-        left -= 1;
+    for left in (0..count).rev() {
         out[start + left] = 48 + (rest % 10) as u8;
         rest = rest / 10;
     }
@@ -64,12 +56,8 @@ fn write_word(out: &mut [u8], word: &[u8]) -> KeyText
     requires { length word.now ≤ length out.old }
     ensures { Written word.now out.old out.new result }
 {
-    let mut i = 0;
-    while i < word.len() {
-        out[i] = word[i];
-        i += 1;
-    }
-    KeyText::Written { length: i }
+    out[..word.len()].copy_from_slice(word);
+    KeyText::Written { length: word.len() }
 }
 
 // The longest have 20 bytes: -9223372036854775808, and sizes of 20 digits above zero.
@@ -134,16 +122,7 @@ fn compare_string_text<'a>(
 fn same_digits(a: u64, b: u64) -> bool
     ensures { result ≡ eqb (length (decimal a)) (length (decimal b)) }
 {
-    let mut x = a;
-    let mut y = b;
-    while 9 < x {
-        if y < 10 {
-            return false;
-        }
-        x = x / 10;
-        y = y / 10;
-    }
-    y < 10
+    digit_count(a) == digit_count(b)
 }
 
 // The same rank and sign, and sizes with equally many digits.

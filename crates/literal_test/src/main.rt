@@ -31,85 +31,65 @@ const STRINGS: [u8; 6] = *b"abcab\xff";
 
 const TEXT: [u8; 9] = *b"[abc, 10]";
 
-// Five words a literal: its kind (0 null, 1 false, 2 true, 3 number, 4 string, 5 raw string), place or
-// start, count, and its places in the orders of keys and of key texts, 99 where there is no literal.
-const TABLE: [[usize; 5]; 21] = [
-    [0, 0, 0, 0, 10], // null
-    [1, 0, 0, 1, 9], // false
-    [2, 0, 0, 2, 11], // true
-    [3, 0, 0, 3, 2], // -9223372036854775808
-    [3, 1, 0, 4, 1], // -1
-    [3, 2, 0, 5, 3], // 0
-    [3, 3, 0, 6, 4], // 10
-    [3, 4, 0, 7, 6], // 9223372036854775808
-    [3, 5, 0, 8, 5], // 18446744073709551615
-    [4, 6, 0, 9, 0], // an empty string at the very end
-    [5, 6, 2, 10, 4], // 10, raw
-    [4, 0, 2, 11, 7], // ab
-    [4, 3, 2, 11, 7], // ab, elsewhere
-    [5, 1, 2, 11, 7], // ab, raw
-    [4, 0, 3, 12, 8], // abc
-    [3, 6, 0, 99, 99], // minus zero
-    [3, 7, 0, 99, 99], // one below the least
-    [3, 9223372036854775808, 0, 99, 99], // a place far out
-    [4, 5, 2, 99, 99], // one byte too long
-    [4, 7, 0, 99, 99], // past the end
-    [5, 18446744073709551615, 2, 99, 99], // an end that does not fit a word
+// A literal, and its places in the orders of keys and of key texts; no places where there is no literal.
+type Row = (LiteralRef, Option<(u8, u8)>);
+
+const TABLE: [Row; 21] = [
+    (LiteralRef::Null, Some((0, 10))),
+    (LiteralRef::False, Some((1, 9))),
+    (LiteralRef::True, Some((2, 11))),
+    (LiteralRef::Number { place: 0 }, Some((3, 2))), // -9223372036854775808
+    (LiteralRef::Number { place: 1 }, Some((4, 1))), // -1
+    (LiteralRef::Number { place: 2 }, Some((5, 3))), // 0
+    (LiteralRef::Number { place: 3 }, Some((6, 4))), // 10
+    (LiteralRef::Number { place: 4 }, Some((7, 6))), // 9223372036854775808
+    (LiteralRef::Number { place: 5 }, Some((8, 5))), // 18446744073709551615
+    (LiteralRef::String { start: 6, count: 0 }, Some((9, 0))), // an empty string at the very end
+    (LiteralRef::RawString { start: 6, count: 2 }, Some((10, 4))), // 10, raw
+    (LiteralRef::String { start: 0, count: 2 }, Some((11, 7))), // ab
+    (LiteralRef::String { start: 3, count: 2 }, Some((11, 7))), // ab, elsewhere
+    (LiteralRef::RawString { start: 1, count: 2 }, Some((11, 7))), // ab, raw
+    (LiteralRef::String { start: 0, count: 3 }, Some((12, 8))), // abc
+    (LiteralRef::Number { place: 6 }, None), // minus zero
+    (LiteralRef::Number { place: 7 }, None), // one below the least
+    (
+        LiteralRef::Number {
+            place: 9223372036854775808,
+        },
+        None,
+    ), // a place far out
+    (LiteralRef::String { start: 5, count: 2 }, None), // one byte too long
+    (LiteralRef::String { start: 7, count: 0 }, None), // past the end
+    (
+        LiteralRef::RawString {
+            start: 18446744073709551615,
+            count: 2,
+        },
+        None,
+    ), // an end that does not fit a word
 ];
 
-fn entry(i: usize, column: usize) -> usize {
-    if i < 21 {
-        if column < 5 {
-            return TABLE[i][column];
-        }
-    }
-    99
-}
-
-fn literal_at(i: usize) -> LiteralRef {
-    let start = entry(i, 1);
-    let count = entry(i, 2);
-    match entry(i, 0) {
-        0 => LiteralRef::Null,
-        1 => LiteralRef::False,
-        2 => LiteralRef::True,
-        3 => LiteralRef::Number { place: start },
-        4 => LiteralRef::String { start, count },
-        _ => LiteralRef::RawString { start, count },
+// Is the answer the order of the two places?
+fn agrees(answer: Comparison, places: Option<(u8, u8)>) -> bool {
+    match places {
+        Some((a, b)) => match answer {
+            Comparison::Less => a < b,
+            Comparison::Equal => a == b,
+            Comparison::Greater => b < a,
+            Comparison::NoLiteral => false,
+        },
+        None => matches!(answer, Comparison::NoLiteral),
     }
 }
 
-// 1 where the answer is the order of the two places
-fn agrees(answer: Comparison, a: usize, b: usize) -> u64
-    ensures { result ≤ 1 }
-{
-    let right = match answer {
-        Comparison::Less => a < b && b < 99,
-        Comparison::Equal => a == b && b < 99,
-        Comparison::Greater => b < a && a < 99,
-        Comparison::NoLiteral => a == 99 || b == 99,
-    };
-    if right { 1 } else { 0 }
+fn keys_agree(a: Row, b: Row) -> bool {
+    let answer = literal::order::compare(&NUMBERS, &STRINGS, &TEXT, a.0, b.0);
+    agrees(answer, a.1.zip(b.1).map(|(x, y)| (x.0, y.0)))
 }
 
-fn keys_agree(a: usize, b: usize) -> u64
-    ensures { result ≤ 1 }
-{
-    let answer = literal::order::compare(&NUMBERS, &STRINGS, &TEXT, literal_at(a), literal_at(b));
-    agrees(answer, entry(a, 3), entry(b, 3))
-}
-
-fn texts_agree(a: usize, b: usize) -> u64
-    ensures { result ≤ 1 }
-{
-    let answer = literal::text::compare_key_texts(
-        &NUMBERS,
-        &STRINGS,
-        &TEXT,
-        literal_at(a),
-        literal_at(b),
-    );
-    agrees(answer, entry(a, 4), entry(b, 4))
+fn texts_agree(a: Row, b: Row) -> bool {
+    let answer = literal::text::compare_key_texts(&NUMBERS, &STRINGS, &TEXT, a.0, b.0);
+    agrees(answer, a.1.zip(b.1).map(|(x, y)| (x.1, y.1)))
 }
 
 fn print_counts(rt: &impl Print, keys: u64, texts: u64) -> io::Result<()> {
@@ -136,22 +116,20 @@ fn print_text(rt: &impl Print, l: LiteralRef) -> io::Result<()> {
 }
 
 fn print_texts(rt: &impl Print) -> io::Result<()> {
-    let mut i = 0;
-    while i < 21 {
-        print_text(rt, literal_at(i))?;
-        i += 1;
+    for row in &TABLE {
+        print_text(rt, row.0)?;
     }
     Ok(())
 }
 
 fn main(rt: HostRuntime) -> io::Result<()> {
-    let mut keys = 0;
-    let mut texts = 0;
-    let mut pair = 0;
-    while pair < 441 {
-        keys += keys_agree(pair / 21, pair % 21);
-        texts += texts_agree(pair / 21, pair % 21);
-        pair += 1;
+    let mut keys: u64 = 0;
+    let mut texts: u64 = 0;
+    for pair in 0..441 {
+        let a = TABLE[pair / 21];
+        let b = TABLE[pair % 21];
+        keys += u64::from(keys_agree(a, b));
+        texts += u64::from(texts_agree(a, b));
     }
     print_counts(&rt, keys, texts)?;
     print_texts(&rt)

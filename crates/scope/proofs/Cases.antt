@@ -17,7 +17,7 @@ use Rattle.scope.specs.declared.ScopingMode.TheVariants.{RespectParent, AllowSha
 use Rattle.scope.specs.declared.ScopeAnswer.{ScopeAnswer}
 use Rattle.scope.specs.declared.ScopeAnswer.TheVariants.{Done, NameOutside}
 use Rattle.scope.specs.declared.Binding.TheVariants as Binding
-use Rattle.scope.specs.Names.{is_name, bit_of, with_bit, without_bit, contains, with_name, without_name, no_names, size_of}
+use Rattle.scope.specs.Names.{is_name, bit_of, with_bit, without_bit, put_bit, at_name, contains, with_name, without_name, no_names, size_of}
 use Rattle.scope.specs.Says.{marked_unbound, taken, by_scoping}
 use Rattle.scope.specs.declared.ByteScope.{ByteScope}
 use Rattle.scope.specs.declared.ConversionAnswer.TheVariants as Conversion
@@ -66,14 +66,8 @@ pub in_no_set : (s : NameSet) (x : ℕ) {r : Bool} → r ≡ is_name x → not r
 unfolding contains
 in_no_set s x e t = simp (told_no e t)
 
-module _ (s : NameSet) (x : ℕ) {r : Bool} (e : r ≡ is_name x) (t : not r ≡ true) where
-  pub with_outside : s ≡ with_name s x
-  unfolding with_name
-  with_outside = simp (told_no e t)
-
-  pub without_outside : s ≡ without_name s x
-  unfolding without_name
-  without_outside = simp (told_no e t)
+pub put_outside : (b : Bool) (s : NameSet) (x : ℕ) {r : Bool} → r ≡ is_name x → not r ≡ true → s ≡ at_name (put_bit b) s x
+put_outside b s x e t = simp (told_no e t)
 
 module _ (x : ℕ) {r : Bool} (e : r ≡ is_name x) (t : not r ≡ false) where
   pub first_bit : 1 ≤ x
@@ -91,21 +85,11 @@ module _ (x : ℕ) {r : Bool} (e : r ≡ is_name x) (t : not r ≡ false) where
     unfolding contains
     in_high lt is = simp (told_yes e t, lt-leb x 64 lt) is
 
-    pub with_low : {w : ℕ} → x ≤ 64 → w ≡ with_bit s.low (x - 1) → ◌≡◌ {A = NameSet} (record { low = w; high = s.high }) (with_name s x)
-    unfolding with_name
-    with_low le is = simp (told_yes e t, le-leb x 64 le, is)
+    pub put_low : (b : Bool) {w : ℕ} → x ≤ 64 → w ≡ put_bit b s.low (x - 1) → ◌≡◌ {A = NameSet} (record { low = w; high = s.high }) (at_name (put_bit b) s x)
+    put_low b le is = simp (told_yes e t, le-leb x 64 le, is)
 
-    pub with_high : {w : ℕ} → 64 < x → w ≡ with_bit s.high (x - 65) → ◌≡◌ {A = NameSet} (record { low = s.low; high = w }) (with_name s x)
-    unfolding with_name
-    with_high lt is = simp (told_yes e t, lt-leb x 64 lt, is)
-
-    pub without_low : {w : ℕ} → x ≤ 64 → w ≡ without_bit s.low (x - 1) → ◌≡◌ {A = NameSet} (record { low = w; high = s.high }) (without_name s x)
-    unfolding without_name
-    without_low le is = simp (told_yes e t, le-leb x 64 le, is)
-
-    pub without_high : {w : ℕ} → 64 < x → w ≡ without_bit s.high (x - 65) → ◌≡◌ {A = NameSet} (record { low = s.low; high = w }) (without_name s x)
-    unfolding without_name
-    without_high lt is = simp (told_yes e t, lt-leb x 64 lt, is)
+    pub put_high : (b : Bool) {w : ℕ} → 64 < x → w ≡ put_bit b s.high (x - 65) → ◌≡◌ {A = NameSet} (record { low = s.low; high = w }) (at_name (put_bit b) s x)
+    put_high b lt is = simp (told_yes e t, lt-leb x 64 lt, is)
 
 -- a set's size
 module _ (s : NameSet) (l : Fits w64 s.low) (h : Fits w64 s.high) where

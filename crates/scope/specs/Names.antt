@@ -1,5 +1,5 @@
 -- Sets of names as two 64-bit words, a bit a name.
-use Rattle.std.specs.Prelude.{ℕ, zero, suc, ◌+◌, ◌-◌, ◌/◌, ◌%◌, ◌^◌, Bool, cond, ◌&&◌, eqb, leb}
+use Rattle.std.specs.Prelude.{ℕ, zero, suc, ◌+◌, ◌-◌, ◌/◌, ◌%◌, ◌^◌, Bool, true, false, cond, ◌&&◌, eqb, leb}
 use Rattle.std.specs.Int.Bits.{bit_and, bit_or}
 use Rattle.scope.specs.declared.name_set.NameSet.{NameSet}
 
@@ -16,6 +16,11 @@ with_bit w k = bit_or w (2 ^ k)
 
 abbrev pub without_bit : ℕ → ℕ → ℕ
 without_bit w k = bit_and w ((2 ^ 64 - 1) - 2 ^ k)
+
+-- the one or the other
+abbrev pub put_bit : Bool → ℕ → ℕ → ℕ
+put_bit true w k = with_bit w k
+put_bit false w k = without_bit w k
 
 -- Names 1 to 64 are the bits of `low`, 65 to 128 those of `high`; no other number is in a set.
 unfoldable pub contains : NameSet → ℕ → Bool

@@ -11,12 +11,9 @@ use crate::name_set::NameSet;
 pub(crate) fn marks_ok(bytes: ByteScope) -> bool
     ensures { result ≡ marks_ok bytes }
 {
-    let marks = bytes.marks;
     let mut small = true;
-    let mut i: usize = 0;
-    while i < 128 {
-        small = small & (marks[i] <= 31);
-        i += 1;
+    for mark in &bytes.marks {
+        small = small & (*mark <= 31);
     }
     small
 }
@@ -45,10 +42,8 @@ fn none_marked(marks: &[u8; 128], place: u32, from: usize) -> bool
     ensures { result ≡ all_from (unmarked marks.now place) from 64 }
 {
     let mut none = true;
-    let mut i: usize = 0;
-    while i < 64 {
+    for i in 0..64 {
         none = none & (mark_bit(marks[from + i], place) == 0);
-        i += 1;
     }
     none
 }
@@ -62,9 +57,7 @@ fn mark_word(marks: &[u8; 128], place: u32, from: usize) -> u64
         return 0;
     }
     let mut word: u64 = 0;
-    let mut left: usize = 64;
-    while 0 < left {
-        left -= 1;
+    for left in (0..64).rev() {
         word = word * 2 + mark_bit(marks[from + left], place);
     }
     word

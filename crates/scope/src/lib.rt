@@ -116,15 +116,13 @@ impl Scope {
                 scope: self,
             };
         }
-        let bound = self.bound;
-        let here = self.here;
-        let unbound = self.unbound;
-        let local = self.local;
-        let mut scope = self;
-        scope.bound = bound.with(name);
-        scope.here = here.with(name);
-        scope.unbound = unbound.without(name);
-        scope.local = local.without(name);
+        let scope = Self {
+            bound: self.bound.with(name),
+            here: self.here.with(name),
+            unbound: self.unbound.without(name),
+            local: self.local.without(name),
+            ..self
+        };
         Changed { answer, scope }
     }
 
@@ -138,15 +136,13 @@ impl Scope {
                 scope: self,
             };
         }
-        let bound = self.bound;
-        let here = self.here;
-        let unbound = self.unbound;
-        let local = self.local;
-        let mut scope = self;
-        scope.bound = bound.without(name);
-        scope.here = here.without(name);
-        scope.unbound = unbound.with(name);
-        scope.local = local.without(name);
+        let scope = Self {
+            bound: self.bound.without(name),
+            here: self.here.without(name),
+            unbound: self.unbound.with(name),
+            local: self.local.without(name),
+            ..self
+        };
         Changed { answer, scope }
     }
 
@@ -156,8 +152,7 @@ impl Scope {
         if !is_name(name) {
             return Binding::NameOutside;
         }
-        let underscore = self.underscore;
-        if name == underscore {
+        if name == self.underscore {
             return Binding::No; // under both scopings
         }
         if self.marked_unbound(name) {
@@ -180,12 +175,10 @@ impl Scope {
         if !is_name(name) {
             return Binding::NameOutside;
         }
-        let underscore = self.underscore;
-        if name == underscore {
+        if name == self.underscore {
             return Binding::No;
         }
-        let here = self.here;
-        if here.contains(name) {
+        if self.here.contains(name) {
             return Binding::Yes;
         }
         Binding::No
@@ -195,8 +188,7 @@ impl Scope {
     pub fn bound_count(self) -> u32
         ensures { result ≡ bound_count self }
     {
-        let bound = self.bound;
-        bound.count()
+        self.bound.count()
     }
 
     // Marks above 31 are refused, with an empty scope.
@@ -209,15 +201,14 @@ impl Scope {
                 scope: Self::new(0, false),
             };
         }
-        let marks = bytes.marks;
         Converted {
             answer: ConversionAnswer::Done,
             scope: Self {
-                bound: marked(&marks, 0),
-                here: marked(&marks, 1),
-                unbound: marked(&marks, 2),
-                local: marked(&marks, 3),
-                global: marked(&marks, 4),
+                bound: marked(&bytes.marks, 0),
+                here: marked(&bytes.marks, 1),
+                unbound: marked(&bytes.marks, 2),
+                local: marked(&bytes.marks, 3),
+                global: marked(&bytes.marks, 4),
                 underscore: bytes.underscore,
                 scheduler: bytes.scheduler,
             },
@@ -228,10 +219,8 @@ impl Scope {
         ensures { result ≡ to_bytes self }
     {
         let mut marks = [0u8; 128];
-        let mut i: usize = 0;
-        while i < 128 {
+        for i in 0..128 {
             marks[i] = self.mark(i as u32 + 1);
-            i += 1;
         }
         ByteScope {
             marks,
@@ -247,21 +236,18 @@ impl Scope {
         if !is_name(name) {
             return false;
         }
-        let underscore = self.underscore;
-        name != underscore
+        name != self.underscore
     }
 
     // unbound by its mark, or local under a scheduler
     fn marked_unbound(self, name: u32) -> bool
         ensures { result ≡ marked_unbound self.scheduler (says self name) }
     {
-        let unbound = self.unbound;
-        if unbound.contains(name) {
+        if self.unbound.contains(name) {
             return true;
         }
         if self.scheduler {
-            let local = self.local;
-            return local.contains(name);
+            return self.local.contains(name);
         }
         false
     }
@@ -270,27 +256,20 @@ impl Scope {
     fn taken(self, name: u32) -> bool
         ensures { result ≡ taken (says self name) }
     {
-        let bound = self.bound;
-        if bound.contains(name) {
+        if self.bound.contains(name) {
             return true;
         }
-        let global = self.global;
-        global.contains(name)
+        self.global.contains(name)
     }
 
     // The marks of a name, summed.
     fn mark(self, name: u32) -> u8
         ensures { result ≡ sum_of self name }
     {
-        let bound = self.bound;
-        let here = self.here;
-        let unbound = self.unbound;
-        let local = self.local;
-        let global = self.global;
-        weight(bound, name, 1)
-            + weight(here, name, 2)
-            + weight(unbound, name, 4)
-            + weight(local, name, 8)
-            + weight(global, name, 16)
+        weight(self.bound, name, 1)
+            + weight(self.here, name, 2)
+            + weight(self.unbound, name, 4)
+            + weight(self.local, name, 8)
+            + weight(self.global, name, 16)
     }
 }

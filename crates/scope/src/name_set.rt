@@ -1,6 +1,6 @@
 // Sets of names as two 64-bit words, a bit a name.
 ghost use Rattle.std.specs.Prelude.{◌≡◌, ◌<◌};
-ghost use Rattle.scope.specs.Names.{is_name, bit_of, with_bit, without_bit, contains, with_name, without_name, no_names, size_of};
+ghost use Rattle.scope.specs.Names.{is_name, bit_of, with_bit, without_bit, put_bit, at_name, contains, with_name, without_name, no_names, size_of};
 
 // A set of names, a bit a name: names 1 to 64 in `low`, 65 to 128 in `high`.
 #[derive(Clone, Copy)]
@@ -42,6 +42,17 @@ fn without_bit(word: u64, bit: u32) -> u64
     word & !(1 << bit)
 }
 
+fn put_bit(word: u64, bit: u32, present: bool) -> u64
+    requires { bit < 64 }
+    ensures { result ≡ put_bit present word bit }
+{
+    if present {
+        with_bit(word, bit)
+    } else {
+        without_bit(word, bit)
+    }
+}
+
 impl NameSet {
     pub(crate) fn empty() -> Self
         ensures { result ≡ no_names }
@@ -61,40 +72,35 @@ impl NameSet {
         has_bit(self.high, name - 65)
     }
 
-    pub(crate) fn with(self, name: u32) -> Self
-        ensures { result ≡ with_name self name }
+    // The set with a name, or without it; the same set for any other number.
+    fn put(self, name: u32, present: bool) -> Self
+        ensures { result ≡ at_name (put_bit present) self name }
     {
         if !is_name(name) {
             return self;
         }
         if name <= 64 {
             return Self {
-                low: with_bit(self.low, name - 1),
+                low: put_bit(self.low, name - 1, present),
                 high: self.high,
             };
         }
         Self {
             low: self.low,
-            high: with_bit(self.high, name - 65),
+            high: put_bit(self.high, name - 65, present),
         }
+    }
+
+    pub(crate) fn with(self, name: u32) -> Self
+        ensures { result ≡ with_name self name }
+    {
+        self.put(name, true)
     }
 
     pub(crate) fn without(self, name: u32) -> Self
         ensures { result ≡ without_name self name }
     {
-        if !is_name(name) {
-            return self;
-        }
-        if name <= 64 {
-            return Self {
-                low: without_bit(self.low, name - 1),
-                high: self.high,
-            };
-        }
-        Self {
-            low: self.low,
-            high: without_bit(self.high, name - 65),
-        }
+        self.put(name, false)
     }
 
     pub(crate) fn count(self) -> u32

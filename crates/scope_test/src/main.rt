@@ -35,16 +35,13 @@ fn asked(s: Scope, name: u32) -> u32
 fn right(s: Scope, name: u32, want: u32) -> u32
     ensures { result ≤ 1 }
 {
-    if asked(s, name) == want { 1 } else { 0 }
+    u32::from(asked(s, name) == want)
 }
 
 fn right_answer(a: ScopeAnswer, outside: bool) -> u32
     ensures { result ≤ 1 }
 {
-    match a {
-        ScopeAnswer::Done => if outside { 0 } else { 1 },
-        ScopeAnswer::NameOutside => if outside { 1 } else { 0 },
-    }
+    u32::from(outside == matches!(a, ScopeAnswer::NameOutside))
 }
 
 // A change of one name leaves its neighbour 3 alone.
@@ -78,25 +75,12 @@ fn right_refusals(s: Scope, name: u32, want: u32) -> u32
         + right(s, 129, 222)
 }
 
-fn one(right: bool) -> u32
-    ensures { result ≤ 1 }
-{
-    if right { 1 } else { 0 }
-}
-
 // Of 128 names with this mark; `_` is 2.
 fn bytes_of(mark: u8, scheduler: bool) -> ByteScope {
     ByteScope {
         marks: [mark; 128],
         underscore: 2,
         scheduler,
-    }
-}
-
-fn is_done(a: ConversionAnswer) -> bool {
-    match a {
-        ConversionAnswer::Done => true,
-        ConversionAnswer::MarkOutside => false,
     }
 }
 
@@ -109,10 +93,8 @@ fn right_bytes(s: Scope, name: u32, changed: u8, mark: u8) -> bool {
     let bytes = s.to_bytes();
     let marks = bytes.marks;
     let mut same = true;
-    let mut i: usize = 0;
-    while i < 128 {
+    for i in 0..128 {
         same = same & (marks[i] == mark_wanted(i as u32 + 1 == name, changed, mark));
-        i += 1;
     }
     same
 }
@@ -125,10 +107,7 @@ fn right_refusal(mark: u8) -> u32
     let large = Scope::from_bytes(bytes_of(mark + 32, true));
     let answer = large.answer;
     let empty = large.scope;
-    if is_done(answer) {
-        return 0;
-    }
-    one(right_bytes(empty, 0, 0, 0))
+    u32::from(matches!(answer, ConversionAnswer::MarkOutside) && right_bytes(empty, 0, 0, 0))
 }
 
 // The byte layout after each call, by its own sums, and as many bound names as it says.
@@ -141,11 +120,11 @@ fn right_layout(s: Scope, name: u32, mark: u8) -> u32
     let added = s.add_unbound_variable(name);
     let added_scope = added.scope;
     let inherited = mark - mark / 2 % 2 * 2;
-    one(right_bytes(s, 0, 0, mark))
-        + one(right_bytes(s.child(), 0, 0, inherited))
-        + one(right_bytes(bound_scope, name, mark / 16 * 16 + 3, mark))
-        + one(right_bytes(added_scope, name, mark / 16 * 16 + 4, mark))
-        + one(s.bound_count() == (mark % 2) as u32 * 128)
+    u32::from(right_bytes(s, 0, 0, mark))
+        + u32::from(right_bytes(s.child(), 0, 0, inherited))
+        + u32::from(right_bytes(bound_scope, name, mark / 16 * 16 + 3, mark))
+        + u32::from(right_bytes(added_scope, name, mark / 16 * 16 + 4, mark))
+        + u32::from(s.bound_count() == u32::from(mark % 2) * 128)
 }
 
 // How many of 17 answers are right about names with this mark.
@@ -180,18 +159,16 @@ fn right_at(mark: usize) -> u32
     ensures { result ≤ 136 }
 {
     let says = SAYS[mark];
-    let free = (says % 2) as u32;
-    let scheduled = (says / 2 % 2) as u32;
-    let same = (says / 4 % 2) as u32;
+    let free = u32::from(says % 2);
+    let scheduled = u32::from(says / 2 % 2);
+    let same = u32::from(says / 4 % 2);
     right_names(mark as u8, false, free, same) + right_names(mark as u8, true, scheduled, same)
 }
 
 fn all_right() -> u32 {
     let mut total: u32 = 0;
-    let mut mark: usize = 0;
-    while mark < 32 {
+    for mark in 0..32 {
         total += right_at(mark);
-        mark += 1;
     }
     total
 }

@@ -5,7 +5,7 @@ ghost use Rattle.table.specs.code.NameOrder.{Ascending, FoundName};
 ghost use Rattle.table.specs.Rules.{names_differ};
 
 use crate::reading::name_bytes;
-use base::bytes::insert_at;
+use base::insertion::insert_at;
 use literal::Comparison;
 use literal::order::compare_bytes;
 

@@ -4,7 +4,7 @@ ghost use Rattle.table.specs.Decode.{literal_node};
 ghost use Rattle.common_example.specs.code.arrays.Distinct.{FindAsks, LiteralFound, AddAsks, NodeAdded};
 ghost use Rattle.common_example.specs.code.arrays.Likes.{likes, LikesAsks};
 
-use base::words::insert_at;
+use base::insertion::insert_at;
 use literal::Comparison;
 use planner::inner::fields::Found;
 use table::reading::compare_literals;

@@ -8,7 +8,7 @@ ghost use Rattle.planner.specs.code.Post.{OrderAsks, Arranged};
 ghost use Rattle.planner.specs.code.Ordering.{FieldAdded, FindAsks, FoundIn, AddAsks};
 
 use crate::fields::wide;
-use base::bytes::insert_at;
+use base::insertion::insert_at;
 use literal::{Comparison, LiteralRef};
 use table::Key;
 use table::reading::{child_at, compare_literal_to_node, extract_literal_key};

@@ -5,5 +5,5 @@ use Rattle.literal.proofs.order.compare_words.Goals as goal
 pub returns-then-x-y : goal.returns-then-x-y
 returns-then-x-y c = search (word_differs, rules)
 
-pub loop-i-preserved : goal.loop-i-preserved
-loop-i-preserved c = search (word_on, rules)
+pub loop-k-preserved : goal.loop-k-preserved
+loop-k-preserved c = search (word_on {shorter = c.min-words.result} c.loop-k.invariant, rules)

@@ -1,9 +1,5 @@
 use Rattle.literal.proofs.Chunks.{Alike}
-use Prim.Native.Nat.{◌-◌}
 use Rattle.literal.proofs.order.same_chunk.Given as goal
 
 abbrev pub invariant-loop-i : goal.invariant-loop-i
 invariant-loop-i l = Alike l.a l.b l.at l.same l.i
-
-abbrev pub decreases-loop-i : goal.decreases-loop-i
-decreases-loop-i l = 64 - l.i

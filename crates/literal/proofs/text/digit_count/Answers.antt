@@ -1,12 +1,7 @@
-use Rattle.literal.proofs.Texts.{counting_start, counting_on, counting_ends}
-use borrow.Author.Rules.{rules}
+use Rattle.literal.proofs.Decimals.{digits_counted}
 use Rattle.literal.proofs.text.digit_count.Goals as goal
 
-pub loop-rest-init : goal.loop-rest-init
-loop-rest-init c = search (counting_start, rules)
-
-pub loop-rest-preserved : goal.loop-rest-preserved
-loop-rest-preserved c = search (counting_on, rules)
-
 pub returns : goal.returns
-returns c = search (counting_ends, rules)
+returns c =
+    let o = c.checked_ilog10.ensures in
+    rw c.unwrap_or.ensures (digits_counted c.args.size c.checked_ilog10.result o.none o.power_le o.next_power_gt o.bound)

@@ -5,8 +5,8 @@ use Rattle.scope.proofs.Scope.has_same_scope_binding.Goals as goal
 pub returns-then-not-is_name : goal.returns-then-not-is_name
 returns-then-not-is_name c = search (same_outside, rules)
 
-pub returns-then-name-underscore : goal.returns-then-name-underscore
-returns-then-name-underscore c = search (same_underscore, rules)
+pub returns-then-name-self : goal.returns-then-name-self
+returns-then-name-self c = search (same_underscore, rules)
 
 pub returns-then-contains : goal.returns-then-contains
 returns-then-contains c = search (same_yes, rules)

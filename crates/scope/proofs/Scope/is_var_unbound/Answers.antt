@@ -5,8 +5,8 @@ use Rattle.scope.proofs.Scope.is_var_unbound.Goals as goal
 pub returns-then-not-is_name : goal.returns-then-not-is_name
 returns-then-not-is_name c = search (unbound_outside, rules)
 
-pub returns-then-name-underscore : goal.returns-then-name-underscore
-returns-then-name-underscore c = search (unbound_underscore, rules)
+pub returns-then-name-self : goal.returns-then-name-self
+returns-then-name-self c = search (unbound_underscore, rules)
 
 pub returns-then-marked_unbound : goal.returns-then-marked_unbound
 returns-then-marked_unbound c = search (unbound_marked, rules)

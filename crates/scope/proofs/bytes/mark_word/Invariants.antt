@@ -4,6 +4,3 @@ use Rattle.scope.proofs.bytes.mark_word.Given as goal
 
 abbrev pub invariant-loop-left : goal.invariant-loop-left
 invariant-loop-left l = Packing (mark_bit l.marks l.place) l.from l.left l.word
-
-abbrev pub decreases-loop-left : goal.decreases-loop-left
-decreases-loop-left l = l.left

@@ -3,11 +3,11 @@ use Rattle.scope.proofs.Small.{small_start, small_on, small_ends}
 use borrow.Author.Rules.{rules}
 use Rattle.scope.proofs.bytes.marks_ok.Goals as goal
 
-pub loop-i-init : goal.loop-i-init
-loop-i-init c = search (small_start, rules)
+pub loop-mark-init : goal.loop-mark-init
+loop-mark-init c = search (small_start, rules)
 
-pub loop-i-preserved : goal.loop-i-preserved
-loop-i-preserved c = search (small_on, rules)
+pub loop-mark-preserved : goal.loop-mark-preserved
+loop-mark-preserved c = search (small_on, rules)
 
 pub returns : goal.returns
 unfolding marks_ok

@@ -1,10 +1,6 @@
-use Prim.Native.Nat.{◌-◌}
 use Rattle.scope.specs.Bytes.{mark_bit}
 use Rattle.scope.proofs.Words.{Unmarked}
 use Rattle.scope.proofs.bytes.none_marked.Given as goal
 
 abbrev pub invariant-loop-i : goal.invariant-loop-i
 invariant-loop-i l = Unmarked (mark_bit l.marks l.place) l.from l.none l.i
-
-abbrev pub decreases-loop-i : goal.decreases-loop-i
-decreases-loop-i l = 64 - l.i
