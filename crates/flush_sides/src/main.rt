@@ -3,8 +3,6 @@
 
 mod calls;
 
-ghost use Rattle.std.specs.Prelude.{◌≡◌, ◌<◌, length};
-
 use operation::{Operation, REGO_V0};
 use planner::PlanAnswer;
 use planner::buffer::ENTRY_WORDS;
@@ -38,24 +36,6 @@ const STRINGS: [u8; 0] = [];
 
 const PATTERN: u32 = 3;
 
-fn node_word(i: usize) -> u32
-    requires { i < 45 }
-{
-    NODES[i / 5][i % 5]
-}
-
-fn nodes() -> [u32; 45]
-    ensures { 45 ≡ length result }
-{
-    let mut words = [0u32; 45];
-    let mut i: usize = 0;
-    while i < 45 {
-        words[i] = node_word(i);
-        i += 1;
-    }
-    words
-}
-
 // The name, by its place in the text.
 fn w() -> Name {
     Name {
@@ -70,9 +50,9 @@ fn scope() -> Scope {
 }
 
 fn plan_rule(plan: &mut [u32]) -> PlanAnswer {
-    let nodes = nodes();
+    let nodes = NODES.as_flattened();
     calls::plan(
-        &nodes,
+        nodes,
         &CHILDREN,
         &NUMBERS,
         w(),
@@ -89,9 +69,9 @@ fn plan_rule(plan: &mut [u32]) -> PlanAnswer {
 }
 
 fn report_names(list: &mut [u32]) -> ReportAnswer {
-    let nodes = nodes();
+    let nodes = NODES.as_flattened();
     calls::names_report(
-        &nodes,
+        nodes,
         &CHILDREN,
         &NUMBERS,
         w(),
@@ -105,9 +85,9 @@ fn report_names(list: &mut [u32]) -> ReportAnswer {
 }
 
 fn run_on(value: u32, values: &mut [u32], plan: &mut [u32]) -> RunAnswer {
-    let nodes = nodes();
+    let nodes = NODES.as_flattened();
     calls::run(
-        &nodes,
+        nodes,
         &CHILDREN,
         &NUMBERS,
         w(),
@@ -122,62 +102,47 @@ fn run_on(value: u32, values: &mut [u32], plan: &mut [u32]) -> RunAnswer {
     )
 }
 
-fn print(rt: &impl Print, text: &[u8]) -> io::Result<()> {
-    rt.write_all(text)
-}
-
-fn print_word(rt: &impl Print, word: u32) -> io::Result<()> {
-    print!(rt; " {word}")
-}
-
-// One entry a line.
-fn print_entries(rt: &impl Print, plan: &[u32]) -> io::Result<()> {
-    let mut i: usize = 0;
-    while i < plan.len() {
-        print_word(rt, plan[i])?;
-        if i % ENTRY_WORDS == ENTRY_WORDS - 1 {
-            print(rt, b"\n")?;
-        }
-        i += 1;
+// Each word after a blank.
+fn print_entry(rt: &impl Print, words: &[u32]) -> io::Result<()> {
+    for word in words {
+        print!(rt; " {word}")?;
     }
-    Ok(())
+    println!(rt)
 }
 
 fn print_plan(rt: &impl Print) -> io::Result<()> {
     let mut plan = [0u32; 3 * ENTRY_WORDS];
-    match plan_rule(&mut plan) {
-        PlanAnswer::Planned {
-            form,
-            side,
-            entries,
-        } => print(rt, b"planned\n")?,
-        _ => print(rt, b"refused\n")?,
+    let said = match plan_rule(&mut plan) {
+        PlanAnswer::Planned { .. } => "planned",
+        _ => "refused",
+    };
+    println!(rt; "{said}")?;
+    for entry in plan.chunks(ENTRY_WORDS) {
+        print_entry(rt, entry)?;
     }
-    print_entries(rt, &plan)
+    Ok(())
 }
 
 // 1: w is bound in the plan.
 fn print_report(rt: &impl Print) -> io::Result<()> {
     let mut list = [0u32; 1];
-    match report_names(&mut list) {
-        ReportAnswer::Reported => print(rt, b"reported, w")?,
-        _ => print(rt, b"refused, w")?,
-    }
-    print_word(rt, list[0])?;
-    print(rt, b"\n")
+    let said = match report_names(&mut list) {
+        ReportAnswer::Reported => "reported",
+        _ => "refused",
+    };
+    println!(rt; "{said}, w {}", list[0])
 }
 
 // The answer, and the node of the value of w, or 0.
 fn print_run(rt: &impl Print, value: u32) -> io::Result<()> {
     let mut values = [0u32; 1];
     let mut plan = [0u32; 3 * ENTRY_WORDS];
-    match run_on(value, &mut values, &mut plan) {
-        RunAnswer::Match => print(rt, b"match, w")?,
-        RunAnswer::NoMatch => print(rt, b"no match, w")?,
-        _ => print(rt, b"refused, w")?,
-    }
-    print_word(rt, values[0])?;
-    print(rt, b"\n")
+    let said = match run_on(value, &mut values, &mut plan) {
+        RunAnswer::Match => "match",
+        RunAnswer::NoMatch => "no match",
+        _ => "refused",
+    };
+    println!(rt; "{said}, w {}", values[0])
 }
 
 fn main(rt: HostRuntime) -> io::Result<()> {

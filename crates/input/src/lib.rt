@@ -15,6 +15,7 @@ pub fn read_full<R: Read>(from: &mut R, buffer: &mut [u8]) -> io::Result<usize>
     ensures end { IfOk result (λ n. n < length buffer.new → IsAtEnd (R.remaining from.new)) }
 {
     let mut done: usize = 0;
+    // A read gives as many bytes as it likes, so no `for` counts them.
     while done < buffer.len() {
         let n = from.read(&mut buffer[done..])?;
         if n == 0 {

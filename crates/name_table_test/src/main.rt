@@ -1,10 +1,8 @@
 // Adds names and prints, for each case, the refusal or 0, the name's number, 1 where it was added, and the name table afterwards; then adds names until there is no place.
 #![tactic(auto)]
 
-ghost use Rattle.std.specs.Prelude.{◌≤◌};
-
 use name_table::{NameAnswer, add_name};
-use std::io;
+use std::{array, io};
 use table::refusal_number;
 
 // x, y, `_`, then an array of the first two.
@@ -52,18 +50,8 @@ const CASES: [[u32; 4]; 27] = [
     [10, 2, 0, 1], // node 3 is a name that is not in use
 ];
 
-fn print_number(rt: &impl Print, n: u64) -> io::Result<()> {
-    print!(rt; " {n}")
-}
-
-fn print_word(rt: &impl Print, word: u32) -> io::Result<()> {
-    print_number(rt, word as u64)
-}
-
 fn print_answer(rt: &impl Print, number: u32, name: u32, added: u32) -> io::Result<()> {
-    print_word(rt, number)?;
-    print_word(rt, name)?;
-    print_word(rt, added)
+    print!(rt; " {number} {name} {added}")
 }
 
 fn print_outcome(rt: &impl Print, answer: NameAnswer) -> io::Result<()> {
@@ -75,52 +63,30 @@ fn print_outcome(rt: &impl Print, answer: NameAnswer) -> io::Result<()> {
     }
 }
 
-fn at_most_10(words: u32) -> usize
-    ensures { result ≤ 10 }
-{
-    if 10 < words {
-        return 10;
+fn print_names(rt: &impl Print, names: &[u32]) -> io::Result<()> {
+    for word in names {
+        print!(rt; " {word}")?;
     }
-    words as usize
-}
-
-fn print_names(rt: &impl Print, names: &[u32; 10]) -> io::Result<()> {
-    let mut i: usize = 0;
-    while i < 10 {
-        print_word(rt, names[i])?;
-        i += 1;
-    }
-    Ok(())
+    println!(rt)
 }
 
 fn run(rt: &impl Print, case: [u32; 4]) -> io::Result<()> {
+    let [words, used, start, length] = case;
     let mut names = NAMES;
-    let words = at_most_10(case[0]);
+    let lent = names.len().min(words as usize);
     let answer = add_name(
         &NODES,
         &CHILDREN,
         &NUMBERS,
-        &mut names[..words],
+        &mut names[..lent],
         &STRINGS,
         &TEXT,
-        case[1],
-        case[2],
-        case[3],
+        used,
+        start,
+        length,
     );
     print_outcome(rt, answer)?;
-    print_names(rt, &names)?;
-    println!(rt)
-}
-
-// Byte i of the text is i, so each byte is a name of its own.
-fn all_bytes() -> [u8; 256] {
-    let mut text = [0u8; 256];
-    let mut i: usize = 0;
-    while i < 256 {
-        text[i] = i as u8;
-        i += 1;
-    }
-    text
+    print_names(rt, &names)
 }
 
 // Adds byte i, and prints the answer for the last few.
@@ -143,25 +109,20 @@ fn add_byte(
 
 // 130 additions to a table of 132 places: the last two are refused, as 129th names; then one that stands there.
 fn fill(rt: &impl Print) -> io::Result<()> {
-    let text = all_bytes();
+    // Each byte is a name of its own.
+    let text = array::from_fn(|i| (i % 256) as u8);
     let mut names = [0u32; 264];
     let mut used: u32 = 0;
-    let mut i: u32 = 0;
-    while i < 130 {
+    for i in 0..130 {
         used = add_byte(rt, &mut names, &text, used, i)?;
-        i += 1;
     }
     add_byte(rt, &mut names, &text, used, 127)?;
-    print_word(rt, names[254])?;
-    print_word(rt, names[256])?;
-    println!(rt)
+    println!(rt; " {} {}", names[254], names[256])
 }
 
 fn main(rt: HostRuntime) -> io::Result<()> {
-    let mut i: usize = 0;
-    while i < 27 {
-        run(&rt, CASES[i])?;
-        i += 1;
+    for case in CASES {
+        run(&rt, case)?;
     }
     fill(&rt)
 }

@@ -1,8 +1,6 @@
 // Plans the patterns of one table and prints a listing of each, as document 01 lays it out.
 #![tactic(auto)]
 
-ghost use Rattle.std.specs.Prelude.{◌≡◌, ◌<◌, length};
-
 use planner::PlanAnswer;
 use planner::buffer::ENTRY_WORDS;
 use planner::destructuring::create_destructuring_plan;
@@ -63,11 +61,9 @@ const NODES: [[u32; 5]; 48] = [
     [7, 0, 0, 34, 3], // 48: [f(), null, true]
 ];
 
-const CHILDREN: [[u32; 10]; 4] = [
-    [1, 2, 4, 5, 6, 7, 10, 11, 9, 12],
-    [13, 22, 15, 16, 17, 18, 19, 20, 21, 23],
-    [25, 26, 27, 29, 30, 32, 33, 34, 36, 40],
-    [39, 41, 42, 43, 45, 46, 47, 3, 8, 14],
+const CHILDREN: [u32; 40] = [
+    1, 2, 4, 5, 6, 7, 10, 11, 9, 12, 13, 22, 15, 16, 17, 18, 19, 20, 21, 23, 25, 26, 27, 29, 30,
+    32, 33, 34, 36, 40, 39, 41, 42, 43, 45, 46, 47, 3, 8, 14,
 ];
 
 const NUMBERS: [u64; 2] = [0, 7];
@@ -78,61 +74,38 @@ const STRINGS: [u8; 2] = *b"ab";
 
 const TEXT: [u8; 9] = *b"xyk_input";
 
-// Operation (1 pattern, 5 index, 6 parameter), scoping (1 RespectParent, 2 AllowShadowing), root,
-// words of the buffer.
-const CASES: [[u32; 4]; 21] = [
-    [1, 1, 3, 40],
-    [1, 1, 8, 40],
-    [1, 1, 14, 40],
-    [1, 1, 24, 40],
-    [1, 1, 28, 40],
-    [1, 1, 31, 40],
-    [1, 2, 31, 40],
-    [5, 2, 31, 40],
-    [6, 2, 31, 40],
-    [6, 2, 35, 40],
-    [6, 1, 35, 40],
-    [6, 2, 37, 40],
-    [6, 2, 38, 40],
-    [6, 2, 44, 40],
-    [1, 1, 44, 40],
-    [1, 1, 48, 40],
-    [1, 1, 3, 15], // just the plan
-    [1, 1, 3, 14], // one word short of it
-    [6, 2, 35, 0], // 17 comes before 6
-    [5, 1, 49, 40],
-    [1, 1, 0, 40],
+// What is planned, of a root.
+#[derive(Clone, Copy)]
+enum Asked {
+    Pattern(ScopingMode, u32),
+    LoopIndex(u32),
+    Parameter(ScopingMode, u32),
+}
+
+// And the words of the buffer.
+const CASES: [(Asked, usize); 21] = [
+    (Asked::Pattern(ScopingMode::RespectParent, 3), 40),
+    (Asked::Pattern(ScopingMode::RespectParent, 8), 40),
+    (Asked::Pattern(ScopingMode::RespectParent, 14), 40),
+    (Asked::Pattern(ScopingMode::RespectParent, 24), 40),
+    (Asked::Pattern(ScopingMode::RespectParent, 28), 40),
+    (Asked::Pattern(ScopingMode::RespectParent, 31), 40),
+    (Asked::Pattern(ScopingMode::AllowShadowing, 31), 40),
+    (Asked::LoopIndex(31), 40),
+    (Asked::Parameter(ScopingMode::AllowShadowing, 31), 40),
+    (Asked::Parameter(ScopingMode::AllowShadowing, 35), 40),
+    (Asked::Parameter(ScopingMode::RespectParent, 35), 40),
+    (Asked::Parameter(ScopingMode::AllowShadowing, 37), 40),
+    (Asked::Parameter(ScopingMode::AllowShadowing, 38), 40),
+    (Asked::Parameter(ScopingMode::AllowShadowing, 44), 40),
+    (Asked::Pattern(ScopingMode::RespectParent, 44), 40),
+    (Asked::Pattern(ScopingMode::RespectParent, 48), 40),
+    (Asked::Pattern(ScopingMode::RespectParent, 3), 15), // just the plan
+    (Asked::Pattern(ScopingMode::RespectParent, 3), 14), // one word short of it
+    (Asked::Parameter(ScopingMode::AllowShadowing, 35), 0), // 17 comes before 6
+    (Asked::LoopIndex(49), 40),
+    (Asked::Pattern(ScopingMode::RespectParent, 0), 40),
 ];
-
-fn node_word(i: usize) -> u32
-    requires { i < 240 }
-{
-    NODES[i / 5][i % 5]
-}
-
-fn nodes() -> [u32; 240]
-    ensures { 240 ≡ length result }
-{
-    let mut words = [0u32; 240];
-    let mut i: usize = 0;
-    while i < 240 {
-        words[i] = node_word(i);
-        i += 1;
-    }
-    words
-}
-
-fn children() -> [u32; 40]
-    ensures { 40 ≡ length result }
-{
-    let mut words = [0u32; 40];
-    let mut i: usize = 0;
-    while i < 40 {
-        words[i] = CHILDREN[i / 10][i % 10];
-        i += 1;
-    }
-    words
-}
 
 fn scope() -> Scope {
     let mut marks = [0u8; 128];
@@ -146,13 +119,12 @@ fn scope() -> Scope {
     made.scope
 }
 
-fn planned(operation: u32, scoping: ScopingMode, root: u32, plan: &mut [u32]) -> PlanAnswer {
-    let nodes = nodes();
-    let children = children();
-    match operation {
-        1 => create_destructuring_plan(
-            &nodes,
-            &children,
+fn planned(asked: Asked, plan: &mut [u32]) -> PlanAnswer {
+    let nodes = NODES.as_flattened();
+    match asked {
+        Asked::Pattern(scoping, root) => create_destructuring_plan(
+            nodes,
+            &CHILDREN,
             &NUMBERS,
             &NAMES,
             &STRINGS,
@@ -162,9 +134,9 @@ fn planned(operation: u32, scoping: ScopingMode, root: u32, plan: &mut [u32]) ->
             root,
             plan,
         ),
-        5 => create_loop_index_binding_plan(
-            &nodes,
-            &children,
+        Asked::LoopIndex(root) => create_loop_index_binding_plan(
+            nodes,
+            &CHILDREN,
             &NUMBERS,
             &NAMES,
             &STRINGS,
@@ -173,9 +145,9 @@ fn planned(operation: u32, scoping: ScopingMode, root: u32, plan: &mut [u32]) ->
             root,
             plan,
         ),
-        _ => create_parameter_binding_plan(
-            &nodes,
-            &children,
+        Asked::Parameter(scoping, root) => create_parameter_binding_plan(
+            nodes,
+            &CHILDREN,
             &NUMBERS,
             &NAMES,
             &STRINGS,
@@ -188,21 +160,9 @@ fn planned(operation: u32, scoping: ScopingMode, root: u32, plan: &mut [u32]) ->
     }
 }
 
-// Right-justified in six.
-fn print_column(rt: &impl Print, n: u64) -> io::Result<()> {
-    print!(rt; "{n:>6}")
-}
-
-fn print_word(rt: &impl Print, word: u32) -> io::Result<()> {
-    print_column(rt, word as u64)
-}
-
+// Each right-justified in six.
 fn print_row(rt: &impl Print, a: u64, b: u64, c: u64, d: u64) -> io::Result<()> {
-    print_column(rt, a)?;
-    print_column(rt, b)?;
-    print_column(rt, c)?;
-    print_column(rt, d)?;
-    println!(rt)
+    println!(rt; "{a:>6}{b:>6}{c:>6}{d:>6}")
 }
 
 fn refusal(answer: TableRefusal) -> u64 {
@@ -230,51 +190,44 @@ fn print_answer(rt: &impl Print, answer: PlanAnswer) -> io::Result<usize> {
     Ok(0)
 }
 
-// The entries, then any word after them that is not 0.
-fn print_plan(rt: &impl Print, plan: &[u32], entries: usize) -> io::Result<()> {
-    let mut i: usize = 0;
-    while i < plan.len() {
-        let word = plan[i];
-        if i / ENTRY_WORDS < entries {
-            print_word(rt, word)?;
-            if i % ENTRY_WORDS == ENTRY_WORDS - 1 {
-                println!(rt)?;
-            }
-        } else if word != 0 {
-            println!(rt; "not cleared")?;
-        }
-        i += 1;
+fn print_entry(rt: &impl Print, words: &[u32]) -> io::Result<()> {
+    for word in words {
+        print!(rt; "{word:>6}")?;
+    }
+    println!(rt)
+}
+
+fn expect_cleared(rt: &impl Print, words: &[u32]) -> io::Result<()> {
+    for _ in words.iter().filter(|word| **word != 0) {
+        println!(rt; "not cleared")?;
     }
     Ok(())
 }
 
-fn filled() -> [u32; 40]
-    ensures { 40 ≡ length result }
-{
-    [9; 40]
+// The entries, then any word after them that is not 0.
+fn print_plan(rt: &impl Print, plan: &[u32], entries: usize) -> io::Result<()> {
+    for (i, entry) in plan.chunks(ENTRY_WORDS).enumerate() {
+        if i < entries {
+            print_entry(rt, entry)?;
+        } else {
+            expect_cleared(rt, entry)?;
+        }
+    }
+    Ok(())
 }
 
-fn run(rt: &impl Print, case: [u32; 4]) -> io::Result<()> {
-    let mut buffer = filled();
-    let size = case[3] as usize;
-    if 40 < size {
+fn run(rt: &impl Print, asked: Asked, size: usize) -> io::Result<()> {
+    let mut buffer = [9u32; 40];
+    let Some(plan) = buffer.get_mut(..size) else {
         return Ok(());
-    }
-    let plan = &mut buffer[..size];
-    let scoping = if case[1] == 1 {
-        ScopingMode::RespectParent
-    } else {
-        ScopingMode::AllowShadowing
     };
-    let entries = print_answer(rt, planned(case[0], scoping, case[2], plan))?;
+    let entries = print_answer(rt, planned(asked, plan))?;
     print_plan(rt, plan, entries)
 }
 
 fn main(rt: HostRuntime) -> io::Result<()> {
-    let mut i: usize = 0;
-    while i < 21 {
-        run(&rt, CASES[i])?;
-        i += 1;
+    for (asked, size) in CASES {
+        run(&rt, asked, size)?;
     }
     Ok(())
 }

@@ -3,15 +3,12 @@
 // the bytes of both.
 #![tactic(auto)]
 
-ghost use Rattle.std.specs.Prelude.{◌≡◌, ◌≤◌, length, take};
-
 use columns::Column;
 use columns::read::read_column;
 use input::read_full;
 use sheet::plan_sheet;
 use std::io;
 use std::io::Read;
-use table::reading::same_bytes;
 
 fn length_at(header: &[u8], at: usize) -> usize {
     match read_column(header, at) {
@@ -20,27 +17,23 @@ fn length_at(header: &[u8], at: usize) -> usize {
     }
 }
 
-// A number of the buffer's bytes, at most all of them.
-fn at_most(count: usize, buffer: &[u8]) -> usize
-    ensures { (result ≤ length buffer.now) × (result ≡ length (take result buffer.now)) }
-{
-    if count < buffer.len() {
-        return count;
-    }
-    buffer.len()
-}
-
-// Did the input have `count` more bytes, and the buffer space for them?
-fn read_part<R: Read>(from: &mut R, buffer: &mut [u8], count: usize) -> io::Result<bool> {
-    let n = at_most(count, buffer);
+// The next `count` bytes of the input, or none if it has fewer, or the buffer has no space for them.
+fn read_part<'a, R: Read>(
+    from: &mut R,
+    buffer: &'a mut [u8],
+    count: usize,
+) -> io::Result<Option<&'a [u8]>> {
+    let n = count.min(buffer.len());
     let read = read_full(from, &mut buffer[..n])?;
-    Ok(read == count)
+    if read < count {
+        return Ok(None);
+    }
+    Ok(Some(&buffer[..count]))
 }
 
 fn agrees(sheet: &[u8], listing: &[u8], output: &mut [u8]) -> bool {
     let written = plan_sheet(sheet, output);
-    let n = at_most(written, output);
-    same_bytes(&output[..n], listing)
+    output.get(..written) == Some(listing)
 }
 
 // More than the longest sheet, 51,914 bytes, and than the longest listing, 47,641.
@@ -48,29 +41,22 @@ fn space() -> [u8; 65536] {
     [0; 65536]
 }
 
-// 1 for a case that agrees, 0 for one that differs, 2 at the end of the list.
-fn run_case<R: Read>(from: &mut R) -> io::Result<u64> {
+// Does the next case agree? None at the end of the list.
+fn run_case<R: Read>(from: &mut R) -> io::Result<Option<bool>> {
     let mut header = [0u8; 13];
-    if !read_part(from, &mut header, 13)? {
-        return Ok(2);
-    }
-    let sheet_length = length_at(&header, 0);
-    let listing_length = length_at(&header, 6);
+    let Some(header) = read_part(from, &mut header, 13)? else {
+        return Ok(None);
+    };
     let mut sheet = space();
-    if !read_part(from, &mut sheet, sheet_length)? {
-        return Ok(2);
-    }
+    let Some(sheet) = read_part(from, &mut sheet, length_at(header, 0))? else {
+        return Ok(None);
+    };
     let mut listing = space();
-    if !read_part(from, &mut listing, listing_length)? {
-        return Ok(2);
-    }
-    let m = at_most(sheet_length, &sheet);
-    let n = at_most(listing_length, &listing);
+    let Some(listing) = read_part(from, &mut listing, length_at(header, 6))? else {
+        return Ok(None);
+    };
     let mut output = space();
-    if agrees(&sheet[..m], &listing[..n], &mut output) {
-        return Ok(1);
-    }
-    Ok(0)
+    Ok(Some(agrees(sheet, listing, &mut output)))
 }
 
 #[derive(Clone, Copy)]
@@ -82,16 +68,16 @@ struct Tally {
 // A proved loop has to end: the list has fewer than 100,000 cases.
 fn run_all<R: Read>(from: &mut R) -> io::Result<Tally> {
     let mut agreed: u64 = 0;
-    let mut total: u64 = 0;
-    while total < 100000 {
-        let case = run_case(from)?;
-        if 1 < case {
+    for total in 0..100000 {
+        let Some(agrees) = run_case(from)? else {
             return Ok(Tally { agreed, total });
-        }
-        agreed += case;
-        total += 1;
+        };
+        agreed += u64::from(agrees);
     }
-    Ok(Tally { agreed, total })
+    Ok(Tally {
+        agreed,
+        total: 100000,
+    })
 }
 
 fn main(rt: HostRuntime) -> io::Result<()> {

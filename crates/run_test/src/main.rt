@@ -10,7 +10,7 @@
 // buffer holds 9s.
 #![tactic(auto)]
 
-ghost use Rattle.std.specs.Prelude.{◌≤◌, ◌≡◌, length};
+ghost use Rattle.std.specs.Prelude.{◌≤◌};
 
 use input::read_full;
 use parse::{NO_NODE, Parsed, STRINGS, byte_at, parse};
@@ -22,16 +22,13 @@ use table::{TableRefusal, refusal_number};
 
 mod parse;
 
-// The four names, and as many words more as take them past the limit.
-fn names() -> [u32; 258]
-    ensures { 258 ≡ length result }
-{
-    let mut words = [1u32; 258];
-    words[0] = 3;
-    words[2] = 4;
-    words[4] = 5;
-    words[6] = 6;
-    words
+// The four names, and as many more as take them past the limit.
+fn names() -> [[u32; 2]; 129] {
+    let mut records = [[1; 2]; 129];
+    for (column, record) in (3..7).zip(&mut records) {
+        *record = [column, 1];
+    }
+    records
 }
 
 fn digit_of(byte: u8) -> usize
@@ -54,18 +51,8 @@ fn number_at(line: &[u8], at: usize) -> usize
 }
 
 // The first of a list, or all where there are fewer.
-fn words(list: &[u32], count: usize) -> &[u32] {
-    if count < list.len() {
-        return &list[0..count];
-    }
-    list
-}
-
-fn numbers_of(list: &[u64], count: usize) -> &[u64] {
-    if count < list.len() {
-        return &list[0..count];
-    }
-    list
+fn first<T>(list: &[T], count: usize) -> &[T] {
+    list.get(..count).unwrap_or(list)
 }
 
 // `.` none, `b` bound, `s` bound in this scope, `u` unbound, `l` local, `g` global,
@@ -90,10 +77,9 @@ fn underscore_of(byte: u8) -> u32 {
 
 fn scope_of(line: &[u8]) -> Scope {
     let mut marks = [0u8; 128];
-    marks[0] = mark_of(byte_at(line, 8));
-    marks[1] = mark_of(byte_at(line, 9));
-    marks[2] = mark_of(byte_at(line, 10));
-    marks[3] = mark_of(byte_at(line, 11));
+    for (mark, column) in marks.iter_mut().zip(8..12) {
+        *mark = mark_of(byte_at(line, column));
+    }
     let made = Scope::from_bytes(ByteScope {
         marks,
         underscore: underscore_of(byte_at(line, 11)),
@@ -109,76 +95,47 @@ fn scoping_of(line: &[u8]) -> ScopingMode {
     ScopingMode::RespectParent
 }
 
-// The listed value of a name: after the pattern and the value the stack has these.
-fn listed(parsed: Parsed, names: usize, i: usize) -> u32 {
-    let stack = parsed.stack;
-    if names <= i {
-        return NO_NODE;
-    }
-    if 62 <= i {
-        return 0;
-    }
-    if parsed.top <= i + 2 {
-        return 0;
-    }
-    stack[i + 2]
-}
-
-fn start_list(parsed: Parsed, names: usize) -> [u32; 16]
-    ensures { 16 ≡ length result }
-{
+// The listed value of each name that is lent: after the pattern and the value the stack has these.
+fn start_list(parsed: &Parsed, names: usize) -> [u32; 16] {
     let mut list = [NO_NODE; 16];
-    list[0] = listed(parsed, names, 0);
-    list[1] = listed(parsed, names, 1);
-    list[2] = listed(parsed, names, 2);
-    list[3] = listed(parsed, names, 3);
+    for (i, entry) in list.iter_mut().enumerate().take(names.min(4)) {
+        *entry = parsed.stack.get(i + 2).copied().unwrap_or(0);
+    }
     list
 }
 
-fn carried_out(line: &[u8], parsed: Parsed, list: &mut [u32], plan: &mut [u32]) -> RunAnswer {
-    let nodes = parsed.nodes;
-    let children = parsed.children;
-    let numbers = parsed.numbers;
+fn carried_out(line: &[u8], parsed: &Parsed, list: &mut [u32], plan: &mut [u32]) -> RunAnswer {
     let names = names();
-    let stack = parsed.stack;
     run(
-        words(&nodes, parsed.node_words),
-        words(&children, parsed.child_count),
-        numbers_of(&numbers, parsed.number_words),
-        words(&names, number_at(line, 13) * 2),
+        parsed.nodes.as_flattened(),
+        &parsed.children,
+        parsed.numbers.as_flattened(),
+        first(&names, number_at(line, 13)).as_flattened(),
         &STRINGS,
         line,
         scope_of(line),
         scoping_of(line),
-        stack[0],
-        stack[1],
+        parsed.pattern,
+        parsed.value,
         list,
         plan,
     )
 }
 
-fn reported(line: &[u8], parsed: Parsed, list: &mut [u32]) -> ReportAnswer {
-    let nodes = parsed.nodes;
-    let children = parsed.children;
-    let numbers = parsed.numbers;
+fn reported(line: &[u8], parsed: &Parsed, list: &mut [u32]) -> ReportAnswer {
     let names = names();
-    let stack = parsed.stack;
     names_report(
-        words(&nodes, parsed.node_words),
-        words(&children, parsed.child_count),
-        numbers_of(&numbers, parsed.number_words),
-        words(&names, number_at(line, 13) * 2),
+        parsed.nodes.as_flattened(),
+        &parsed.children,
+        parsed.numbers.as_flattened(),
+        first(&names, number_at(line, 13)).as_flattened(),
         &STRINGS,
         line,
         scope_of(line),
         scoping_of(line),
-        stack[0],
+        parsed.pattern,
         list,
     )
-}
-
-fn print_text(rt: &impl Print, text: &[u8]) -> io::Result<()> {
-    rt.write_all(text)
 }
 
 fn print_refusal(rt: &impl Print, number: u64) -> io::Result<()> {
@@ -196,8 +153,8 @@ fn number_of(answer: TableRefusal) -> u64 {
 
 fn print_run(rt: &impl Print, answer: RunAnswer) -> io::Result<()> {
     match answer {
-        RunAnswer::Match => print_text(rt, b"match"),
-        RunAnswer::NoMatch => print_text(rt, b"no match"),
+        RunAnswer::Match => print!(rt; "match"),
+        RunAnswer::NoMatch => print!(rt; "no match"),
         RunAnswer::TableRefused(of) => print_refusal(rt, number_of(of)),
         RunAnswer::RootOutside => print_refusal(rt, 5),
         RunAnswer::ListTooShort => print_refusal(rt, 20),
@@ -210,142 +167,70 @@ fn print_run(rt: &impl Print, answer: RunAnswer) -> io::Result<()> {
 
 fn print_report(rt: &impl Print, answer: ReportAnswer) -> io::Result<()> {
     match answer {
-        ReportAnswer::Reported => print_text(rt, b"reported"),
+        ReportAnswer::Reported => print!(rt; "reported"),
         ReportAnswer::TableRefused(of) => print_refusal(rt, number_of(of)),
         ReportAnswer::RootOutside => print_refusal(rt, 5),
         ReportAnswer::ListTooShort => print_refusal(rt, 20),
     }
 }
 
-fn print_word(rt: &impl Print, word: u32) -> io::Result<()> {
-    print!(rt; " {word}")
-}
-
-fn print_words(rt: &impl Print, words: &[u32], count: usize) -> io::Result<()>
-    requires { count ≤ length words.now }
-{
-    let mut i: usize = 0;
-    while i < count {
-        print_word(rt, words[i])?;
-        i += 1;
+fn print_words(rt: &impl Print, words: &[u32]) -> io::Result<()> {
+    for word in words {
+        print!(rt; " {word}")?;
     }
     Ok(())
 }
 
 // The words up to the last that is not 0.
-fn used(words: &[u32]) -> usize
-    ensures { result ≤ length words.now }
-{
-    let mut n = words.len();
-    while 0 < n {
-        if words[n - 1] != 0 {
-            return n;
-        }
-        n -= 1;
+fn used(words: &[u32]) -> &[u32] {
+    match words.iter().rposition(|word| *word != 0) {
+        Some(last) => &words[..=last],
+        None => &[],
     }
-    0
 }
 
-fn filled() -> [u32; 160]
-    ensures { 160 ≡ length result }
-{
-    [9; 160]
-}
-
-fn no_nodes() -> [u32; 16]
-    ensures { 16 ≡ length result }
-{
-    [NO_NODE; 16]
-}
-
-fn print_run_case(
-    rt: &impl Print,
-    line: &[u8],
-    parsed: Parsed,
-    list: &mut [u32],
-    plan: &mut [u32],
-) -> io::Result<()> {
-    print_run(rt, carried_out(line, parsed, list, plan))?;
-    print_text(rt, b"; list")?;
-    print_words(rt, list, list.len())?;
-    print_text(rt, b"; plan")?;
-    print_words(rt, plan, used(plan))?;
-    print_text(rt, b"\n")
-}
-
-fn print_report_case(
-    rt: &impl Print,
-    line: &[u8],
-    parsed: Parsed,
-    list: &mut [u32],
-) -> io::Result<()> {
-    print_report(rt, reported(line, parsed, list))?;
-    print_text(rt, b"; list")?;
-    print_words(rt, list, list.len())?;
-    print_text(rt, b"\n")
-}
-
-fn run_case(rt: &impl Print, line: &[u8], entries: usize, buffer_words: usize) -> io::Result<()> {
-    if 16 < entries {
+fn run_case(rt: &(impl Print + AllocGlobal), line: &[u8]) -> io::Result<()> {
+    let parsed = parse(rt.alloc(), line, 23)?;
+    let mut entries = start_list(&parsed, number_at(line, 13));
+    let mut words = [9u32; 160];
+    let Some(list) = entries.get_mut(..number_at(line, 16)) else {
         return Ok(());
-    }
-    if 160 < buffer_words {
+    };
+    let Some(plan) = words.get_mut(..number_at(line, 19)) else {
         return Ok(());
-    }
-    let parsed = parse(line, 23);
-    let mut list = start_list(parsed, number_at(line, 13));
-    let mut plan = filled();
-    print_run_case(
-        rt,
-        line,
-        parsed,
-        &mut list[0..entries],
-        &mut plan[0..buffer_words],
-    )
+    };
+    print_run(rt, carried_out(line, &parsed, list, plan))?;
+    print!(rt; "; list")?;
+    print_words(rt, list)?;
+    print!(rt; "; plan")?;
+    print_words(rt, used(plan))?;
+    println!(rt)
 }
 
-fn report_case(rt: &impl Print, line: &[u8], entries: usize) -> io::Result<()> {
-    if 16 < entries {
+fn report_case(rt: &(impl Print + AllocGlobal), line: &[u8]) -> io::Result<()> {
+    let parsed = parse(rt.alloc(), line, 23)?;
+    let mut entries = [NO_NODE; 16];
+    let Some(list) = entries.get_mut(..number_at(line, 16)) else {
         return Ok(());
-    }
-    let parsed = parse(line, 23);
-    let mut list = no_nodes();
-    print_report_case(rt, line, parsed, &mut list[0..entries])
+    };
+    print_report(rt, reported(line, &parsed, list))?;
+    print!(rt; "; list")?;
+    print_words(rt, list)?;
+    println!(rt)
 }
 
-fn print_case(rt: &impl Print, line: &[u8]) -> io::Result<()> {
-    print_text(rt, line)?;
-    print_text(rt, b"\n")?;
+fn print_case(rt: &(impl Print + AllocGlobal), line: &[u8]) -> io::Result<()> {
+    rt.write_all(line)?;
+    println!(rt)?;
     if byte_at(line, 0) == b'n' {
-        return report_case(rt, line, number_at(line, 16));
+        return report_case(rt, line);
     }
-    run_case(rt, line, number_at(line, 16), number_at(line, 19))
+    run_case(rt, line)
 }
 
-// Where the line that starts at a place ends.
-fn line_end(input: &[u8], start: usize) -> usize
-    requires { start ≤ length input.now }
-    ensures { (start ≤ result) × (result ≤ length input.now) }
-{
-    let mut i = start;
-    while i < input.len() {
-        if input[i] == b'\n' {
-            return i;
-        }
-        i += 1;
-    }
-    i
-}
-
-fn print_cases(rt: &impl Print, input: &[u8]) -> io::Result<()> {
-    let mut start: usize = 0;
-    while start < input.len() {
-        let end = line_end(input, start);
-        print_case(rt, &input[start..end])?;
-        if end == input.len() {
-            return Ok(());
-        }
-        start = end + 1;
+fn print_cases(rt: &(impl Print + AllocGlobal), input: &[u8]) -> io::Result<()> {
+    for line in input.split_inclusive(|byte| *byte == b'\n') {
+        print_case(rt, line.strip_suffix(b"\n").unwrap_or(line))?;
     }
     Ok(())
 }

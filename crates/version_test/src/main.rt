@@ -1,10 +1,8 @@
 // Plans for versions 0, 1 and 2 of Rego, and in both readings, and prints, for each case, the answer's four numbers and the first word of the plan buffer.
 #![tactic(auto)]
 
-ghost use Rattle.std.specs.Prelude.{◌≡◌, ◌<◌, length};
-
 use operation::numbers::{OperationNumbers, operation_of};
-use operation::row::row_of;
+use operation::row::{Row, row_of};
 use planner::PlanAnswer;
 use scope::Scope;
 use std::io;
@@ -141,24 +139,6 @@ const CASES: [[u32; 7]; 57] = [
     [6, 4, 2, 0, 0, 0, 2],
 ];
 
-fn node_word(i: usize) -> u32
-    requires { i < 270 }
-{
-    NODES[i / 5][i % 5]
-}
-
-fn nodes() -> [u32; 270]
-    ensures { 270 ≡ length result }
-{
-    let mut words = [0u32; 270];
-    let mut i: usize = 0;
-    while i < 270 {
-        words[i] = node_word(i);
-        i += 1;
-    }
-    words
-}
-
 // At most one name is bound.
 fn scope(bound: u32) -> Scope {
     let changed = Scope::new(0, false).bind_variable(bound);
@@ -166,53 +146,40 @@ fn scope(bound: u32) -> Scope {
 }
 
 fn planned(case: [u32; 7], plan: &mut [u32]) -> PlanAnswer {
-    let nodes = nodes();
+    let nodes = NODES.as_flattened();
+    let [number, scoping, first, second, key, version, bound] = case;
     let numbers = OperationNumbers {
-        number: case[0],
+        number,
         scheduler: 0,
-        scoping: case[1],
-        first: case[2],
-        second: case[3],
-        key: case[4],
+        scoping,
+        first,
+        second,
+        key,
     };
     operation::plan(
-        &nodes,
+        nodes,
         &CHILDREN,
         &NUMBERS,
         &NAMES,
         &STRINGS,
         &TEXT,
-        scope(case[6]),
+        scope(bound),
         operation_of(numbers),
-        case[5],
+        version,
         plan,
     )
 }
 
-fn print_number(rt: &impl Print, n: u64) -> io::Result<()> {
-    print!(rt; " {n}")
-}
-
-fn print_word(rt: &impl Print, word: u32) -> io::Result<()> {
-    print_number(rt, word as u64)
-}
-
-fn run(rt: &impl Print, case: [u32; 7]) -> io::Result<()> {
-    let mut plan = [9u32; 20];
-    let row = row_of(planned(case, &mut plan));
-    print_number(rt, row.number)?;
-    print_number(rt, row.second)?;
-    print_number(rt, row.third)?;
-    print_number(rt, row.fourth)?;
-    print_word(rt, plan[0])?;
-    println!(rt)
-}
-
 fn main(rt: HostRuntime) -> io::Result<()> {
-    let mut i: usize = 0;
-    while i < 57 {
-        run(&rt, CASES[i])?;
-        i += 1;
+    for case in CASES {
+        let mut plan = [9u32; 20];
+        let Row {
+            number,
+            second,
+            third,
+            fourth,
+        } = row_of(planned(case, &mut plan));
+        println!(rt; " {number} {second} {third} {fourth} {}", plan[0])?;
     }
     Ok(())
 }

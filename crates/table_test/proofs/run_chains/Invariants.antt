@@ -1,0 +1,5 @@
+use Prim.Native.Nat.{◌≤◌}
+use Rattle.table_test.proofs.run_chains.Given as goal
+
+abbrev pub invariant-loop-i : goal.invariant-loop-i
+invariant-loop-i g l = l.agree ≤ l.i
