@@ -5,7 +5,6 @@
 
 ghost use Rattle.std.specs.Prelude.{◌≡◌, ◌≤◌, length, take};
 
-use columns::Column;
 use columns::read::read_column;
 use input::read_full;
 use sheet::plan_sheet;
@@ -14,10 +13,7 @@ use std::io::Read;
 use table::reading::same_bytes;
 
 fn length_at(header: &[u8], at: usize) -> usize {
-    match read_column(header, at) {
-        Column::Number(n) => n as usize,
-        Column::Unreadable => 0,
-    }
+    read_column(header, at).unwrap_or(0) as usize
 }
 
 // A number of the buffer's bytes, at most all of them.
