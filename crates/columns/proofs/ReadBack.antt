@@ -12,9 +12,8 @@ use Rattle.literal.specs.Literal.{is_number}
 use Rattle.literal.specs.Text.{digit, digits, decimal, signed}
 use Rattle.literal.proofs.Decimals.{digits_one, digits_more, few_or_more, length_more, digits_length, decimal_form}
 use Rattle.literal.proofs.Numbers.{number_bounds, and_true}
-use Rattle.columns.specs.declared.Column.{Column}
-use Rattle.columns.specs.declared.SignedColumn.{SignedColumn}
-use Rattle.columns.specs.Columns.{after_blanks, is_digit, all_digits, is_decimal, decimal_number, read_column, signed_number, read_signed, justified, write_column, write_signed}
+use Rattle.std.specs.Prelude.{Some}
+use Rattle.columns.specs.Columns.{after_blanks, is_digit, all_digits, is_decimal, decimal_number, read_column, by_sign, signed_number, read_signed, justified, write_column, write_signed}
 use Rattle.columns.specs.Laws.{below_word, twenty_end, ReadBack}
 use Rattle.columns.proofs.write.Writing.{justified_long}
 
@@ -89,17 +88,17 @@ module _ (n : ℕ) (small : n < 10 ^ 6) where
   column_digits : after_blanks (write_column n) ≡ decimal n
   column_digits = unjustified 6 (decimal n) (decimal_long 5 n small) (omega (arith, first_digit n))
 
-  column_back : read_column (write_column n) ≡ Column.Number n
+  column_back : read_column (write_column n) ≡ Some n
   unfolding read_column
   column_back =
       ap decimal_number column_digits ∙ rw (decimal_is n (omega arith), (decimal_form n (omega arith)).read_back)
 
 module _ (size : ℕ) (few : size < 2 ^ 64) where
-  size_back : (below : ℕ) → signed_number below (decimal size) ≡ SignedColumn.Number below size
+  size_back : (below : ℕ) → signed_number below (decimal size) ≡ Some (by_sign below size)
   unfolding signed_number
   size_back below = rw (decimal_is size (omega arith), (decimal_form size (omega arith)).read_back, lt-ltb size (2 ^ 64) few)
 
-  above_back : read_signed (write_signed false size) ≡ SignedColumn.Number 0 size
+  above_back : read_signed (write_signed false size) ≡ Some (by_sign 0 size)
   unfolding read_signed
   above_back =
       let low = first_digit size in
@@ -107,20 +106,20 @@ module _ (size : ℕ) (few : size < 2 ^ 64) where
       unjustified 20 (decimal size) (decimal_long 19 size (omega arith)) (omega arith) in
       rw (e, ne_eqb (get_or (decimal size) 0 0) 45 (λ f. omega arith)) (size_back 0)
 
-  below_back : size < 10 ^ 19 → read_signed (write_signed true size) ≡ SignedColumn.Number 1 size
+  below_back : size < 10 ^ 19 → read_signed (write_signed true size) ≡ Some (by_sign 1 size)
   unfolding read_signed
   below_back short =
       let e : after_blanks (write_signed true size) ≡ 45 ∷ decimal size =
       unjustified 20 (45 ∷ decimal size) (omega (arith, decimal_long 18 size short)) (omega arith) in
       rw e (size_back 1)
 
-signed_back : (below : Bool) (size : ℕ) → size < twenty_end below → read_signed (write_signed below size) ≡ SignedColumn.Number (below_word below) size
+signed_back : (below : Bool) (size : ℕ) → size < twenty_end below → read_signed (write_signed below size) ≡ Some (by_sign (below_word below) size)
 signed_back true size short = below_back size (omega arith) short
 signed_back false size short = above_back size short
 
 -- every allowed number is among them
 pub number_back : (below : Bool) (size : ℕ) → is_number (below_word below) size ≡ true
-    → read_signed (write_signed below size) ≡ SignedColumn.Number (below_word below) size
+    → read_signed (write_signed below size) ≡ Some (by_sign (below_word below) size)
 number_back true size is = let low = (number_bounds 1 size is).lowest refl in signed_back true size (omega arith)
 number_back false size is = signed_back false size (number_bounds 0 size is).largest
 

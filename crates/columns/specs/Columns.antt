@@ -1,9 +1,8 @@
 -- A decimal column: blanks, then the decimal form of a number without leading zeros, right-justified.
-use Rattle.std.specs.Prelude.{ℕ, ◌+◌, ◌-◌, ◌^◌, Bool, true, cond, not, ◌&&◌, List, [], ◌∷◌, ◌++◌, eqb, leb, ltb, length, get_or, take, drop, replicate}
+use Rattle.std.specs.Prelude.{ℕ, ◌+◌, ◌-◌, ◌^◌, Bool, true, cond, not, ◌&&◌, List, [], ◌∷◌, ◌++◌, Option, Some, None, eqb, leb, ltb, length, get_or, take, drop, replicate}
 use Rattle.base.specs.Lists.{part}
 use Rattle.literal.specs.Text.{decimal, value, signed}
-use Rattle.columns.specs.declared.Column.{Column}
-use Rattle.columns.specs.declared.SignedColumn.{SignedColumn}
+use Rattle.columns.specs.declared.SignedNumber.{SignedNumber}
 
 -- the bytes after the blanks in front
 unfoldable pub after_blanks : List ℕ → List ℕ
@@ -21,38 +20,42 @@ all_digits (b ∷ bs) = is_digit b && all_digits bs
 unfoldable pub is_decimal : List ℕ → Bool
 is_decimal bs = ltb 0 (length bs) && (not (ltb 1 (length bs) && eqb (get_or bs 0 0) 48) && all_digits bs)
 
-abbrev pub decimal_number : List ℕ → Column
-decimal_number ds = cond (is_decimal ds) (Column.Number (value 0 ds)) Column.Unreadable
+abbrev pub decimal_number : List ℕ → Option ℕ
+decimal_number ds = cond (is_decimal ds) (Some (value 0 ds)) None
 
 -- the number that a column's bytes say
-unfoldable pub read_column : List ℕ → Column
+unfoldable pub read_column : List ℕ → Option ℕ
 read_column bytes = decimal_number (after_blanks bytes)
 
 -- the same of six bytes alone
-abbrev pub six_column : List ℕ → Column
-six_column bytes = cond (eqb (length bytes) 6) (read_column bytes) Column.Unreadable
+abbrev pub six_column : List ℕ → Option ℕ
+six_column bytes = cond (eqb (length bytes) 6) (read_column bytes) None
 
 -- the bytes of a column, if it is all there; no bytes are no number
 unfoldable pub column_bytes : List ℕ → ℕ → ℕ → List ℕ
 column_bytes bytes at width = cond (leb (at + width) (length bytes)) (part bytes at width) []
 
 -- the column of six at a place
-abbrev pub column_at : List ℕ → ℕ → Column
+abbrev pub column_at : List ℕ → ℕ → Option ℕ
 column_at bytes at = read_column (column_bytes bytes at 6)
 
--- 1 for below zero or 0, and a size of 64 bits; whether the two say an allowed number is the table check's question
-unfoldable pub signed_number : ℕ → List ℕ → SignedColumn
-signed_number below ds = cond (is_decimal ds && ltb (value 0 ds) (2 ^ 64)) (SignedColumn.Number below (value 0 ds)) SignedColumn.Unreadable
+-- a number by its sign, 1 for below zero or 0, and its size
+abbrev pub by_sign : ℕ → ℕ → SignedNumber
+by_sign below size = record { below = below; size = size }
+
+-- its size has 64 bits; whether the two say an allowed number is the table check's question
+unfoldable pub signed_number : ℕ → List ℕ → Option SignedNumber
+signed_number below ds = cond (is_decimal ds && ltb (value 0 ds) (2 ^ 64)) (Some (by_sign below (value 0 ds))) None
 
 -- a minus sign stands directly before the digits
-abbrev pub after_sign : Bool → List ℕ → SignedColumn
+abbrev pub after_sign : Bool → List ℕ → Option SignedNumber
 after_sign minus bs = cond minus (signed_number 1 (drop 1 bs)) (signed_number 0 bs)
 
-unfoldable pub read_signed : List ℕ → SignedColumn
+unfoldable pub read_signed : List ℕ → Option SignedNumber
 read_signed bytes = after_sign (eqb (get_or (after_blanks bytes) 0 0) 45) (after_blanks bytes)
 
 -- the column of twenty at a place
-abbrev pub signed_column_at : List ℕ → ℕ → SignedColumn
+abbrev pub signed_column_at : List ℕ → ℕ → Option SignedNumber
 signed_column_at bytes at = read_signed (column_bytes bytes at 20)
 
 -- A text right-justified with blanks in `width` bytes; of a longer one the last bytes. (No answer of the planner has a number of more than six digits.)

@@ -5,15 +5,9 @@ mod decimal;
 pub mod read;
 pub mod write;
 
+// A number by sign and size. Below is 1 for a number below zero, else 0.
 #[derive(Clone, Copy)]
-pub enum Column {
-    Number(u32),
-    Unreadable,
-}
-
-// Below is 1 for a number below zero, else 0.
-#[derive(Clone, Copy)]
-pub enum SignedColumn {
-    Number { below: u64, size: u64 },
-    Unreadable,
+pub struct SignedNumber {
+    pub below: u64,
+    pub size: u64,
 }

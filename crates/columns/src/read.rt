@@ -1,10 +1,10 @@
 // The reading of columns.
 ghost use Rattle.std.specs.Prelude.{◌≡◌, [], ◌∷◌, ◌≤◌, length};
 ghost use Rattle.columns.specs.Columns.{after_blanks, read_column, six_column, column_bytes, column_at, signed_column_at, signed_number};
-ghost use Rattle.columns.specs.code.Decimals.{are_blank, column_word};
+ghost use Rattle.columns.specs.code.Decimals.{are_blank};
 
-use crate::decimal::{Decimal, after_blanks, read_decimal};
-use crate::{Column, SignedColumn};
+use crate::SignedNumber;
+use crate::decimal::{after_blanks, read_decimal};
 
 // Empty for a column that is not all there.
 fn column_bytes(bytes: &[u8], at: usize, width: usize) -> &[u8]
@@ -25,66 +25,53 @@ fn are_blank(a: u8, b: u8, c: u8, d: u8) -> bool
     a as u32 + b as u32 * 256 + c as u32 * 65536 + d as u32 * 16777216 == 0x20202020
 }
 
-// A number of one or two digits, or 1,000,000 for none.
-fn read_two(tens: u8, units: u8) -> u32
-    ensures { result ≡ column_word (read_column (tens ∷ units ∷ [])) }
+// A number of one or two digits.
+fn read_two(tens: u8, units: u8) -> Option<u32>
+    ensures { result ≡ read_column (tens ∷ units ∷ []) }
 {
     let high = tens as u32;
     let low = units as u32;
     if low < 48 {
-        return 1000000;
+        return None;
     }
     if 57 < low {
-        return 1000000;
+        return None;
     }
     if high == 32 {
-        return low - 48;
+        return Some(low - 48);
     }
     if high < 49 {
-        return 1000000;
+        return None;
     }
     if 57 < high {
-        return 1000000;
+        return None;
     }
-    (high - 48) * 10 + (low - 48)
+    Some((high - 48) * 10 + (low - 48))
 }
 
-fn read_six(bytes: &[u8]) -> u32
+fn read_six(bytes: &[u8]) -> Option<u32>
     requires { length bytes.now ≤ 6 }
-    ensures { result ≡ column_word (read_column bytes.now) }
+    ensures { result ≡ read_column bytes.now }
 {
-    match read_decimal(after_blanks(bytes)) {
-        Decimal::Number(n) => n as u32,
-        Decimal::NoNumber => 1000000,
-    }
+    let n = read_decimal(after_blanks(bytes))?;
+    Some(n as u32)
 }
 
-fn column_word(bytes: &[u8]) -> u32
-    requires { length bytes.now ≡ 6 }
-    ensures { result ≡ column_word (read_column bytes.now) }
+// The number that six bytes say; of more or fewer, none.
+pub fn column_of(bytes: &[u8]) -> Option<u32>
+    ensures { result ≡ six_column bytes.now }
 {
+    if bytes.len() != 6 {
+        return None;
+    }
     if are_blank(bytes[0], bytes[1], bytes[2], bytes[3]) {
         return read_two(bytes[4], bytes[5]);
     }
     read_six(bytes)
 }
 
-// The number that six bytes say; of more or fewer, none.
-pub fn column_of(bytes: &[u8]) -> Column
-    ensures { result ≡ six_column bytes.now }
-{
-    if bytes.len() != 6 {
-        return Column::Unreadable;
-    }
-    let word = column_word(bytes);
-    if word < 1000000 {
-        return Column::Number(word);
-    }
-    Column::Unreadable
-}
-
 // The column of six bytes at a place.
-pub fn read_column(bytes: &[u8], at: usize) -> Column
+pub fn read_column(bytes: &[u8], at: usize) -> Option<u32>
     ensures { result ≡ column_at bytes.now at }
 {
     column_of(column_bytes(bytes, at, 6))
@@ -94,32 +81,30 @@ pub fn read_column(bytes: &[u8], at: usize) -> Column
 fn after_fours(bytes: &[u8]) -> &[u8]
     ensures { after_blanks result.now ≡ after_blanks bytes.now }
 {
-    let mut i: usize = 0;
-    while 4 <= bytes.len() - i {
-        if !are_blank(bytes[i], bytes[i + 1], bytes[i + 2], bytes[i + 3]) {
-            return &bytes[i..];
+    let fours = bytes.len() / 4;
+    for i in 0..fours {
+        let at = i * 4;
+        if !are_blank(bytes[at], bytes[at + 1], bytes[at + 2], bytes[at + 3]) {
+            return &bytes[at..];
         }
-        i += 4;
     }
-    &bytes[i..]
+    &bytes[fours * 4..]
 }
 
-fn signed_number(below: u64, digits: &[u8]) -> SignedColumn
+fn signed_number(below: u64, digits: &[u8]) -> Option<SignedNumber>
     ensures { result ≡ signed_number below digits.now }
 {
-    match read_decimal(digits) {
-        Decimal::Number(size) => SignedColumn::Number { below, size },
-        Decimal::NoNumber => SignedColumn::Unreadable,
-    }
+    let size = read_decimal(digits)?;
+    Some(SignedNumber { below, size })
 }
 
 // The column of twenty bytes at a place: a sign and a size of 64 bits, minus zero too.
-pub fn read_signed_column(bytes: &[u8], at: usize) -> SignedColumn
+pub fn read_signed_column(bytes: &[u8], at: usize) -> Option<SignedNumber>
     ensures { result ≡ signed_column_at bytes.now at }
 {
     let number = after_blanks(after_fours(column_bytes(bytes, at, 20)));
     if number.len() == 0 {
-        return SignedColumn::Unreadable;
+        return None;
     }
     if number[0] == 45 {
         return signed_number(1, &number[1..]);

@@ -18,12 +18,10 @@ fn write_rest(out: &mut [u8], at: usize, above: u64)
     requires { at + 5 ≤ length out.old }
     ensures { out.new ≡ write_rest out.old at 5 above }
 {
-    let mut left: usize = 5;
     let mut rest = above;
-    while 0 < left {
-        left -= 1;
+    for left in (0..5).rev() {
         out[at + left] = column_byte(rest);
-        rest = rest / 10;
+        rest /= 10;
     }
 }
 
@@ -32,11 +30,7 @@ fn write_blanks(out: &mut [u8], at: usize)
     requires { at + 5 ≤ length out.old }
     ensures { out.new ≡ write_rest out.old at 5 0 }
 {
-    let mut left: usize = 5;
-    while 0 < left {
-        left -= 1;
-        out[at + left] = 32;
-    }
+    out[at..at + 5].fill(b' ');
 }
 
 // The number as a column of six at a place, if there is space for it.

@@ -21,7 +21,8 @@ use Rattle.sheet.specs.Source.{source_text, source_in, span_in, SourceSpan}
 use Rattle.sheet.proofs.laws.SourceText.{source_laws}
 use Rattle.page.specs.Page.{page_line_length, page_lines, key_source, line_cells, entry_cells, blank_cells, Cells, cells_bytes, entry_lines, page_count, pages_lines, page_bytes}
 use Rattle.page.specs.Answer.{paged, pages_answer, pages_after, LaidOut}
-use Rattle.page.specs.declared.PageAnswer.TheVariants.{Pages, BufferTooShort}
+use Rattle.std.specs.Prelude.{Ok, Err}
+use Rattle.page.specs.declared.PageRefusal.TheVariants.{BufferTooShort}
 use Rattle.page.specs.code.Lines.{lines_from, entry_line, EntryAsks, EntriesAsks}
 use Rattle.page.proofs.PageLines.{after, line_long, Lining, lining_start, lining_on, lining_ends, blanks_long}
 
@@ -150,7 +151,7 @@ module _ (source : ℕ → List ℕ) (plan : List ℕ) (count : ℕ) where
   bytes_long = pages_long source es ∙ rw read
 
   module _ (out : List ℕ) {clear : List ℕ} (cleared : clear ≡ take (size * page_line_length) out ++ replicate (length out - size * page_line_length) 0) where
-    pub pages_past : length clear / page_line_length < size → length clear ≡ length out → LaidOut (paged lines) out clear BufferTooShort
+    pub pages_past : length clear / page_line_length < size → length clear ≡ length out → LaidOut (paged lines) out clear (Err BufferTooShort)
     unfolding pages_answer pages_after
     pages_past small kept =
         let over = lt-leb (length (page_bytes lines)) (length out) (omega (arith, bytes_long)) in
@@ -160,7 +161,7 @@ module _ (source : ℕ → List ℕ) (plan : List ℕ) (count : ℕ) where
         record { answer = rw over; buffer = rw over same }
 
     pub pages_laid : {one two : List ℕ} → size ≤ length clear / page_line_length → length clear ≡ length out → one ≡ stored clear 0 (page_bytes (entry_lines source 1 es))
-        → two ≡ stored one (count * page_line_length) (page_bytes (replicate (size - count) blank_cells)) → LaidOut (paged lines) out two (Pages (page_count count))
+        → two ≡ stored one (count * page_line_length) (page_bytes (replicate (size - count) blank_cells)) → LaidOut (paged lines) out two (Ok (page_count count))
     unfolding pages_answer pages_after
     pages_laid {one} {two} room kept first second =
         let long = bytes_long in

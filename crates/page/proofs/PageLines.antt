@@ -1,11 +1,9 @@
 -- A line, cell by cell, and lines one after the other.
 use Prim.Native.Nat.{ℕ, zero, suc, ◌+◌, ◌-◌, ◌*◌, ◌<◌, ◌≤◌}
-use mathlib.Core.List.{List, [], ◌∷◌, ◌++◌, append_assoc, append-nil}
+use mathlib.Core.List.{List, [], ◌∷◌, ◌++◌, append_assoc}
 use mathlib.Core.Path.{◌≡◌, refl, sym, ap, ◌∙◌}
 use native.Mathlib.Omega.{arith}
-use native.Mathlib.Numerals.{add-one}
-use lib.ListN.{length, take, set, replicate, length-append, length-set}
-use lib.Seq.{take_all, take-suc-set}
+use lib.ListN.{length, set, replicate, length-append, length-set}
 use Rattle.columns.specs.Columns.{write_column, stored, column_stored}
 use Rattle.columns.proofs.ReadBack.{read_back}
 use Rattle.columns.proofs.write.Storing.{stored_long, stored_none, stored_on, stored_one}
@@ -144,29 +142,3 @@ module _ {out₀ : List ℕ} {at count i : ℕ} {out : List ℕ} (w : Lining bla
 
   pub blanks_end : count ≤ i → out ≡ stored out₀ at (page_bytes (replicate count blank_cells))
   blanks_end le = lining_ends w le ∙ ap (stored out₀ at) (blanks_are 0 count)
-
--- zeros from a place on
-pub record Clearing (out₀ : List ℕ) (at i : ℕ) (out : List ℕ) : Type 0 where
-  pub kept : length out ≡ length out₀
-  pub same : take i out ++ replicate (length out₀ - i) 0 ≡ take at out₀ ++ replicate (length out₀ - at) 0
-
-pub clearing_start : (out : List ℕ) (at : ℕ) → Clearing out at at out
-clearing_start out at = record { kept = refl; same = refl }
-
-module _ {out₀ : List ℕ} {at i : ℕ} {out : List ℕ} (w : Clearing out₀ at i out) where
-  pub clearing_on : i < length out → Clearing out₀ at (i + 1) (set out i 0)
-  clearing_on lt =
-      let left : length out₀ - i ≡ suc (length out₀ - (i + 1)) = omega (arith, w.kept) in
-      let rest = replicate {A = ℕ} (length out₀ - (i + 1)) 0 in
-      let taken : take (i + 1) (set out i 0) ≡ take i out ++ (0 ∷ []) = rw (add-one i) (take-suc-set out i 0 lt) in
-      let grown : take i out ++ (0 ∷ rest) ≡ take at out₀ ++ replicate (length out₀ - at) 0 = rw left at w.same in
-      record {
-        kept = length-set out i 0 ∙ w.kept;
-        same = rw taken (append_assoc (take i out) (0 ∷ []) rest ∙ grown);
-      }
-
-  pub clearing_ends : length out ≤ i → out ≡ take at out₀ ++ replicate (length out₀ - at) 0
-  clearing_ends le =
-      let none : length out₀ - i ≡ 0 = omega (arith, w.kept) in
-      let whole : take i out ++ [] ≡ out = append-nil (take i out) ∙ take_all i out le in
-      sym whole ∙ rw none at w.same

@@ -20,8 +20,9 @@ use Rattle.sheet.specs.Sheet.{Parsed, unparsed, parsed, parse}
 use Rattle.sheet.specs.Outcome.{outcome_of_sheet, PlannedInto}
 use Rattle.sheet.specs.Source.{source_in}
 use Rattle.sheet.proofs.laws.SourceText.{source_laws}
-use Rattle.page.specs.declared.PageAnswer.{PageAnswer}
-use Rattle.page.specs.declared.PageAnswer.TheVariants.{Refused}
+use Rattle.page.specs.declared.PageRefusal.{PageRefusal}
+use Rattle.std.specs.Prelude.{Result, Err}
+use Rattle.page.specs.declared.PageRefusal.TheVariants.{SheetRefused}
 use Rattle.page.specs.Page.{Cells, entry_cells, entry_lines, page_count, page_lines, blank_cells, pages_lines}
 use Rattle.page.specs.Answer.{Paged, refused, paged, pages_of, source_of_sheet, pages_of_sheet, refusal_row, pages_answer, pages_after, LaidOut}
 use Rattle.page.specs.code.Lines.{PlanAsks}
@@ -36,17 +37,17 @@ line_row l = record { number = l.number; second = l.second; third = l.third; fou
 row_is : (row : Row) (r : Refusal) → row_line row ≡ refusal_line r → row ≡ refusal_row r
 row_is row r e = ap line_row e
 
-refusal_laid : (r : Refusal) {row : Row} (out : List ℕ) → row_line row ≡ refusal_line r → LaidOut (refused r) out out (Refused row)
+refusal_laid : (r : Refusal) {row : Row} (out : List ℕ) → row_line row ≡ refusal_line r → LaidOut (refused r) out out (Err (SheetRefused row))
 unfolding pages_answer pages_after
-refusal_laid r {row} out e = record { answer = ap (λ (x : Row). Refused x) (row_is row r e); buffer = refl }
+refusal_laid r {row} out e = record { answer = ap (λ (x : Row). Err (SheetRefused x)) (row_is row r e); buffer = refl }
 
 -- a refusal of the planning call is that of the pages
-turned : (source : ℕ → List ℕ) (o : Outcome) (before : List ℕ) {row : Row} (out : List ℕ) → row_line row ≡ answered o before → length before ≡ plan_words → (row.number ≡ 0 → ⊥) → LaidOut (pages_of source o) out out (Refused row)
+turned : (source : ℕ → List ℕ) (o : Outcome) (before : List ℕ) {row : Row} (out : List ℕ) → row_line row ≡ answered o before → length before ≡ plan_words → (row.number ≡ 0 → ⊥) → LaidOut (pages_of source o) out out (Err (SheetRefused row))
 unfolding answered
 turned source (Plan.refused a) before out e roomy some = refusal_laid a out e
 turned source (Plan.planned form side es) before {row} out e roomy some = go (leb (length es) 1536) refl
   where
-    go : (b : Bool) → leb (length es) 1536 ≡ b → LaidOut (cond b (paged (pages_lines source es)) (refused (plan_too_large (length es)))) out out (Refused row)
+    go : (b : Bool) → leb (length es) 1536 ≡ b → LaidOut (cond b (paged (pages_lines source es)) (refused (plan_too_large (length es)))) out out (Err (SheetRefused row))
     go true p =
         let told : row_line row ≡ line 0 form side (length es) = rw (roomy, p) at e in
         absurd (some (ap (λ (l : Line). l.number) told))
@@ -105,7 +106,7 @@ lines_same f g same number (e ∷ es) =
     ∙ ap (λ (cs : List Cells). entry_cells g number e ∷ cs) (lines_same f g same (number + 1) es)
 
 module _ (sheet : List ℕ) {before after : List ℕ} {row : Row} (done : PlannedInto (outcome_of_sheet (parse sheet)) before after row) (roomy : length before ≡ plan_words) where
-  pub sheet_turned : (out : List ℕ) → (row.number ≡ 0 → ⊥) → LaidOut (pages_of_sheet (parse sheet)) out out (Refused row)
+  pub sheet_turned : (out : List ℕ) → (row.number ≡ 0 → ⊥) → LaidOut (pages_of_sheet (parse sheet)) out out (Err (SheetRefused row))
   sheet_turned out some = turned (source_of_sheet (parse sheet)) (outcome_of_sheet (parse sheet)) before out done.answer roomy some
 
   module _ (none : row.number ≡ 0) where
@@ -122,7 +123,7 @@ module _ (sheet : List ℕ) {before after : List ℕ} {row : Row} (done : Planne
     source_is (unparsed r) e h n = let no = h.is in cc
     source_is (parsed S) e h n = source_laws.read sheet e n
 
-    pub sheet_laid : (out : List ℕ) {later : List ℕ} {r : PageAnswer} → LaidOut (paged (pages_lines (source_in sheet) (read_entries after 0 row.fourth))) out later r → LaidOut (pages_of_sheet (parse sheet)) out later r
+    pub sheet_laid : (out : List ℕ) {later : List ℕ} {r : Result ℕ PageRefusal} → LaidOut (paged (pages_lines (source_in sheet) (read_entries after 0 row.fourth))) out later r → LaidOut (pages_of_sheet (parse sheet)) out later r
     sheet_laid out {later} {r} laid =
         let h = held in
         let p = parse sheet in

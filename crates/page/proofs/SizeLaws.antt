@@ -18,8 +18,9 @@ use Rattle.planner.specs.Operations.{Outcome}
 use Rattle.sheet.specs.Sheet.{parse}
 use Rattle.sheet.specs.Outcome.{outcome_of_sheet}
 use Rattle.sheet.proofs.laws.CutShort.{parsed_alike}
-use Rattle.page.specs.declared.PageAnswer.{PageAnswer}
-use Rattle.page.specs.declared.PageAnswer.TheVariants.{Pages, Refused, BufferTooShort}
+use Rattle.page.specs.declared.PageRefusal.{PageRefusal}
+use Rattle.std.specs.Prelude.{Result, Ok, Err}
+use Rattle.page.specs.declared.PageRefusal.TheVariants.{SheetRefused, BufferTooShort}
 use Rattle.page.specs.Page.{page_line_length, page_lines, key_source, Cells, pages_lines, page_bytes}
 use Rattle.page.specs.Answer.{Paged, refused, paged, pages_of, source_of_sheet, pages_of_sheet, pages_answer, pages_fit, LaidOut}
 use Rattle.page.specs.Laws.{PageLineLaws, PagesSize, PagesCutShort}
@@ -78,47 +79,47 @@ record Counted (lines : List Cells) (buffer : List ℕ) (n : ℕ) : Type 0 where
   inside : length (page_bytes lines) ≤ length buffer
   count : length lines / page_lines ≡ n
 
-abbrev is_pages : PageAnswer → Bool
-is_pages (Pages n) = true
-is_pages (Refused row) = false
-is_pages BufferTooShort = false
+abbrev is_pages : Result ℕ PageRefusal → Bool
+is_pages (Ok n) = true
+is_pages (Err (SheetRefused row)) = false
+is_pages (Err BufferTooShort) = false
 
-abbrev is_short : PageAnswer → Bool
-is_short (Pages n) = false
-is_short (Refused row) = false
-is_short BufferTooShort = true
+abbrev is_short : Result ℕ PageRefusal → Bool
+is_short (Ok n) = false
+is_short (Err (SheetRefused row)) = false
+is_short (Err BufferTooShort) = true
 
-abbrev count_in : PageAnswer → ℕ
-count_in (Pages n) = n
-count_in (Refused row) = 0
-count_in BufferTooShort = 0
+abbrev count_in : Result ℕ PageRefusal → ℕ
+count_in (Ok n) = n
+count_in (Err (SheetRefused row)) = 0
+count_in (Err BufferTooShort) = 0
 
-fits_count : (lines : List Cells) (buffer : List ℕ) {n : ℕ} → pages_answer (paged lines) buffer ≡ Pages n → Counted lines buffer n
+fits_count : (lines : List Cells) (buffer : List ℕ) {n : ℕ} → pages_answer (paged lines) buffer ≡ Ok n → Counted lines buffer n
 unfolding pages_answer
 fits_count lines buffer {n} e = go (pages_fit lines buffer) refl
   where
     go : (b : Bool) → pages_fit lines buffer ≡ b → Counted lines buffer n
     go true p =
-        let same : Pages (length lines / page_lines) ≡ Pages n = rw p at e in
+        let same : Ok (length lines / page_lines) ≡ Ok n = rw p at e in
         record { inside = leb-true (length (page_bytes lines)) (length buffer) p; count = ap count_in same }
-    go false p = let other : BufferTooShort ≡ Pages n = rw p at e in absurd (false≢true (ap is_pages other))
+    go false p = let other : (Err BufferTooShort) ≡ Ok n = rw p at e in absurd (false≢true (ap is_pages other))
 
-no_page : (r : Refusal) (buffer : List ℕ) {n : ℕ} → pages_answer (refused r) buffer ≡ Pages n → ⊥
+no_page : (r : Refusal) (buffer : List ℕ) {n : ℕ} → pages_answer (refused r) buffer ≡ Ok n → ⊥
 unfolding pages_answer
 no_page r buffer e = false≢true (ap is_pages e)
 
-not_short : (lines : List Cells) (buffer : List ℕ) → length (page_bytes lines) ≤ length buffer → pages_answer (paged lines) buffer ≡ BufferTooShort → ⊥
+not_short : (lines : List Cells) (buffer : List ℕ) → length (page_bytes lines) ≤ length buffer → pages_answer (paged lines) buffer ≡ Err BufferTooShort → ⊥
 unfolding pages_answer
 not_short lines buffer inside e =
     let p = le-leb (length (page_bytes lines)) (length buffer) inside in
-    let other : Pages (length lines / page_lines) ≡ BufferTooShort = rw p at e in
+    let other : Ok (length lines / page_lines) ≡ Err BufferTooShort = rw p at e in
     false≢true (ap is_short other)
 
-never_short : (r : Refusal) (buffer : List ℕ) → pages_answer (refused r) buffer ≡ BufferTooShort → ⊥
+never_short : (r : Refusal) (buffer : List ℕ) → pages_answer (refused r) buffer ≡ Err BufferTooShort → ⊥
 unfolding pages_answer
 never_short r buffer e = false≢true (ap is_short e)
 
-suffices : (source : ℕ → List ℕ) (o : Outcome) (buffer : List ℕ) → 113880 ≤ length buffer → pages_answer (pages_of source o) buffer ≡ BufferTooShort → ⊥
+suffices : (source : ℕ → List ℕ) (o : Outcome) (buffer : List ℕ) → 113880 ≤ length buffer → pages_answer (pages_of source o) buffer ≡ Err BufferTooShort → ⊥
 suffices source o buffer large e = go (pages_of source o) refl
   where
     go : (p : Paged) → pages_of source o ≡ p → ⊥
@@ -140,18 +141,18 @@ record Printed (n : ℕ) (before : List ℕ) : Type 0 where
   inside : n * (page_lines * page_line_length) ≤ length before
   few : n * (page_lines * page_line_length) ≤ 113880
 
-pages_printed : (source : ℕ → List ℕ) (o : Outcome) {before after : List ℕ} {n : ℕ} → LaidOut (pages_of source o) before after (Pages n) → Printed n before
+pages_printed : (source : ℕ → List ℕ) (o : Outcome) {before after : List ℕ} {n : ℕ} → LaidOut (pages_of source o) before after (Ok n) → Printed n before
 pages_printed source o {before} {after} {n} laid = go (pages_of source o) refl
   where
     go : (p : Paged) → pages_of source o ≡ p → Printed n before
     go (refused r) is = absurd (no_page r before (sym (rw is at laid.answer)))
     go (paged lines) is =
-        let told : pages_answer (paged lines) before ≡ Pages n = sym (rw is at laid.answer) in
+        let told : pages_answer (paged lines) before ≡ Ok n = sym (rw is at laid.answer) in
         let all = pages_size.whole source o before is told in
         record { inside = omega (arith, (fits_count lines before told).inside); few = omega (arith, most source o is) }
 
 -- for who prints them
-module _ (sheet : List ℕ) {before after : List ℕ} {r : PageAnswer} {n : ℕ} (laid : LaidOut (pages_of_sheet (parse sheet)) before after r) (is : r ≡ Pages n) where
+module _ (sheet : List ℕ) {before after : List ℕ} {r : Result ℕ PageRefusal} {n : ℕ} (laid : LaidOut (pages_of_sheet (parse sheet)) before after r) (is : r ≡ Ok n) where
   printed : Printed n before
   printed = pages_printed (source_of_sheet (parse sheet)) (outcome_of_sheet (parse sheet)) (rw is at laid)
 

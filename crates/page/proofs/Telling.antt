@@ -17,13 +17,14 @@ use Rattle.operation.proofs.ShortOperation.{operation_short}
 use Rattle.sheet.specs.Lines.{is_line}
 use Rattle.sheet.specs.Sheet.{line1, unparsed, parsed, parse, counts_of, counts_ok, layout_ok, sheet_of}
 use Rattle.sheet.specs.Outcome.{outcome_of_sheet}
-use Rattle.page.specs.declared.PageAnswer.{PageAnswer}
-use Rattle.page.specs.declared.PageAnswer.TheVariants.{Pages, BufferTooShort}
+use Rattle.page.specs.declared.PageRefusal.{PageRefusal}
+use Rattle.std.specs.Prelude.{Result, Ok, Err}
+use Rattle.page.specs.declared.PageRefusal.TheVariants.{BufferTooShort}
 use Rattle.page.specs.Page.{page_lines, Cells, pages_lines}
 use Rattle.page.specs.Answer.{refused, paged, pages_of, pages_of_sheet, source_of_sheet, pages_fit, pages_answer, LaidOut, page_line, PagesTold}
 use Rattle.page.proofs.EntryLines.{pages_many}
 
-pub answer_is : (answer : PageAnswer) {a : PageAnswer} {l : Line} → answer ≡ a → l ≡ page_line a → l ≡ page_line answer
+pub answer_is : (answer : Result ℕ PageRefusal) {a : Result ℕ PageRefusal} {l : Line} → answer ≡ a → l ≡ page_line a → l ≡ page_line answer
 answer_is answer e is = rw e is
 
 outcome_short : (sheet : List ℕ) → ShortOutcome (outcome_of_sheet (parse sheet))
@@ -44,7 +45,7 @@ paged_short : (lines : List Cells) (buffer : List ℕ) → ShortLine (line 0 (le
 unfolding pages_answer
 paged_short lines buffer s = go (pages_fit lines buffer)
   where
-    go : (b : Bool) → ShortLine (page_line (cond b (Pages (length lines / page_lines)) BufferTooShort))
+    go : (b : Bool) → ShortLine (page_line (cond b (Ok (length lines / page_lines)) (Err BufferTooShort)))
     go true = s
     go false = short (omega arith) (omega arith) (omega arith) (omega arith)
 
@@ -56,7 +57,7 @@ answer_short source (Plan.planned form side es) buffer s = go (leb (length es) 1
     go true = paged_short (pages_lines source es) buffer (short (omega arith) (omega (arith, pages_many source es, s.0.four)) (omega arith) (omega arith))
     go false = refused_short (plan_too_large (length es)) buffer (short (omega arith) (omega arith) s.0.four (omega arith))
 
-module _ (sheet : List ℕ) {before after : List ℕ} {laid : PageAnswer} {row : Row} (done : LaidOut (pages_of_sheet (parse sheet)) before after laid) (is : row_line row ≡ page_line laid) where
+module _ (sheet : List ℕ) {before after : List ℕ} {laid : Result ℕ PageRefusal} {row : Row} (done : LaidOut (pages_of_sheet (parse sheet)) before after laid) (is : row_line row ≡ page_line laid) where
   told_is : row_line row ≡ page_line (pages_answer (pages_of_sheet (parse sheet)) before)
   told_is = is ∙ ap page_line done.answer
 

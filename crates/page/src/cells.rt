@@ -42,10 +42,8 @@ pub(crate) fn write_cell(out: &mut [u8], at: usize, width: usize, text: &[u8])
     requires { (at + width ≤ length out.old) × (0 < width) }
     ensures { out.new ≡ stored out.old at (cell width text.now) }
 {
-    let mut i: usize = 0;
-    while i < width {
+    for i in 0..width {
         out[at + i] = cell_byte(text, width, i);
-        i += 1;
     }
 }
 

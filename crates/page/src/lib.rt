@@ -20,33 +20,32 @@ pub const PAGE_BYTES: usize = PAGE_LINES * LINE;
 // Space for 1,536 entries, as for a listing.
 const PLAN_WORDS: usize = ENTRY_WORDS * 1536;
 
-// How many pages; or a refusal: the sheet's, with its four numbers, or 30.
+// The sheet's refusal, with its four numbers, or 30.
 #[derive(Clone, Copy)]
-pub enum PageAnswer {
-    Pages(usize),
-    Refused(Row),
+pub enum PageRefusal {
+    SheetRefused(Row),
     BufferTooShort,
 }
 
-// Plans a sheet and lays the plan out on pages. A refusal leaves the buffer as it was.
-pub fn lay_out_pages(sheet: &[u8], pages: &mut [u8]) -> PageAnswer
+// Plans a sheet and lays the plan out on pages. How many pages; a refusal leaves the buffer as it was.
+pub fn lay_out_pages(sheet: &[u8], pages: &mut [u8]) -> Result<usize, PageRefusal>
     ensures { LaidOutIn pages (pages_of_sheet (parse sheet.now)) result }
 {
     let mut plan = [0u32; PLAN_WORDS];
     let row = plan_into(sheet, &mut plan);
     if row.number != 0 {
-        return PageAnswer::Refused(row);
+        return Err(PageRefusal::SheetRefused(row));
     }
     lay_out_plan(pages, sheet, &plan, row.fourth as usize)
 }
 
-fn page_row(answer: PageAnswer) -> Row
+fn page_row(answer: Result<usize, PageRefusal>) -> Row
     ensures { row_line result ≡ page_line answer }
 {
     match answer {
-        PageAnswer::Pages(count) => row_from(0, count as u64, 0, 0),
-        PageAnswer::Refused(row) => row,
-        PageAnswer::BufferTooShort => row_from(30, 0, 0, 0),
+        Ok(count) => row_from(0, count as u64, 0, 0),
+        Err(PageRefusal::SheetRefused(row)) => row,
+        Err(PageRefusal::BufferTooShort) => row_from(30, 0, 0, 0),
     }
 }
 

@@ -7,7 +7,7 @@ ghost use Rattle.page.specs.Answer.{paged, LaidOutIn};
 ghost use Rattle.sheet.specs.Source.{source_in};
 ghost use Rattle.planner.specs.Entries.{read_entries};
 
-use crate::PageAnswer;
+use crate::PageRefusal;
 use crate::cells::{KIND, write_cell, write_kind};
 use columns::write::write_column;
 use planner::buffer::ENTRY_WORDS;
@@ -81,10 +81,8 @@ fn write_entries(out: &mut [u8], sheet: &[u8], plan: &[u32], count: usize)
     requires { EntriesAsks out.old plan.now count }
     ensures { out.new ≡ stored out.old 0 (page_bytes (entry_lines (source_in sheet.now) 1 (read_entries plan.now 0 count))) }
 {
-    let mut i: usize = 0;
-    while i < count {
+    for i in 0..count {
         write_entry(out, sheet, plan, i);
-        i += 1;
     }
 }
 
@@ -101,10 +99,8 @@ fn write_blank_lines(out: &mut [u8], at: usize, count: usize)
     requires { at + count * page_line_length ≤ length out.old }
     ensures { out.new ≡ stored out.old at (page_bytes (replicate count blank_cells)) }
 {
-    let mut line: usize = 0;
-    while line < count {
+    for line in 0..count {
         write_blank_line(out, at + line * LINE);
-        line += 1;
     }
 }
 
@@ -112,15 +108,18 @@ fn write_blank_lines(out: &mut [u8], at: usize, count: usize)
 fn clear_from(out: &mut [u8], at: usize)
     ensures { out.new ≡ take at out.old ++ replicate (length out.old - at) 0 }
 {
-    let mut i = at;
-    while i < out.len() {
-        out[i] = 0;
-        i += 1;
+    if at < out.len() {
+        out[at..].fill(0);
     }
 }
 
 // A plan of so many entries, if its pages fit.
-pub(crate) fn lay_out_plan(out: &mut [u8], sheet: &[u8], plan: &[u32], count: usize) -> PageAnswer
+pub(crate) fn lay_out_plan(
+    out: &mut [u8],
+    sheet: &[u8],
+    plan: &[u32],
+    count: usize,
+) -> Result<usize, PageRefusal>
     requires { PlanAsks plan.now count }
     ensures { LaidOutIn out (paged (pages_lines (source_in sheet.now) (read_entries plan.now 0 count))) result }
 {
@@ -129,9 +128,9 @@ pub(crate) fn lay_out_plan(out: &mut [u8], sheet: &[u8], plan: &[u32], count: us
     // In a buffer that is too short nothing is past the pages.
     clear_from(out, lines * LINE);
     if out.len() / LINE < lines {
-        return PageAnswer::BufferTooShort;
+        return Err(PageRefusal::BufferTooShort);
     }
     write_entries(out, sheet, plan, count);
     write_blank_lines(out, count * LINE, lines - count);
-    PageAnswer::Pages(pages)
+    Ok(pages)
 }

@@ -5,7 +5,6 @@
 
 ghost use Rattle.std.specs.Prelude.{◌<◌, ◌≤◌, length};
 
-use columns::Column;
 use columns::read::read_column;
 use input::read_full;
 use page::teluddru_pages;
@@ -13,10 +12,7 @@ use std::io;
 use std::io::Read;
 
 fn number_at(header: &[u8], at: usize) -> isize {
-    match read_column(header, at) {
-        Column::Number(n) => n as isize,
-        Column::Unreadable => 0,
-    }
+    read_column(header, at).unwrap_or(0) as isize
 }
 
 fn wide(byte: u8) -> u64
@@ -28,10 +24,8 @@ fn wide(byte: u8) -> u64
 // A number that depends on every byte and its place.
 fn checksum(bytes: &[u8]) -> u64 {
     let mut sum: u64 = 0;
-    let mut i: usize = 0;
-    while i < bytes.len() {
-        sum = (sum * 31 + wide(bytes[i])) % 1000003;
-        i += 1;
+    for byte in bytes {
+        sum = (sum * 31 + wide(*byte)) % 1000003;
     }
     sum
 }
@@ -72,10 +66,9 @@ fn lay_out(rt: &impl Print, sheet: &[u8], size: isize, shown: isize) -> io::Resu
     let mut answer = [9u32; 4];
     print_number(rt, teluddru_pages(sheet, &mut space[..n], &mut answer))?;
     print!(rt; "answer ")?;
-    print_number(rt, answer[0])?;
-    print_number(rt, answer[1])?;
-    print_number(rt, answer[2])?;
-    print_number(rt, answer[3])?;
+    for number in answer {
+        print_number(rt, number)?;
+    }
     print_space(rt, &space, shown)
 }
 
@@ -112,12 +105,10 @@ fn run_case<R: Read>(rt: &impl Print, from: &mut R) -> io::Result<bool> {
 // A proved loop has to end: there are fewer than 1,000 cases.
 fn main(rt: HostRuntime) -> io::Result<()> {
     let mut reader = rt.reader();
-    let mut left: usize = 1000;
-    while 0 < left {
+    for _ in 0..1000 {
         if !run_case(&rt, &mut reader)? {
             return Ok(());
         }
-        left -= 1;
     }
     Ok(())
 }

@@ -2,7 +2,7 @@
 #![tactic(auto)]
 
 use input::read_full;
-use page::{PAGE_BYTES, PageAnswer, lay_out_pages};
+use page::{PAGE_BYTES, PageRefusal, lay_out_pages};
 use sheet::plan_sheet;
 use std::io;
 
@@ -26,10 +26,10 @@ fn print_refusal(rt: &impl Print, sheet: &[u8]) -> io::Result<()> {
 fn print_pages(rt: &impl Print, sheet: &[u8]) -> io::Result<()> {
     let mut pages = pages_space();
     match lay_out_pages(sheet, &mut pages) {
-        PageAnswer::Pages(count) => rt.write_all(&pages[..count * PAGE_BYTES]),
-        PageAnswer::Refused(_) => print_refusal(rt, sheet),
+        Ok(count) => rt.write_all(&pages[..count * PAGE_BYTES]),
+        Err(PageRefusal::SheetRefused(_)) => print_refusal(rt, sheet),
         // Not with space for all pages.
-        PageAnswer::BufferTooShort => Ok(()),
+        Err(PageRefusal::BufferTooShort) => Ok(()),
     }
 }
 

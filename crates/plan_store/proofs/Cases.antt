@@ -14,13 +14,9 @@ use Rattle.planner.specs.Short.{ShortLine}
 use Rattle.planner.proofs.laws.ShortOutcomes.{short}
 use Rattle.base.specs.Refusal.{store_refused, line, refusal_line}
 use Rattle.planner.proofs.buffer.ReadBack.{length_read}
-use Rattle.plan_store.specs.declared.head.Room.{Room}
-use Rattle.plan_store.specs.declared.head.Room.TheVariants as Room
+use Rattle.std.specs.Prelude.{Option, Some, None, Ok, Err}
 use Rattle.plan_store.specs.Store.{used, is_pack, pack_of, free_reserve, free_common, shares_ok, fresh, is_kept, emptied}
 use Rattle.plan_store.specs.Words.{store_words, with_store, store_of, is_store}
-use Rattle.plan_store.specs.declared.SetUpAnswer.TheVariants as SetUpAnswer
-use Rattle.plan_store.specs.declared.KeepAnswer.TheVariants as KeepAnswer
-use Rattle.plan_store.specs.declared.EmptyAnswer.TheVariants as EmptyAnswer
 use Rattle.plan_store.specs.Calls.{can_set_up, SetUp, can_keep, keep_line, KeptBy, EmptiedBy}
 use Rattle.plan_store.specs.code.Head.{room_in, HeadAsks}
 use Rattle.plan_store.specs.code.Rows.{Admitted}
@@ -45,12 +41,12 @@ module _ (ws : List ℕ) (is : is_store ws ≡ true) (n : ℕ) where
   pack_known some le = let p = store_packs ws is in rw (le-leb 1 n (omega (arith, some)), le-leb n (length (store_of ws)) (omega arith))
 
 -- keeping
-module _ (ws : List ℕ) (n : ℕ) (buffer : List ℕ) (count : ℕ) {r : Room} (told : r ≡ room_in ws) where
-  pub can_no_store : r ≡ Room.NoStore → false ≡ can_keep ws n buffer count
+module _ (ws : List ℕ) (n : ℕ) (buffer : List ℕ) (count : ℕ) {r : Option ℕ} (told : r ≡ room_in ws) where
+  pub can_no_store : r ≡ None → false ≡ can_keep ws n buffer count
   unfolding can_keep
   can_no_store e = rw (← room_none ws told e)
 
-  module _ {left : ℕ} (e : r ≡ Room.Common left) where
+  module _ {left : ℕ} (e : r ≡ Some left) where
     here : is_store ws ≡ true
     here = sym (room_some ws told e)
 
@@ -98,12 +94,12 @@ pub fits_high : {ws : List ℕ} {n : ℕ} {buffer : List ℕ} {count : ℕ} → 
 fits_high {ws} f = let p = store_packs ws f.is in let e = (fits_ends f).1 in omega arith
 
 -- the answers
-pub set_sized : (shares ws : List ℕ) → (length ws ≡ store_words → ⊥) → SetUp shares ws ws SetUpAnswer.Refused
+pub set_sized : (shares ws : List ℕ) → (length ws ≡ store_words → ⊥) → SetUp shares ws ws (Err (record {}))
 unfolding can_set_up
 set_sized shares ws other = let e = ne_eqb (length ws) store_words other in record { answer = rw e; store = rw e }
 
 module _ (shares ws : List ℕ) {r : Bool} (told : r ≡ shares_ok shares) where
-  pub set_shares : not r ≡ true → SetUp shares ws ws SetUpAnswer.Refused
+  pub set_shares : not r ≡ true → SetUp shares ws ws (Err (record {}))
   unfolding can_set_up
   set_shares none = let e = told_no told none in let f = and_no (eqb (length ws) store_words) (shares_ok shares) e in record { answer = rw f; store = rw f }
 
@@ -111,12 +107,12 @@ module _ (shares ws : List ℕ) {r : Bool} (told : r ≡ shares_ok shares) where
     pub set_asks : HeadAsks ws shares
     set_asks = record { sized = sized; few = (shares_fit shares (told_yes told yes)).0 }
 
-    pub set_done : {after : List ℕ} → after ≡ with_store ws (fresh shares) → SetUp shares ws after SetUpAnswer.Ready
+    pub set_done : {after : List ℕ} → after ≡ with_store ws (fresh shares) → SetUp shares ws after (Ok tt)
     unfolding can_set_up
     set_done e = let s = eq-eqb (length ws) store_words sized in let o = told_yes told yes in record { answer = rw (s, o); store = e ∙ rw (s, o) }
 
 module _ (n : ℕ) (buffer : List ℕ) (count : ℕ) (ws : List ℕ) {r : Bool} (told : r ≡ can_keep ws n buffer count) where
-  pub keep_refused : not r ≡ true → KeptBy n buffer count ws ws KeepAnswer.Refused
+  pub keep_refused : not r ≡ true → KeptBy n buffer count ws ws (Err (record {}))
   keep_refused none = let e = told_no told none in record { answer = rw e; store = rw e }
 
   module _ (yes : not r ≡ false) where
@@ -131,14 +127,14 @@ module _ (n : ℕ) (buffer : List ℕ) (count : ℕ) (ws : List ℕ) {r : Bool} 
     keep_used = let s = store_size ws keep_asks.is in let f = packs_few ws keep_asks.is in let h = fits_high keep_asks in omega arith
 
 module _ (ws : List ℕ) {r : Bool} (told : r ≡ is_store ws) where
-  pub empty_refused : not r ≡ true → EmptiedBy ws ws EmptyAnswer.Refused
+  pub empty_refused : not r ≡ true → EmptiedBy ws ws (Err (record {}))
   empty_refused none = let e = told_no told none in record { answer = rw e; store = rw e }
 
   module _ (yes : not r ≡ false) where
     pub empty_asks : is_store ws ≡ true
     empty_asks = told_yes told yes
 
-    pub empty_done : {after : List ℕ} → after ≡ with_store ws (emptied (store_of ws)) → EmptiedBy ws after EmptyAnswer.Emptied
+    pub empty_done : {after : List ℕ} → after ≡ with_store ws (emptied (store_of ws)) → EmptiedBy ws after (Ok tt)
     empty_done e = let y = told_yes told yes in record { answer = rw y; store = e ∙ rw y }
 
 -- each number of an answer has at most six digits

@@ -1,37 +1,33 @@
 -- The calls over lent words: the answer in document 02's numbers, and the words afterwards. Words of another length are no store.
-use Rattle.std.specs.Prelude.{ℕ, ◌≡◌, Bool, cond, ◌&&◌, List, eqb, leb, length}
+use Rattle.std.specs.Prelude.{ℕ, ◌≡◌, Bool, cond, ◌&&◌, List, Result, Ok, Err, eqb, leb, length}
 use Rattle.base.specs.Lent.{Slices, MutSlices, old, new}
 use Rattle.base.specs.Refusal.{shares_refused, store_refused, Line, line, refusal_line, require_or}
 use Rattle.planner.specs.Layout.{Entry}
 use Rattle.planner.specs.Entries.{read_entries}
 use Rattle.planner.specs.Operations.{space}
-use Rattle.plan_store.specs.declared.SetUpAnswer.{SetUpAnswer}
-use Rattle.plan_store.specs.declared.SetUpAnswer.TheVariants as SetUpAnswer
-use Rattle.plan_store.specs.declared.KeepAnswer.{KeepAnswer}
-use Rattle.plan_store.specs.declared.KeepAnswer.TheVariants as KeepAnswer
-use Rattle.plan_store.specs.declared.EmptyAnswer.{EmptyAnswer}
-use Rattle.plan_store.specs.declared.EmptyAnswer.TheVariants as EmptyAnswer
+use Rattle.plan_store.specs.declared.SharesRefused.{SharesRefused}
+use Rattle.plan_store.specs.declared.StoreRefused.{StoreRefused}
 use Rattle.plan_store.specs.Store.{used, pack_of, shares_ok, fresh, is_kept, with_plan, no_entry, read_entry, emptied}
 use Rattle.plan_store.specs.Words.{store_words, with_store, store_of, is_store}
 
 -- the answers' four numbers
-abbrev pub set_up_numbers : SetUpAnswer → Line
-set_up_numbers SetUpAnswer.Ready = line 0 0 0 0
-set_up_numbers SetUpAnswer.Refused = refusal_line shares_refused
+abbrev pub set_up_numbers : Result Unit SharesRefused → Line
+set_up_numbers (Ok done) = line 0 0 0 0
+set_up_numbers (Err e) = refusal_line shares_refused
 
-abbrev pub keep_numbers : KeepAnswer → Line
-keep_numbers (KeepAnswer.Kept place) = line 0 place 0 0
-keep_numbers KeepAnswer.Refused = refusal_line store_refused
+abbrev pub keep_numbers : Result ℕ StoreRefused → Line
+keep_numbers (Ok place) = line 0 place 0 0
+keep_numbers (Err e) = refusal_line store_refused
 
-abbrev pub empty_numbers : EmptyAnswer → Line
-empty_numbers EmptyAnswer.Emptied = line 0 0 0 0
-empty_numbers EmptyAnswer.Refused = refusal_line store_refused
+abbrev pub empty_numbers : Result Unit StoreRefused → Line
+empty_numbers (Ok done) = line 0 0 0 0
+empty_numbers (Err e) = refusal_line store_refused
 
 -- the numbers settle the answer
 pub record StoreAnswerLaws : Type 0 where
-  pub set_ups : (r q : SetUpAnswer) → set_up_numbers r ≡ set_up_numbers q → r ≡ q
-  pub keeps : (r q : KeepAnswer) → keep_numbers r ≡ keep_numbers q → r ≡ q
-  pub empties : (r q : EmptyAnswer) → empty_numbers r ≡ empty_numbers q → r ≡ q
+  pub set_ups : (r q : Result Unit SharesRefused) → set_up_numbers r ≡ set_up_numbers q → r ≡ q
+  pub keeps : (r q : Result ℕ StoreRefused) → keep_numbers r ≡ keep_numbers q → r ≡ q
+  pub empties : (r q : Result Unit StoreRefused) → empty_numbers r ≡ empty_numbers q → r ≡ q
 
 -- Set-up: it does not matter what stood in the words.
 unfoldable pub can_set_up : List ℕ → List ℕ → Bool
@@ -43,7 +39,7 @@ set_up_after before shares = cond (can_set_up before shares) (with_store before 
 abbrev pub set_up_line : List ℕ → List ℕ → Line
 set_up_line before shares = require_or refusal_line (can_set_up before shares) shares_refused (line 0 0 0 0)
 
-pub record SetUp (shares before after : List ℕ) (r : SetUpAnswer) : Type 0 where
+pub record SetUp (shares before after : List ℕ) (r : Result Unit SharesRefused) : Type 0 where
   pub answer : set_up_numbers r ≡ set_up_line before shares
   pub store : after ≡ set_up_after before shares
 
@@ -57,7 +53,7 @@ keep_after ws n buffer count = cond (can_keep ws n buffer count) (with_store ws 
 abbrev pub keep_line : List ℕ → ℕ → List ℕ → ℕ → Line
 keep_line ws n buffer count = require_or refusal_line (can_keep ws n buffer count) store_refused (line 0 (used (pack_of (store_of ws) n)) 0 0)
 
-pub record KeptBy (n : ℕ) (buffer : List ℕ) (count : ℕ) (before after : List ℕ) (r : KeepAnswer) : Type 0 where
+pub record KeptBy (n : ℕ) (buffer : List ℕ) (count : ℕ) (before after : List ℕ) (r : Result ℕ StoreRefused) : Type 0 where
   pub answer : keep_numbers r ≡ keep_line before n buffer count
   pub store : after ≡ keep_after before n buffer count
 
@@ -72,16 +68,16 @@ empty_after ws = cond (is_store ws) (with_store ws (emptied (store_of ws))) ws
 abbrev pub empty_line : List ℕ → Line
 empty_line ws = require_or refusal_line (is_store ws) store_refused (line 0 0 0 0)
 
-pub record EmptiedBy (before after : List ℕ) (r : EmptyAnswer) : Type 0 where
+pub record EmptiedBy (before after : List ℕ) (r : Result Unit StoreRefused) : Type 0 where
   pub answer : empty_numbers r ≡ empty_line before
   pub store : after ≡ empty_after before
 
 -- the same of what is lent, at entry and at exit
-abbrev pub SetUpIn : MutSlices → Slices → SetUpAnswer → Type 0
+abbrev pub SetUpIn : MutSlices → Slices → Result Unit SharesRefused → Type 0
 SetUpIn store shares r = SetUp shares.entry.now (old store) (new store) r
 
-abbrev pub KeptIn : MutSlices → ℕ → Slices → ℕ → KeepAnswer → Type 0
+abbrev pub KeptIn : MutSlices → ℕ → Slices → ℕ → Result ℕ StoreRefused → Type 0
 KeptIn store n plan count r = KeptBy n plan.entry.now count (old store) (new store) r
 
-abbrev pub EmptiedIn : MutSlices → EmptyAnswer → Type 0
+abbrev pub EmptiedIn : MutSlices → Result Unit StoreRefused → Type 0
 EmptiedIn store r = EmptiedBy (old store) (new store) r

@@ -2,7 +2,6 @@
 use Rattle.std.specs.Prelude.{ℕ, zero, suc, ◌+◌, ◌-◌, Bool, cond, ◌&&◌, leb, length, get_or, set}
 use mathlib.Core.List.{List, [], ◌++◌, map, sum}
 use Rattle.std.proofs.Math.Option.{Option}
-use Rattle.std.proofs.Math.Option as Option
 use Rattle.planner.specs.Layout.{Entry, entry, top}
 
 abbrev pub capacity : ℕ

@@ -7,13 +7,6 @@ ghost use Rattle.plan_store.specs.code.Head.{room_in, taken, Among, entries_end,
 use crate::{CAPACITY, MOST_PACKS, STORE_WORDS};
 use planner::buffer::ENTRY_WORDS;
 
-// How much of the common part is free, or that words are no store that the calls can give.
-#[derive(Clone, Copy)]
-pub(crate) enum Room {
-    Common(u32),
-    NoStore,
-}
-
 // A word as a number of words or entries.
 pub(crate) fn wide(x: u32) -> usize
     ensures { result ≡ x }
@@ -31,37 +24,29 @@ fn taken_by(share: u32, used: u32) -> u32
     share
 }
 
-// One pass over the packs.
-pub(crate) fn room_in(store: &[u32]) -> Room
+// How much of the common part is free, or none for words that are no store that the calls can give: one pass over the packs.
+pub(crate) fn room_in(store: &[u32]) -> Option<u32>
     ensures { result ≡ room_in store.now }
 {
     if store.len() != STORE_WORDS {
-        return Room::NoStore;
+        return None;
     }
     let packs = wide(store[0]);
     if MOST_PACKS < packs {
-        return Room::NoStore;
+        return None;
     }
     let mut left = CAPACITY;
-    let mut i: usize = 0;
-    while i < packs {
+    for i in 0..packs {
         let takes = taken_by(store[1 + i * 2], store[2 + i * 2]);
-        if left < takes {
-            return Room::NoStore;
-        }
-        left -= takes;
-        i += 1;
+        left = left.checked_sub(takes)?;
     }
-    Room::Common(left)
+    Some(left)
 }
 
 pub(crate) fn is_store(store: &[u32]) -> bool
     ensures { result ≡ is_store store.now }
 {
-    match room_in(store) {
-        Room::Common(_) => true,
-        Room::NoStore => false,
-    }
+    room_in(store).is_some()
 }
 
 pub(crate) fn shares_ok(shares: &[u32]) -> bool
@@ -71,14 +56,11 @@ pub(crate) fn shares_ok(shares: &[u32]) -> bool
         return false;
     }
     let mut left = CAPACITY;
-    let mut i: usize = 0;
-    while i < shares.len() {
-        let share = shares[i];
-        if left < share {
+    for share in shares {
+        if left < *share {
             return false;
         }
-        left -= share;
-        i += 1;
+        left -= *share;
     }
     true
 }
@@ -89,10 +71,8 @@ pub(crate) fn entries_end(store: &[u32], packs: usize) -> usize
     ensures { result ≡ entries_end store.now packs }
 {
     let mut end = 1 + wide(store[0]) * 2;
-    let mut i: usize = 0;
-    while i < packs {
+    for i in 0..packs {
         end += wide(store[2 + i * 2]) * ENTRY_WORDS;
-        i += 1;
     }
     end
 }
@@ -102,12 +82,9 @@ pub(crate) fn write_head(store: &mut [u32], shares: &[u32])
     requires { HeadAsks store.old shares.now }
     ensures { store.new ≡ with_store store.old (fresh shares.now) }
 {
-    let mut i: usize = 0;
-    while i < shares.len() {
-        let share = shares[i];
-        store[1 + i * 2] = share;
+    for (i, share) in shares.iter().enumerate() {
+        store[1 + i * 2] = *share;
         store[2 + i * 2] = 0;
-        i += 1;
     }
     store[0] = shares.len() as u32;
 }
@@ -118,9 +95,7 @@ pub(crate) fn clear_used(store: &mut [u32])
     ensures { store.new ≡ with_store store.old (emptied (store_of store.old)) }
 {
     let packs = wide(store[0]);
-    let mut pack: usize = 0;
-    while pack < packs {
+    for pack in 0..packs {
         store[2 + pack * 2] = 0;
-        pack += 1;
     }
 }

@@ -6,17 +6,12 @@ ghost use Rattle.plan_store.specs.code.Rows.{InsertAsks, inserted, Admitted, pla
 use crate::head::{entries_end, wide};
 use planner::buffer::ENTRY_WORDS;
 
-// Moves the words from `at` to `end` up by some places, the last one first.
+// Moves the words from `at` to `end` up by some places.
 fn move_up(store: &mut [u32], at: usize, end: usize, by: usize)
     requires { (at ≤ end) × (end + by ≤ length store.old) }
     ensures { store.new ≡ paste store.old (at + by) (drop at store.old) (end - at) }
 {
-    let mut q = end;
-    while at < q {
-        q -= 1;
-        let word = store[q];
-        store[q + by] = word;
-    }
+    store.copy_within(at..end, at + by);
 }
 
 // Copies the first `count` words of a plan to a place.
@@ -24,12 +19,7 @@ fn copy_in(store: &mut [u32], at: usize, plan: &[u32], count: usize)
     requires { (at + count ≤ length store.old) × (count ≤ length plan.now) }
     ensures { store.new ≡ paste store.old at plan.now count }
 {
-    let mut i: usize = 0;
-    while i < count {
-        let word = plan[i];
-        store[at + i] = word;
-        i += 1;
-    }
+    store[at..at + count].copy_from_slice(&plan[..count]);
 }
 
 // Puts the first `size` words of a plan at a place; those that stand from there to `end` move up.

@@ -3,7 +3,6 @@
 // the bytes of both.
 #![tactic(auto)]
 
-use columns::Column;
 use columns::read::read_column;
 use input::read_full;
 use sheet::plan_sheet;
@@ -11,10 +10,7 @@ use std::io;
 use std::io::Read;
 
 fn length_at(header: &[u8], at: usize) -> usize {
-    match read_column(header, at) {
-        Column::Number(n) => n as usize,
-        Column::Unreadable => 0,
-    }
+    read_column(header, at).unwrap_or(0) as usize
 }
 
 // The next `count` bytes of the input, or none if it has fewer, or the buffer has no space for them.

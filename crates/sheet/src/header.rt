@@ -1,7 +1,7 @@
 // Lines 1 and 2: what the tables hold, where each stands, and the operation.
 ghost use Rattle.std.specs.Prelude.{◌≡◌};
 ghost use Rattle.sheet.specs.Sheet.{counts_ok};
-ghost use Rattle.sheet.specs.code.Header.{counts_in, operation_in, places_of, Countable, heading_of};
+ghost use Rattle.sheet.specs.code.Header.{counts_in, operation_in, places_of, Countable, refusal_number, heading_of};
 
 use crate::lines::{COLUMN, NUMBER_LINE, read_lines};
 use operation::numbers::{OperationNumbers, are_listed};
@@ -61,11 +61,22 @@ pub(crate) struct Header {
     pub operation: OperationNumbers,
 }
 
-// A header, or the number of its refusal.
+// A refusal that has no place and no counts: a count of line 1 is over its limit, or the layout is broken.
 #[derive(Clone, Copy)]
-pub(crate) enum Heading {
-    Good(Header),
-    Refused(u64),
+pub(crate) enum SheetRefusal {
+    OverLimit,
+    LayoutBroken,
+}
+
+impl SheetRefusal {
+    pub(crate) fn number(self) -> u64
+        ensures { result ≡ refusal_number self }
+    {
+        match self {
+            SheetRefusal::OverLimit => 1,
+            SheetRefusal::LayoutBroken => 7,
+        }
+    }
 }
 
 fn wide(x: u32) -> usize
@@ -143,30 +154,30 @@ fn operation_in(line: [u32; 6]) -> OperationNumbers
 }
 
 // Both lines, and the length of the sheet.
-pub(crate) fn read_header(sheet: &[u8]) -> Heading
+pub(crate) fn read_header(sheet: &[u8]) -> Result<Header, SheetRefusal>
     ensures { result ≡ heading_of sheet.now }
 {
     let mut line_1 = [0u32; 6];
     if !read_lines(sheet, 0, 6, 1, &mut line_1) {
-        return Heading::Refused(7);
+        return Err(SheetRefusal::LayoutBroken);
     }
     let counts = counts_of(line_1);
     if !within_limits(counts) {
-        return Heading::Refused(1);
+        return Err(SheetRefusal::OverLimit);
     }
     let places = places_of(counts);
     if sheet.len() != places.end {
-        return Heading::Refused(7);
+        return Err(SheetRefusal::LayoutBroken);
     }
     let mut line_2 = [0u32; 6];
     if !read_lines(sheet, HEAD_LINE, 6, 1, &mut line_2) {
-        return Heading::Refused(7);
+        return Err(SheetRefusal::LayoutBroken);
     }
     let operation = operation_in(line_2);
     if !are_listed(operation) {
-        return Heading::Refused(7);
+        return Err(SheetRefusal::LayoutBroken);
     }
-    Heading::Good(Header {
+    Ok(Header {
         counts,
         places,
         operation,

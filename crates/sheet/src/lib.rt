@@ -12,7 +12,7 @@ ghost use Rattle.sheet.specs.Sheet.{parse};
 ghost use Rattle.sheet.specs.Outcome.{outcome_of_sheet, PlannedInto};
 ghost use Rattle.sheet.specs.Listing.{listing_of, Printed};
 
-use header::{Heading, read_header};
+use header::read_header;
 use listing::refuse;
 use operation::row::Row;
 use space::{list_headed, plan_headed, refuse_plan};
@@ -22,8 +22,8 @@ pub fn plan_into(sheet: &[u8], plan: &mut [u32]) -> Row
     ensures { PlannedInto (outcome_of_sheet (parse sheet.now)) plan.old plan.new result }
 {
     match read_header(sheet) {
-        Heading::Good(header) => plan_headed(sheet, header, plan),
-        Heading::Refused(number) => refuse_plan(number, plan),
+        Ok(header) => plan_headed(sheet, header, plan),
+        Err(refusal) => refuse_plan(refusal, plan),
     }
 }
 
@@ -32,8 +32,8 @@ pub fn plan_sheet(sheet: &[u8], out: &mut [u8]) -> usize
     ensures { Printed (listing_of sheet.now) out.old out.new result }
 {
     match read_header(sheet) {
-        Heading::Good(header) => list_headed(sheet, header, out),
-        Heading::Refused(number) => refuse(number, out),
+        Ok(header) => list_headed(sheet, header, out),
+        Err(refusal) => refuse(refusal, out),
     }
 }
 

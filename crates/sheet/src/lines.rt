@@ -4,7 +4,6 @@ ghost use Rattle.sheet.specs.Lines.{column_place, is_line_feed, line_length, lin
 ghost use Rattle.sheet.specs.code.Post.{WordRead, LineAsks, LinesAsks, NumberAsks, NumbersAsks, Read};
 
 use columns::read::{column_of, read_signed_column};
-use columns::{Column, SignedColumn};
 
 pub(crate) const COLUMN: usize = 6;
 
@@ -17,13 +16,11 @@ fn read_word(sheet: &[u8], at: usize, w: usize, out: &mut [u32]) -> bool
     requires { (column_place at 1 ≤ length sheet.now) × (w < length out.old) }
     ensures { WordRead sheet.now at w out.old out.new result }
 {
-    match column_of(&sheet[at..at + COLUMN]) {
-        Column::Number(n) => {
-            out[w] = n;
-            true
-        }
-        Column::Unreadable => false,
-    }
+    let Some(n) = column_of(&sheet[at..at + COLUMN]) else {
+        return false;
+    };
+    out[w] = n;
+    true
 }
 
 fn is_line_feed(sheet: &[u8], at: usize) -> bool
@@ -46,12 +43,10 @@ fn read_line(sheet: &[u8], at: usize, columns: usize, i: usize, out: &mut [u32])
         return false;
     }
     let first = i * columns;
-    let mut j: usize = 0;
-    while j < columns {
+    for j in 0..columns {
         if !read_word(sheet, place + j * COLUMN, first + j, out) {
             return false;
         }
-        j += 1;
     }
     sheet[end] == 10
 }
@@ -66,12 +61,10 @@ pub(crate) fn read_lines(
     requires { LinesAsks at columns count out.old }
     ensures { Read (column_word_at sheet.now at (line_length columns) columns) (count * columns) (lines_ok sheet.now at columns count) out.new result }
 {
-    let mut i: usize = 0;
-    while i < count {
+    for i in 0..count {
         if !read_line(sheet, at, columns, i, out) {
             return false;
         }
-        i += 1;
     }
     true
 }
@@ -82,26 +75,22 @@ fn read_number(sheet: &[u8], at: usize, i: usize, out: &mut [u64]) -> bool
     ensures { Read (number_word sheet.now at) (i * 2 + 2) (number_line_ok sheet.now at i) out.new result }
 {
     let place = at + i * NUMBER_LINE;
-    match read_signed_column(sheet, place) {
-        SignedColumn::Number { below, size } => {
-            out[i * 2] = below;
-            out[i * 2 + 1] = size;
-            is_line_feed(sheet, place + SIGNED_COLUMN)
-        }
-        SignedColumn::Unreadable => false,
-    }
+    let Some(number) = read_signed_column(sheet, place) else {
+        return false;
+    };
+    out[i * 2] = number.below;
+    out[i * 2 + 1] = number.size;
+    is_line_feed(sheet, place + SIGNED_COLUMN)
 }
 
 pub(crate) fn read_numbers(sheet: &[u8], at: usize, count: usize, out: &mut [u64]) -> bool
     requires { NumbersAsks at count out.old }
     ensures { Read (number_word sheet.now at) (count * 2) (number_lines_ok sheet.now at count) out.new result }
 {
-    let mut i: usize = 0;
-    while i < count {
+    for i in 0..count {
         if !read_number(sheet, at, i, out) {
             return false;
         }
-        i += 1;
     }
     true
 }

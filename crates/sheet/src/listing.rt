@@ -6,8 +6,10 @@ ghost use Rattle.operation.specs.Rows.{row_line};
 ghost use Rattle.columns.specs.Columns.{stored};
 ghost use Rattle.sheet.specs.Lines.{column_place, line_length};
 ghost use Rattle.sheet.specs.Listing.{four_columns, line_bytes, entry_line, entry_bytes, entries_bytes, lines_bytes};
+ghost use Rattle.sheet.specs.code.Header.{refusal_number};
 ghost use Rattle.sheet.specs.code.Post.{write_pair, entries_in, answer_lines, EntryAsks, EntriesAsks, PrintedIn, refusal_bytes};
 
+use crate::header::SheetRefusal;
 use crate::lines::COLUMN;
 use columns::write::write_column;
 use operation::row::{Row, row_from};
@@ -96,21 +98,15 @@ fn write_entries(out: &mut [u8], plan: &[u32], count: usize)
     requires { EntriesAsks out.old plan.now count }
     ensures { out.new ≡ stored out.old (line_length 4) (entries_bytes (read_entries plan.now 0 count)) }
 {
-    let mut i: usize = 0;
-    while i < count {
+    for i in 0..count {
         write_entry(out, LINE + i * ENTRY_LINE, plan, i);
-        i += 1;
     }
 }
 
 fn clear(out: &mut [u8])
     ensures { out.new ≡ replicate (length out.old) 0 }
 {
-    let mut i: usize = 0;
-    while i < out.len() {
-        out[i] = 0;
-        i += 1;
-    }
+    out.fill(0);
 }
 
 // The answer and its plan in the output, if they fit. How many bytes were written.
@@ -132,9 +128,9 @@ pub(crate) fn write_lines(out: &mut [u8], first: Row, plan: &[u32]) -> usize
 }
 
 // A refusal that has no place and no counts.
-pub(crate) fn refuse(number: u64, out: &mut [u8]) -> usize
-    ensures { PrintedIn out (refusal_bytes number) result }
+pub(crate) fn refuse(refusal: SheetRefusal, out: &mut [u8]) -> usize
+    ensures { PrintedIn out (refusal_bytes (refusal_number refusal)) result }
 {
     let no_plan = [0u32; 1];
-    write_lines(out, row_from(number, 0, 0, 0), &no_plan)
+    write_lines(out, row_from(refusal.number(), 0, 0, 0), &no_plan)
 }

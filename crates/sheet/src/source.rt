@@ -8,7 +8,6 @@ ghost use Rattle.sheet.specs.code.Header.{NumberRead, CountsRead};
 
 use crate::header::{Counts, NODE_LINE, NODES, places_of};
 use crate::lines::COLUMN;
-use columns::Column;
 use columns::read::read_column;
 
 // From a place to before another.
@@ -30,10 +29,7 @@ fn at_most(a: usize, b: usize) -> usize
 fn number_at(sheet: &[u8], at: usize) -> usize
     ensures { NumberRead (column_number sheet.now at) result }
 {
-    match read_column(sheet, at) {
-        Column::Number(n) => n as usize,
-        Column::Unreadable => 0,
-    }
+    read_column(sheet, at).unwrap_or(0) as usize
 }
 
 // What line 1 says.

@@ -1,10 +1,10 @@
 // Space for a sheet's tables and its plan. For a listing nodes and plan have two sizes, as arrays have to be cleared, which for a small sheet would take longer than all else; the plan's is made once the tables are read.
 ghost use Rattle.std.specs.Prelude.{◌≡◌, ◌*◌, ◌≤◌, length};
 ghost use Rattle.sheet.specs.Listing.{listing_of};
-ghost use Rattle.sheet.specs.code.Header.{Headed};
+ghost use Rattle.sheet.specs.code.Header.{Headed, refusal_number};
 ghost use Rattle.sheet.specs.code.Post.{scope_in, PrintedIn, TriedIn, PlannedIn, RefusedIn, SheetHeld};
 
-use crate::header::{Header, MOST_CHILDREN, MOST_NAMES, MOST_NODES, MOST_NUMBERS};
+use crate::header::{Header, MOST_CHILDREN, MOST_NAMES, MOST_NODES, MOST_NUMBERS, SheetRefusal};
 use crate::listing::{refuse, write_lines};
 use crate::tables::read_tables;
 use operation::REGO_V0;
@@ -21,13 +21,6 @@ const SMALL_PLAN_WORDS: usize = ENTRY_WORDS * 128;
 
 const SMALL_NODES: usize = 64;
 
-// What became of a listing in the small space: its bytes, or its plan needs more.
-#[derive(Clone, Copy)]
-enum Tried {
-    Listed(usize),
-    TooLarge,
-}
-
 // The scope of a sheet. A good layout has no mark above 31, so none is refused here.
 fn scope_of(marks: &[u8; 128], operation: OperationNumbers) -> Scope
     ensures { result ≡ scope_in operation marks.now }
@@ -41,11 +34,11 @@ fn scope_of(marks: &[u8; 128], operation: OperationNumbers) -> Scope
 }
 
 // A refusal that has no place and no counts.
-pub(crate) fn refuse_plan(number: u64, plan: &mut [u32]) -> Row
-    ensures { RefusedIn plan number result }
+pub(crate) fn refuse_plan(refusal: SheetRefusal, plan: &mut [u32]) -> Row
+    ensures { RefusedIn plan (refusal_number refusal) result }
 {
     clear(plan);
-    row_from(number, 0, 0, 0)
+    row_from(refusal.number(), 0, 0, 0)
 }
 
 // A sheet whose tables stand in arrays, perhaps longer than they are.
@@ -103,7 +96,7 @@ pub(crate) fn plan_headed(sheet: &[u8], header: Header, plan: &mut [u32]) -> Row
         &mut names,
         &mut marks,
     ) {
-        return refuse_plan(7, plan);
+        return refuse_plan(SheetRefusal::LayoutBroken, plan);
     }
     let scope = scope_of(&marks, header.operation);
     plan_tables(
@@ -111,6 +104,7 @@ pub(crate) fn plan_headed(sheet: &[u8], header: Header, plan: &mut [u32]) -> Row
     )
 }
 
+// Lists a sheet in the small space, if its plan needs no more.
 fn list_small(
     sheet: &[u8],
     header: Header,
@@ -120,7 +114,7 @@ fn list_small(
     names: &[u32],
     scope: Scope,
     out: &mut [u8],
-) -> Tried
+) -> Option<usize>
     requires { SheetHeld sheet.now header nodes.now children.now numbers.now names.now scope }
     ensures { TriedIn out (listing_of sheet.now) result }
 {
@@ -129,9 +123,9 @@ fn list_small(
         sheet, header, nodes, children, numbers, names, scope, &mut plan,
     );
     if first.number == 6 {
-        return Tried::TooLarge;
+        return None;
     }
-    Tried::Listed(write_lines(out, first, &plan))
+    Some(write_lines(out, first, &plan))
 }
 
 fn list_full(
@@ -172,8 +166,8 @@ fn list_tables(
         return list_full(sheet, header, nodes, children, numbers, names, scope, out);
     }
     match list_small(sheet, header, nodes, children, numbers, names, scope, out) {
-        Tried::Listed(bytes) => bytes,
-        Tried::TooLarge => list_full(sheet, header, nodes, children, numbers, names, scope, out),
+        Some(bytes) => bytes,
+        None => list_full(sheet, header, nodes, children, numbers, names, scope, out),
     }
 }
 
@@ -195,7 +189,7 @@ fn list_in(sheet: &[u8], header: Header, nodes: &mut [u32], out: &mut [u8]) -> u
         &mut names,
         &mut marks,
     ) {
-        return refuse(7, out);
+        return refuse(SheetRefusal::LayoutBroken, out);
     }
     let scope = scope_of(&marks, header.operation);
     list_tables(

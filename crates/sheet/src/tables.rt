@@ -13,10 +13,8 @@ fn close_up(rows: &mut [u32], count: usize)
     ensures { Filled (name_word rows.old) (count * 2) rows.new }
 {
     let words = count * 2;
-    let mut w: usize = 0;
-    while w < words {
+    for w in 0..words {
         rows[w] = rows[w / 2 * 3 + w % 2];
-        w += 1;
     }
 }
 
@@ -25,14 +23,12 @@ fn fill_marks(rows: &[u32], count: usize, marks: &mut [u8]) -> bool
     requires { MarksAsks rows.now count marks.old }
     ensures { MarksRead rows.now count marks.old marks.new result }
 {
-    let mut x: usize = 0;
-    while x < count {
+    for x in 0..count {
         let mark = rows[x * 3 + 2];
         if MOST_MARKS < mark {
             return false;
         }
         marks[x] = mark as u8;
-        x += 1;
     }
     true
 }

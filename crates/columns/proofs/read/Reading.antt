@@ -12,10 +12,9 @@ use lib.ListN.{length, get_or, take, drop, length-drop, drop_of_length-le}
 use lib.Seq.{drop-cons, take_all}
 use Rattle.literal.specs.Text.{value}
 use Rattle.literal.proofs.Numbers.{and_true}
-use Rattle.columns.specs.declared.decimal.Decimal.{Decimal}
-use Rattle.columns.specs.declared.decimal.Decimal.TheVariants.{Number, NoNumber}
-use Rattle.columns.specs.declared.SignedColumn.{SignedColumn}
-use Rattle.columns.specs.Columns.{after_blanks, is_digit, all_digits, is_decimal, column_bytes, signed_number, after_sign, read_signed, signed_column_at}
+use Rattle.std.specs.Prelude.{Option, Some, None}
+use Rattle.columns.specs.declared.SignedNumber.{SignedNumber}
+use Rattle.columns.specs.Columns.{after_blanks, is_digit, all_digits, is_decimal, column_bytes, by_sign, signed_number, after_sign, read_signed, signed_column_at}
 use Rattle.columns.specs.code.Decimals.{digits_number, read_decimal}
 
 -- the bytes from a place on
@@ -70,15 +69,15 @@ module _ (n b : ℕ) (ds : List ℕ) where
   unfolding digits_number all_digits value
   digit_next low high = rw (le-leb 48 b low, le-leb b 57 high)
 
-  digit_low : b < 48 → digits_number n (b ∷ ds) ≡ NoNumber
+  digit_low : b < 48 → digits_number n (b ∷ ds) ≡ None
   unfolding digits_number all_digits value
   digit_low low = rw (lt-leb 48 b low)
 
-  digit_high : 48 ≤ b → 57 < b → digits_number n (b ∷ ds) ≡ NoNumber
+  digit_high : 48 ≤ b → 57 < b → digits_number n (b ∷ ds) ≡ None
   unfolding digits_number all_digits value
   digit_high low high = rw (le-leb 48 b low, lt-leb b 57 high)
 
-  digit_past : 18446744073709551615 < n * 10 + (b - 48) → digits_number n (b ∷ ds) ≡ NoNumber
+  digit_past : 18446744073709551615 < n * 10 + (b - 48) → digits_number n (b ∷ ds) ≡ None
   unfolding digits_number value
   digit_past past =
       let above = value_above (n * 10 + (b - 48)) ds in
@@ -89,16 +88,16 @@ module _ {bytes : List ℕ} {n i : ℕ} (r : Reading bytes n i) where
     here : digits_number n (get_or bytes i 0 ∷ drop (i + 1) bytes) ≡ digits_number 0 bytes
     here = rw (drop_here bytes i lt) at r.same
 
-    pub reading_low : get_or bytes i 0 < 48 → NoNumber ≡ digits_number 0 bytes
+    pub reading_low : get_or bytes i 0 < 48 → None ≡ digits_number 0 bytes
     reading_low low = sym (digit_low n (get_or bytes i 0) (drop (i + 1) bytes) low) ∙ here
 
-    pub reading_high : 48 ≤ get_or bytes i 0 → 57 < get_or bytes i 0 → NoNumber ≡ digits_number 0 bytes
+    pub reading_high : 48 ≤ get_or bytes i 0 → 57 < get_or bytes i 0 → None ≡ digits_number 0 bytes
     reading_high low high = sym (digit_high n (get_or bytes i 0) (drop (i + 1) bytes) low high) ∙ here
 
-    pub reading_past : 1844674407370955161 < n → NoNumber ≡ digits_number 0 bytes
+    pub reading_past : 1844674407370955161 < n → None ≡ digits_number 0 bytes
     reading_past past = sym (digit_past n (get_or bytes i 0) (drop (i + 1) bytes) (omega arith)) ∙ here
 
-    pub reading_large : n ≤ 1844674407370955161 → 18446744073709551615 - n * 10 < get_or bytes i 0 - 48 → NoNumber ≡ digits_number 0 bytes
+    pub reading_large : n ≤ 1844674407370955161 → 18446744073709551615 - n * 10 < get_or bytes i 0 - 48 → None ≡ digits_number 0 bytes
     reading_large tens past = sym (digit_past n (get_or bytes i 0) (drop (i + 1) bytes) (omega arith)) ∙ here
 
     pub reading_on : 48 ≤ get_or bytes i 0 → get_or bytes i 0 ≤ 57 → n ≤ 1844674407370955161 → get_or bytes i 0 - 48 ≤ 18446744073709551615 - n * 10
@@ -113,27 +112,27 @@ module _ {bytes : List ℕ} {n i : ℕ} (r : Reading bytes n i) where
     all_read : digits_number n [] ≡ digits_number 0 bytes
     all_read = let e : drop i bytes ≡ [] = drop_of_length-le bytes le in rw e at r.same
 
-    pub reading_ends : Number n ≡ digits_number 0 bytes
+    pub reading_ends : Some n ≡ digits_number 0 bytes
     unfolding digits_number all_digits value
     reading_ends = rw (lt-ltb n (2 ^ 64) r.small) at all_read
 
 -- the whole decimal form
 module _ (bytes : List ℕ) where
-  pub decimal_empty : length bytes ≡ 0 → NoNumber ≡ read_decimal bytes
+  pub decimal_empty : length bytes ≡ 0 → None ≡ read_decimal bytes
   unfolding read_decimal is_decimal
   decimal_empty e = rw e
 
-  pub decimal_one : {r : Decimal} → length bytes ≡ 1 → r ≡ digits_number 0 bytes → r ≡ read_decimal bytes
+  pub decimal_one : {r : Option ℕ} → length bytes ≡ 1 → r ≡ digits_number 0 bytes → r ≡ read_decimal bytes
   unfolding read_decimal is_decimal digits_number
   decimal_one one e = rw one e
 
   module _ (some : length bytes ≡ 0 → ⊥) (more : length bytes ≡ 1 → ⊥) where
-    pub decimal_zero : get_or bytes 0 0 ≡ 48 → NoNumber ≡ read_decimal bytes
+    pub decimal_zero : get_or bytes 0 0 ≡ 48 → None ≡ read_decimal bytes
     unfolding read_decimal is_decimal
     decimal_zero e =
         rw (lt-ltb 0 (length bytes) (omega arith), lt-ltb 1 (length bytes) (omega arith), eq-eqb (get_or bytes 0 0) 48 e)
 
-    pub decimal_more : {r : Decimal} → (get_or bytes 0 0 ≡ 48 → ⊥) → r ≡ digits_number 0 bytes → r ≡ read_decimal bytes
+    pub decimal_more : {r : Option ℕ} → (get_or bytes 0 0 ≡ 48 → ⊥) → r ≡ digits_number 0 bytes → r ≡ read_decimal bytes
     unfolding read_decimal is_decimal digits_number
     decimal_more other e =
         rw (lt-ltb 0 (length bytes) (omega arith), lt-ltb 1 (length bytes) (omega arith), ne_eqb (get_or bytes 0 0) 48 other) e
@@ -144,22 +143,22 @@ pub record ReadAs (ds : List ℕ) (n : ℕ) : Type 0 where
   pub is : value 0 ds ≡ n
   pub few : ltb (value 0 ds) (2 ^ 64) ≡ true
 
-pub read_as : (ds : List ℕ) (n : ℕ) → read_decimal ds ≡ Number n → ReadAs ds n
+pub read_as : (ds : List ℕ) (n : ℕ) → read_decimal ds ≡ Some n → ReadAs ds n
 unfolding read_decimal
 read_as ds n e = go (is_decimal ds) (ltb (value 0 ds) (2 ^ 64)) refl refl e
   where
-    go : (a b : Bool) → is_decimal ds ≡ a → ltb (value 0 ds) (2 ^ 64) ≡ b → cond (a && b) (Number (value 0 ds)) NoNumber ≡ Number n → ReadAs ds n
+    go : (a b : Bool) → is_decimal ds ≡ a → ltb (value 0 ds) (2 ^ 64) ≡ b → cond (a && b) (Some (value 0 ds)) None ≡ Some n → ReadAs ds n
     go true true p q f =
         let same : value 0 ds ≡ n = cc in
         record { form = p; is = same; few = q }
     go true false p q f = let z : ◌≡◌ {A = ℕ} 0 1 = cc in absurd (omega arith)
     go false b p q f = let z : ◌≡◌ {A = ℕ} 0 1 = cc in absurd (omega arith)
 
-pub read_not : (ds : List ℕ) → read_decimal ds ≡ NoNumber → (is_decimal ds && ltb (value 0 ds) (2 ^ 64)) ≡ false
+pub read_not : (ds : List ℕ) → read_decimal ds ≡ None → (is_decimal ds && ltb (value 0 ds) (2 ^ 64)) ≡ false
 unfolding read_decimal
 read_not ds e = go (is_decimal ds && ltb (value 0 ds) (2 ^ 64)) e
   where
-    go : (b : Bool) → cond b (Number (value 0 ds)) NoNumber ≡ NoNumber → b ≡ false
+    go : (b : Bool) → cond b (Some (value 0 ds)) None ≡ None → b ≡ false
     go true f = let z : ◌≡◌ {A = ℕ} 0 1 = cc in absurd (omega arith)
     go false f = refl
 
@@ -205,14 +204,14 @@ decimal_below m ds form le =
     value_below 0 0 m ds all (omega arith) (omega arith)
 
 -- columns of twenty
-module _ (below : ℕ) (ds : List ℕ) {d : Decimal} (is : d ≡ read_decimal ds) where
-  pub signed_number_lem : {n : ℕ} → d ≡ Number n → SignedColumn.Number below n ≡ signed_number below ds
+module _ (below : ℕ) (ds : List ℕ) {d : Option ℕ} (is : d ≡ read_decimal ds) where
+  pub signed_number_lem : {n : ℕ} → d ≡ Some n → Some (by_sign below n) ≡ signed_number below ds
   unfolding signed_number
   signed_number_lem {n} e =
       let r = read_as ds n (sym is ∙ e) in
       rw (r.form, r.few, r.is)
 
-  pub signed_none : d ≡ NoNumber → SignedColumn.Unreadable ≡ signed_number below ds
+  pub signed_none : d ≡ None → None ≡ signed_number below ds
   unfolding signed_number
   signed_none e = rw (read_not ds (sym is ∙ e))
 
@@ -220,18 +219,18 @@ module _ (bytes : List ℕ) (at : ℕ) {column number : List ℕ} (fours : List 
   is_number : number ≡ after_blanks (column_bytes bytes at 20)
   is_number = rw there at (skipped ∙ same)
 
-  pub twenty_empty : length number ≡ 0 → SignedColumn.Unreadable ≡ signed_column_at bytes at
+  pub twenty_empty : length number ≡ 0 → None ≡ signed_column_at bytes at
   unfolding read_signed signed_number is_decimal
   twenty_empty e = rw (← is_number) (go number e)
     where
-      go : (ds : List ℕ) → length ds ≡ 0 → SignedColumn.Unreadable ≡ after_sign (eqb (get_or ds 0 0) 45) ds
+      go : (ds : List ℕ) → length ds ≡ 0 → None ≡ after_sign (eqb (get_or ds 0 0) 45) ds
       go [] e = refl
       go (d ∷ ds) e = absurd (omega arith)
 
-  pub twenty_minus : {r : SignedColumn} → get_or number 0 0 ≡ 45 → r ≡ signed_number 1 (take (length number - 1) (drop 1 number)) → r ≡ signed_column_at bytes at
+  pub twenty_minus : {r : Option SignedNumber} → get_or number 0 0 ≡ 45 → r ≡ signed_number 1 (take (length number - 1) (drop 1 number)) → r ≡ signed_column_at bytes at
   unfolding read_signed
   twenty_minus minus e = rw (← is_number, eq-eqb (get_or number 0 0) 45 minus) (e ∙ ap (signed_number 1) (rest_whole number 1))
 
-  pub twenty_plain : {r : SignedColumn} → (get_or number 0 0 ≡ 45 → ⊥) → r ≡ signed_number 0 number → r ≡ signed_column_at bytes at
+  pub twenty_plain : {r : Option SignedNumber} → (get_or number 0 0 ≡ 45 → ⊥) → r ≡ signed_number 0 number → r ≡ signed_column_at bytes at
   unfolding read_signed
   twenty_plain plain e = rw (← is_number, ne_eqb (get_or number 0 0) 45 plain) e

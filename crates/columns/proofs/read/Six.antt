@@ -1,5 +1,5 @@
 -- Columns of six, as the code reads them.
-use Prim.Native.Nat.{ℕ, ◌+◌, ◌-◌, ◌*◌, ◌^◌, ◌<◌, ◌≤◌}
+use Prim.Native.Nat.{ℕ, ◌+◌, ◌-◌, ◌*◌, ◌/◌, ◌^◌, ◌<◌, ◌≤◌}
 use mathlib.Core.Bool.{Bool, true, false, cond, not, ◌&&◌, and-false}
 use mathlib.Core.List.{List, [], ◌∷◌}
 use mathlib.Core.Path.{◌≡◌, refl, sym, ap, ◌∙◌}
@@ -12,11 +12,9 @@ use mir.Syntax.{w8, w32}
 use mir.Val.{Fits}
 use Rattle.literal.specs.Text.{value}
 use Rattle.literal.proofs.Numbers.{and_true}
-use Rattle.columns.specs.declared.decimal.Decimal.{Decimal}
-use Rattle.columns.specs.declared.decimal.Decimal.TheVariants.{Number, NoNumber}
-use Rattle.columns.specs.declared.Column.{Column}
+use Rattle.std.specs.Prelude.{Option, Some, None}
 use Rattle.columns.specs.Columns.{after_blanks, is_digit, all_digits, is_decimal, decimal_number, read_column, six_column, column_bytes, column_at}
-use Rattle.columns.specs.code.Decimals.{read_decimal, are_blank, column_word}
+use Rattle.columns.specs.code.Decimals.{read_decimal, are_blank}
 use Rattle.columns.proofs.read.Reading.{Skipping, skip_on, rest_whole, read_as, read_not, column_there, blanks_few, decimal_below}
 
 -- four blanks as one number
@@ -46,8 +44,8 @@ blanks_all a b c d told blank =
 
 -- Blanks by fours.
 module _ {bytes : List ℕ} {i : ℕ} (s : Skipping bytes i) where
-  pub fours_on : {t : Bool} → 4 ≤ length bytes - i → t ≡ are_blank (get_or bytes i 0) (get_or bytes (i + 1) 0) (get_or bytes (i + 2) 0) (get_or bytes (i + 3) 0) → not t ≡ false → Skipping bytes (i + 4)
-  fours_on {t} room told blank =
+  four_on : {t : Bool} → 4 ≤ length bytes - i → t ≡ are_blank (get_or bytes i 0) (get_or bytes (i + 1) 0) (get_or bytes (i + 2) 0) (get_or bytes (i + 3) 0) → not t ≡ false → Skipping bytes (i + 4)
+  four_on {t} room told blank =
       let all = blanks_all (get_or bytes i 0) (get_or bytes (i + 1) 0) (get_or bytes (i + 2) 0) (get_or bytes (i + 3) 0) told (not-false t blank) in
       let one = skip_on s (omega arith) (eqb-true (get_or bytes i 0) 32 all.0) in
       let two = skip_on one (omega arith) (eqb-true (get_or bytes (i + 1) 0) 32 all.1) in
@@ -61,77 +59,83 @@ module _ {bytes : List ℕ} {i : ℕ} (s : Skipping bytes i) where
   pub fours_rest : after_blanks (take (length bytes - i) (drop i bytes)) ≡ after_blanks bytes
   fours_rest = rw (rest_whole bytes i) s.same
 
+pub fours_on : {bytes : List ℕ} {k : ℕ} {t : Bool} → Skipping bytes (k * 4) → k < length bytes / 4
+    → t ≡ are_blank (get_or bytes (k * 4) 0) (get_or bytes (k * 4 + 1) 0) (get_or bytes (k * 4 + 2) 0) (get_or bytes (k * 4 + 3) 0) → not t ≡ false → Skipping bytes ((k + 1) * 4)
+fours_on {k = k} s lt told blank =
+    let e : (k + 1) * 4 ≡ k * 4 + 4 = omega arith in
+    rw e (four_on s (omega arith) told blank)
+
 -- two digits, or a blank and one
 module _ (t u : ℕ) where
-  units_none : is_digit u ≡ false → 1000000 ≡ column_word (read_column (t ∷ u ∷ []))
+  units_none : is_digit u ≡ false → None ≡ read_column (t ∷ u ∷ [])
   unfolding read_column after_blanks is_decimal all_digits
   units_none other = go (eqb t 32) (eqb u 32)
     where
-      go : (p q : Bool) → 1000000 ≡ column_word (decimal_number (cond p (cond q [] (u ∷ [])) (t ∷ u ∷ [])))
+      go : (p q : Bool) → None ≡ decimal_number (cond p (cond q [] (u ∷ [])) (t ∷ u ∷ []))
       go true true = refl
       go true false = simp other
       go false q = simp (other, and-false)
 
-  pub units_low : u < 48 → 1000000 ≡ column_word (read_column (t ∷ u ∷ []))
+  pub units_low : u < 48 → None ≡ read_column (t ∷ u ∷ [])
   units_low h = units_none (rw (lt-leb 48 u h))
 
-  pub units_high : 57 < u → 1000000 ≡ column_word (read_column (t ∷ u ∷ []))
+  pub units_high : 57 < u → None ≡ read_column (t ∷ u ∷ [])
   units_high h = units_none (rw (lt-leb u 57 h, and-false))
 
   module _ (low : 48 ≤ u) (high : u ≤ 57) where
-    pub one_digit : t ≡ 32 → u - 48 ≡ column_word (read_column (t ∷ u ∷ []))
+    pub one_digit : t ≡ 32 → Some (u - 48) ≡ read_column (t ∷ u ∷ [])
     unfolding read_column after_blanks is_decimal all_digits value
     one_digit blank =
         let z : 0 * 10 + (u - 48) ≡ u - 48 = omega arith in
         rw (blank, ne_eqb u 32 (λ e. omega arith), le-leb 48 u low, le-leb u 57 high, z)
 
     module _ (other : t ≡ 32 → ⊥) where
-      pub tens_low : t < 49 → 1000000 ≡ column_word (read_column (t ∷ u ∷ []))
+      pub tens_low : t < 49 → None ≡ read_column (t ∷ u ∷ [])
       unfolding read_column after_blanks is_decimal all_digits
       tens_low h = rw (ne_eqb t 32 other) (go (eqb t 48) refl)
         where
-          go : (z : Bool) → eqb t 48 ≡ z → 1000000 ≡ column_word (cond (not z && (is_digit t && (is_digit u && true))) (Column.Number (value 0 (t ∷ u ∷ []))) Column.Unreadable)
+          go : (z : Bool) → eqb t 48 ≡ z → None ≡ cond (not z && (is_digit t && (is_digit u && true))) (Some (value 0 (t ∷ u ∷ []))) None
           go true e = refl
           go false e = rw (lt-leb 48 t (omega (arith, eqb-false t 48 e)))
 
-      pub tens_high : 57 < t → 1000000 ≡ column_word (read_column (t ∷ u ∷ []))
+      pub tens_high : 57 < t → None ≡ read_column (t ∷ u ∷ [])
       unfolding read_column after_blanks is_decimal all_digits
       tens_high h = rw (ne_eqb t 32 other, ne_eqb t 48 (λ e. omega arith), lt-leb t 57 h, and-false (leb 48 t))
 
-      pub two_digits : 49 ≤ t → t ≤ 57 → (t - 48) * 10 + (u - 48) ≡ column_word (read_column (t ∷ u ∷ []))
+      pub two_digits : 49 ≤ t → t ≤ 57 → Some ((t - 48) * 10 + (u - 48)) ≡ read_column (t ∷ u ∷ [])
       unfolding read_column after_blanks is_decimal all_digits value
       two_digits l h =
           let z : 0 * 10 + (t - 48) ≡ t - 48 = omega arith in
           rw (ne_eqb t 32 other, ne_eqb t 48 (λ e. omega arith), le-leb 48 t (omega arith), le-leb t 57 h, le-leb 48 u low, le-leb u 57 high, z)
 
 -- any number of digits
-module _ (bytes : List ℕ) {ds : List ℕ} {d : Decimal} (few : length bytes ≤ 6) (skipped : ds ≡ after_blanks bytes) (read : d ≡ read_decimal ds) where
+module _ (bytes : List ℕ) {ds : List ℕ} {d : Option ℕ} (few : length bytes ≤ 6) (skipped : ds ≡ after_blanks bytes) (read : d ≡ read_decimal ds) where
   is : d ≡ read_decimal (after_blanks bytes)
   is = rw skipped at read
 
   few_digits : length (after_blanks bytes) ≤ 6
   few_digits = omega (arith, blanks_few bytes)
 
-  pub six_number : {n : ℕ} → d ≡ Number n → n ≡ column_word (read_column bytes)
+  pub six_number : {n : ℕ} → d ≡ Some n → Some n ≡ read_column bytes
   unfolding read_column
   six_number {n} e =
       let r = read_as (after_blanks bytes) n (sym is ∙ e) in
       rw (r.form, r.is)
 
-  pub six_small : {n : ℕ} → d ≡ Number n → Fits w32 n
+  pub six_small : {n : ℕ} → d ≡ Some n → Fits w32 n
   six_small {n} e =
       let r = read_as (after_blanks bytes) n (sym is ∙ e) in
       let b = decimal_below 6 (after_blanks bytes) r.form few_digits in
       let i = r.is in
       record { fits = omega arith }
 
-  pub six_none : d ≡ NoNumber → 1000000 ≡ column_word (read_column bytes)
+  pub six_none : d ≡ None → None ≡ read_column bytes
   unfolding read_column
   six_none e = go (is_decimal (after_blanks bytes)) refl (read_not (after_blanks bytes) (sym is ∙ e))
     where
       go : (b : Bool) → is_decimal (after_blanks bytes) ≡ b
           → (b && ltb (value 0 (after_blanks bytes)) (2 ^ 64)) ≡ false
-          → 1000000 ≡ column_word (cond b (Column.Number (value 0 (after_blanks bytes))) Column.Unreadable)
+          → None ≡ cond b (Some (value 0 (after_blanks bytes))) None
       go true form missing =
           let b = decimal_below 6 (after_blanks bytes) form few_digits in
           absurd (omega (arith, ltb-false (value 0 (after_blanks bytes)) (2 ^ 64) missing))
@@ -148,44 +152,20 @@ six_bytes (a ∷ b ∷ c ∷ d ∷ []) long = absurd (omega arith)
 six_bytes (a ∷ b ∷ c ∷ d ∷ e ∷ []) long = absurd (omega arith)
 six_bytes (a ∷ b ∷ c ∷ d ∷ e ∷ f ∷ g ∷ more) long = absurd (omega arith)
 
-pub column_two : (bytes : List ℕ) {t : Bool} {r : ℕ} → length bytes ≡ 6 → t ≡ are_blank (get_or bytes 0 0) (get_or bytes 1 0) (get_or bytes 2 0) (get_or bytes 3 0) → t ≡ true
-    → r ≡ column_word (read_column (get_or bytes 4 0 ∷ get_or bytes 5 0 ∷ [])) → r ≡ column_word (read_column bytes)
+pub column_six : (bytes : List ℕ) {r : Option ℕ} → length bytes ≡ 6 → r ≡ read_column bytes → r ≡ six_column bytes
+column_six bytes long is = rw (eq-eqb (length bytes) 6 long) is
+
+pub column_two : (bytes : List ℕ) {t : Bool} {r : Option ℕ} → length bytes ≡ 6 → t ≡ are_blank (get_or bytes 0 0) (get_or bytes 1 0) (get_or bytes 2 0) (get_or bytes 3 0) → t ≡ true
+    → r ≡ read_column (get_or bytes 4 0 ∷ get_or bytes 5 0 ∷ []) → r ≡ six_column bytes
 unfolding read_column after_blanks
 column_two bytes long told blank read =
     let all = blanks_all (get_or bytes 0 0) (get_or bytes 1 0) (get_or bytes 2 0) (get_or bytes 3 0) told blank in
     let six : List ℕ = get_or bytes 0 0 ∷ get_or bytes 1 0 ∷ get_or bytes 2 0 ∷ get_or bytes 3 0 ∷ get_or bytes 4 0 ∷ get_or bytes 5 0 ∷ [] in
-    let e : column_word (read_column six) ≡ column_word (read_column (get_or bytes 4 0 ∷ get_or bytes 5 0 ∷ [])) = rw (all.0, all.1, all.2, all.3) refl in
-    read ∙ (sym e ∙ ap (λ (l : List ℕ). column_word (read_column l)) (sym (six_bytes bytes long)))
+    let e : read_column six ≡ read_column (get_or bytes 4 0 ∷ get_or bytes 5 0 ∷ []) = rw (all.0, all.1, all.2, all.3) refl in
+    column_six bytes long (read ∙ (sym e ∙ ap read_column (sym (six_bytes bytes long))))
 
--- the word of a column
-column_below : (bytes : List ℕ) (n : ℕ) → length bytes ≤ 6 → read_column bytes ≡ Column.Number n → n < 1000000
-unfolding read_column
-column_below bytes n few e = go (is_decimal (after_blanks bytes)) refl e
-  where
-    go : (b : Bool) → is_decimal (after_blanks bytes) ≡ b → cond b (Column.Number (value 0 (after_blanks bytes))) Column.Unreadable ≡ Column.Number n → n < 1000000
-    go true form f =
-        let same : value 0 (after_blanks bytes) ≡ n = cc in
-        let b = decimal_below 6 (after_blanks bytes) form (omega (arith, blanks_few bytes)) in
-        omega arith
-    go false form f = let z : ◌≡◌ {A = ℕ} 0 1 = cc in absurd (omega arith)
-
-pub not_six : (bytes : List ℕ) → (length bytes ≡ 6 → ⊥) → Column.Unreadable ≡ six_column bytes
+pub not_six : (bytes : List ℕ) → (length bytes ≡ 6 → ⊥) → None ≡ six_column bytes
 not_six bytes h = simp (ne_eqb (length bytes) 6 h)
-
-module _ (bytes : List ℕ) (long : length bytes ≡ 6) {word : ℕ} (is : word ≡ column_word (read_column bytes)) where
-  pub word_number : word < 1000000 → Column.Number word ≡ six_column bytes
-  word_number lt = rw (eq-eqb (length bytes) 6 long) (go (read_column bytes) is)
-    where
-      go : (c : Column) → word ≡ column_word c → Column.Number word ≡ c
-      go (Column.Number n) e = ap Column.Number e
-      go Column.Unreadable e = absurd (omega arith)
-
-  pub word_none : 1000000 ≤ word → Column.Unreadable ≡ six_column bytes
-  word_none le = rw (eq-eqb (length bytes) 6 long) (go (read_column bytes) is refl)
-    where
-      go : (c : Column) → word ≡ column_word c → read_column bytes ≡ c → Column.Unreadable ≡ c
-      go (Column.Number n) e f = absurd (omega (arith, column_below bytes n (omega arith) f))
-      go Column.Unreadable e f = refl
 
 -- the column at a place
 module _ (bytes : List ℕ) (at : ℕ) where
@@ -199,8 +179,8 @@ module _ (bytes : List ℕ) (at : ℕ) where
           rw (e, eq-eqb (length (take 6 (drop at bytes))) 6 long)
       go false e = rw e
 
-  pub column_found : {six : List ℕ} {r : Column} → six ≡ column_bytes bytes at 6 → r ≡ six_column six → r ≡ column_at bytes at
+  pub column_found : {six : List ℕ} {r : Option ℕ} → six ≡ column_bytes bytes at 6 → r ≡ six_column six → r ≡ column_at bytes at
   column_found there is = rw there at is ∙ whole_column
 
-  pub column_inside : at + 6 ≤ length bytes → {r : Column} → r ≡ six_column (take ((at + 6) - at) (drop at bytes)) → r ≡ column_at bytes at
+  pub column_inside : at + 6 ≤ length bytes → {r : Option ℕ} → r ≡ six_column (take ((at + 6) - at) (drop at bytes)) → r ≡ column_at bytes at
   column_inside inside is = column_found (column_there bytes at 6 (omega arith) (omega arith)) is

@@ -7,7 +7,8 @@ use native.Mathlib.Numerals.{add-one}
 use native.Mathlib.Omega.{arith}
 use borrow.Author.Tests.{lt-leb, le-leb, ne_eqb}
 use lib.ListN.{length, take, drop, set, replicate, length-set, length-append, length-replicate, length-drop, take-append-drop, replicate-append-replicate}
-use lib.Seq.{drop-cons, drop-set-lt, take-set-le, get_or-set_same, drop-append-le, drop-append_seam}
+use borrow.Rule.Slice.PartMut.{put_mid}
+use lib.Seq.{length-take-le, drop-drop, drop-cons, drop-set-lt, take-set-le, get_or-set_same, drop-append-le, drop-append_seam}
 use Rattle.literal.specs.Text.{digit, digits, decimal}
 use Rattle.literal.proofs.Decimals.{digits_one, digits_more, few_or_more, below_tenth, length_more}
 use Rattle.columns.specs.Columns.{justified, stored, column_stored}
@@ -123,8 +124,14 @@ module _ {out₀ : List ℕ} {at above : ℕ} {out : List ℕ} {left rest : ℕ}
   unfolding write_rest
   writing_ends h = let e : left ≡ 0 = omega arith in rw e at w.same
 
-pub blank_on : {out₀ : List ℕ} {at : ℕ} {out : List ℕ} {left : ℕ} → Writing out₀ at 0 out left 0 → 0 < left → Writing out₀ at 0 (set out (at + (left - 1)) 32) (left - 1) 0
-blank_on w h = writing_on w h refl
+-- five blanks at once
+pub blanks_written : (out : List ℕ) (at : ℕ) {five : List ℕ} → at + 5 ≤ length out → five ≡ replicate (length (take ((at + 5) - at) (drop at out))) 32
+    → put_mid at ((at + 5) - at) out five ≡ write_rest out at 5 0
+blanks_written out at {five} room is =
+    let k : (at + 5) - at ≡ 5 = omega arith in
+    let n : length (take 5 (drop at out)) ≡ 5 = length-take-le 5 (drop at out) (omega (arith, length-drop at out)) in
+    let blanks : five ≡ padded 5 0 = rw (k, n) at is ∙ sym (padded_blank 5) in
+    rw (k, blanks, drop-drop 5 at out) (sym (written_rest out at 5 0 room))
 
 -- the last digit first, then what is left
 module _ (out : List ℕ) (at n : ℕ) where

@@ -12,8 +12,7 @@ use Rattle.table.proofs.tests.Bools.{never}
 use Rattle.planner.specs.Layout.{entry_words}
 use Rattle.planner.specs.Entries.{read_entries}
 use Rattle.planner.proofs.buffer.ReadBack.{length_read}
-use Rattle.plan_store.specs.declared.head.Room.{Room}
-use Rattle.plan_store.specs.declared.head.Room.TheVariants as Room
+use Rattle.std.specs.Prelude.{Option, Some, None, is_some}
 use Rattle.plan_store.specs.Store.{capacity, most_packs, Pack, pack, share_of, used, Store, total, shares_total, beyond, common_used, free_common, shares_ok}
 use Rattle.plan_store.specs.Words.{store_words, read_packs, store_of, is_sound, is_store}
 use Rattle.plan_store.specs.code.Head.{room_in, share_at, used_at, head_sum, taken}
@@ -87,15 +86,15 @@ store_test ws sized few =
     rw (eq-eqb (length ws) store_words sized, long_packs ws, le-leb (get_or ws 0 0) most_packs few, all_taken ws)
     (both_fit (shares_total (store_of ws)) (common_used (store_of ws)) capacity)
 
-no_room : (ws : List ℕ) → is_store ws ≡ false → Room.NoStore ≡ room_in ws
+no_room : (ws : List ℕ) → is_store ws ≡ false → None ≡ room_in ws
 unfolding room_in
 no_room ws not = rw not
 
-pub room_sized : (ws : List ℕ) → (length ws ≡ store_words → ⊥) → Room.NoStore ≡ room_in ws
+pub room_sized : (ws : List ℕ) → (length ws ≡ store_words → ⊥) → None ≡ room_in ws
 unfolding is_store
 room_sized ws other = no_room ws (rw (ne_eqb (length ws) store_words other))
 
-pub room_packs : (ws : List ℕ) {packs : ℕ} → packs ≡ get_or ws 0 0 → most_packs < packs → Room.NoStore ≡ room_in ws
+pub room_packs : (ws : List ℕ) {packs : ℕ} → packs ≡ get_or ws 0 0 → most_packs < packs → None ≡ room_in ws
 unfolding is_store is_sound shares_ok
 room_packs ws {packs} all many = no_room ws (rw (long_packs ws, ← all, lt-leb packs most_packs many) (and-false (eqb (length ws) store_words)))
 
@@ -121,14 +120,14 @@ module _ {ws : List ℕ} {packs i left : ℕ} (l : Leaving ws packs i left) wher
       let f = l.fits in
       record { sized = l.sized; all = l.all; few = l.few; inside = omega arith; fits = omega arith; same = omega arith }
 
-  pub leaving_fails : {takes : ℕ} → takes ≡ taken (share_at ws i) (used_at ws i) → i < packs → left < takes → Room.NoStore ≡ room_in ws
+  pub leaving_fails : {takes : ℕ} → takes ≡ taken (share_at ws i) (used_at ws i) → i < packs → left < takes → None ≡ room_in ws
   leaving_fails e lt over =
       let n = sum_next taken ws i packs lt in
       let s = l.same in
       let f = l.fits in
       no_room ws (store_test ws l.sized (rw (← l.all) l.few) ∙ rw (← l.all) (lt-leb (head_sum taken ws 0 packs) capacity (omega arith)))
 
-  pub leaving_ends : packs ≤ i → Room.Common left ≡ room_in ws
+  pub leaving_ends : packs ≤ i → Some left ≡ room_in ws
   unfolding room_in
   leaving_ends le =
       let n = sum_none taken ws i packs le in
@@ -185,24 +184,31 @@ module _ {shares : List ℕ} {i left : ℕ} (s : Sharing shares i left) where
       rw (le-leb (length shares) most_packs s.few, le-leb (total shares) capacity (omega arith))
 
 -- what a pass has told
-module _ (ws : List ℕ) {r : Room} (told : r ≡ room_in ws) where
-  room_is : (b : Bool) → is_store ws ≡ b → r ≡ cond b (Room.Common (free_common (store_of ws))) Room.NoStore
+module _ (ws : List ℕ) {r : Option ℕ} (told : r ≡ room_in ws) where
+  room_is : (b : Bool) → is_store ws ≡ b → r ≡ cond b (Some (free_common (store_of ws))) None
   unfolding room_in
-  room_is b e = told ∙ ap (λ (c : Bool). cond c (Room.Common (free_common (store_of ws))) Room.NoStore) e
+  room_is b e = told ∙ ap (λ (c : Bool). cond c (Some (free_common (store_of ws))) None) e
 
-  pub room_some : {left : ℕ} → r ≡ Room.Common left → true ≡ is_store ws
+  pub room_some : {left : ℕ} → r ≡ Some left → true ≡ is_store ws
   room_some {left} e = go (is_store ws) refl
     where
       go : (b : Bool) → is_store ws ≡ b → true ≡ is_store ws
       go true p = sym p
-      go false p = let q : Room.NoStore ≡ Room.Common left = sym (room_is false p) ∙ e in never (cc)
+      go false p = let q : None ≡ Some left = sym (room_is false p) ∙ e in never (cc)
 
-  pub room_left : {left : ℕ} → r ≡ Room.Common left → left ≡ free_common (store_of ws)
-  room_left {left} e = let q : Room.Common left ≡ Room.Common (free_common (store_of ws)) = sym e ∙ room_is true (sym (room_some e)) in cc
+  pub room_left : {left : ℕ} → r ≡ Some left → left ≡ free_common (store_of ws)
+  room_left {left} e = let q : Some left ≡ Some (free_common (store_of ws)) = sym e ∙ room_is true (sym (room_some e)) in cc
 
-  pub room_none : r ≡ Room.NoStore → false ≡ is_store ws
+  pub room_none : r ≡ None → false ≡ is_store ws
   room_none e = go (is_store ws) refl
     where
       go : (b : Bool) → is_store ws ≡ b → false ≡ is_store ws
-      go true p = let q : Room.Common (free_common (store_of ws)) ≡ Room.NoStore = sym (room_is true p) ∙ e in never (cc)
+      go true p = let q : Some (free_common (store_of ws)) ≡ None = sym (room_is true p) ∙ e in never (cc)
       go false p = sym p
+
+  pub room_told : is_some r ≡ is_store ws
+  room_told = go (is_store ws) refl
+    where
+      go : (b : Bool) → is_store ws ≡ b → is_some r ≡ is_store ws
+      go true p = ap is_some (room_is true p) ∙ sym p
+      go false p = ap is_some (room_is false p) ∙ sym p

@@ -3,35 +3,35 @@ use mathlib.Core.Path.{◌≡◌, refl, sym, ap, ◌∙◌}
 use lib.Dec.{eqb}
 use mathlib.Core.Bool.{cond}
 use Rattle.base.specs.Refusal.{Line}
-use Rattle.plan_store.specs.declared.SetUpAnswer.{SetUpAnswer}
-use Rattle.plan_store.specs.declared.SetUpAnswer.TheVariants as SetUpAnswer
-use Rattle.plan_store.specs.declared.KeepAnswer.{KeepAnswer}
-use Rattle.plan_store.specs.declared.KeepAnswer.TheVariants as KeepAnswer
-use Rattle.plan_store.specs.declared.EmptyAnswer.{EmptyAnswer}
-use Rattle.plan_store.specs.declared.EmptyAnswer.TheVariants as EmptyAnswer
+use Rattle.std.specs.Prelude.{ℕ, Result, Ok, Err}
+use Rattle.plan_store.specs.declared.SharesRefused.{SharesRefused}
+use Rattle.plan_store.specs.declared.StoreRefused.{StoreRefused}
 use Rattle.plan_store.specs.Calls.{set_up_numbers, keep_numbers, empty_numbers, StoreAnswerLaws}
 
 -- each answer is read back from its numbers
-abbrev set_up_in : Line → SetUpAnswer
-set_up_in l = cond (eqb l.number 0) SetUpAnswer.Ready SetUpAnswer.Refused
+abbrev answer_in : {A E : Type 0} → A → E → Line → Result A E
+answer_in done refused l = cond (eqb l.number 0) (Ok done) (Err refused)
 
-abbrev keep_in : Line → KeepAnswer
-keep_in l = cond (eqb l.number 0) (KeepAnswer.Kept l.second) KeepAnswer.Refused
+abbrev set_up_in : Line → Result Unit SharesRefused
+set_up_in l = answer_in tt (record {}) l
 
-abbrev empty_in : Line → EmptyAnswer
-empty_in l = cond (eqb l.number 0) EmptyAnswer.Emptied EmptyAnswer.Refused
+abbrev keep_in : Line → Result ℕ StoreRefused
+keep_in l = answer_in l.second (record {}) l
 
-set_up_back : (r : SetUpAnswer) → set_up_in (set_up_numbers r) ≡ r
-set_up_back SetUpAnswer.Ready = refl
-set_up_back SetUpAnswer.Refused = refl
+abbrev empty_in : Line → Result Unit StoreRefused
+empty_in l = answer_in tt (record {}) l
 
-keep_back : (r : KeepAnswer) → keep_in (keep_numbers r) ≡ r
-keep_back (KeepAnswer.Kept place) = refl
-keep_back KeepAnswer.Refused = refl
+set_up_back : (r : Result Unit SharesRefused) → set_up_in (set_up_numbers r) ≡ r
+set_up_back (Ok done) = refl
+set_up_back (Err e) = refl
 
-empty_back : (r : EmptyAnswer) → empty_in (empty_numbers r) ≡ r
-empty_back EmptyAnswer.Emptied = refl
-empty_back EmptyAnswer.Refused = refl
+keep_back : (r : Result ℕ StoreRefused) → keep_in (keep_numbers r) ≡ r
+keep_back (Ok place) = refl
+keep_back (Err e) = refl
+
+empty_back : (r : Result Unit StoreRefused) → empty_in (empty_numbers r) ≡ r
+empty_back (Ok done) = refl
+empty_back (Err e) = refl
 
 pub answer_laws : StoreAnswerLaws
 answer_laws = record {

@@ -9,7 +9,7 @@ use mir.Syntax.{w32}
 use lib.ListN.{length, get_or, drop, set, length-drop}
 use lib.Seq.{paste, length-paste}
 use Rattle.table.proofs.tests.Bools.{told_yes}
-use Rattle.plan_store.specs.declared.KeepAnswer.TheVariants as KeepAnswer
+use Rattle.std.specs.Prelude.{Ok}
 use Rattle.plan_store.specs.Calls.{can_keep, KeptBy}
 use Rattle.plan_store.specs.code.Head.{Among, entries_end}
 use Rattle.plan_store.specs.code.Rows.{InsertAsks, inserted, Admitted, plan_inserted}
@@ -64,7 +64,7 @@ module _ (n : ℕ) (buffer : List ℕ) (count : ℕ) (ws : List ℕ) {r : Bool} 
     pub keep_place : n * 2 < length full
     keep_place = let a = here.place in let b = ap length Full-is ∙ here.long in omega arith
 
-    pub keep_done : KeptBy n buffer count ws (set full (n * 2) (get_or ws (n * 2) 0 + count)) (KeepAnswer.Kept (get_or ws (n * 2) 0))
+    pub keep_done : KeptBy n buffer count ws (set full (n * 2) (get_or ws (n * 2) 0 + count)) (Ok (get_or ws (n * 2) 0))
     keep_done =
         let f = keep_asks n buffer count ws told yes in
         let y = told_yes told yes in

@@ -263,10 +263,10 @@ no_entries n = go (eqb n 0)
     go true = refl
     go false = refl
 
-module _ {first : Line} (n : ℕ) (is : first ≡ line n 0 0 0) (plan : List ℕ) where
+module _ {first : Line} (n : ℕ) {number : ℕ} (said : number ≡ n) (is : first ≡ line number 0 0 0) (plan : List ℕ) where
   pub refusal_held : entries_in first * entry_words ≤ length plan
-  refusal_held = rw (is, no_entries n) (omega arith)
+  refusal_held = rw (is, said, no_entries n) (omega arith)
 
   pub refusal_printed : {before after : List ℕ} {r : ℕ} → Printed (lines_bytes (answer_lines first plan)) before after r → Printed (refusal_bytes n) before after r
   unfolding read_entries
-  refusal_printed p = rw (is, no_entries n) at p
+  refusal_printed p = rw (is, said, no_entries n) at p

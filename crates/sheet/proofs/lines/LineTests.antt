@@ -10,10 +10,8 @@ use lib.ListN.{length, take, drop, set, length-set, get_or-eq_default}
 use lib.Seq.{ext_get_or, get_or-take, length-take-le}
 use mir.Syntax.{w64}
 use mir.Val.{Fits}
-use Rattle.columns.specs.declared.Column.{Column}
-use Rattle.columns.specs.declared.Column.TheVariants as Column
-use Rattle.columns.specs.declared.SignedColumn.{SignedColumn}
-use Rattle.columns.specs.declared.SignedColumn.TheVariants as SignedColumn
+use Rattle.std.specs.Prelude.{Option, Some, None}
+use Rattle.columns.specs.declared.SignedNumber.{SignedNumber}
 use Rattle.columns.specs.Columns.{six_column, column_at, signed_column_at}
 use Rattle.columns.proofs.read.Six.{column_inside}
 use Rattle.base.specs.Lists.{all_from, tabulate}
@@ -23,16 +21,16 @@ use Rattle.sheet.specs.Lines.{column_number, is_line_feed, column_ok, is_line, l
 use Rattle.sheet.specs.code.Post.{Inside, WordRead, Filled, Read, LinesAsks, LineAsks, NumbersAsks, NumberAsks}
 
 -- a column, by what was read
-module _ (sheet : List ℕ) (at w : ℕ) (before : List ℕ) (inside : at + 6 ≤ length sheet) {column : Column}
+module _ (sheet : List ℕ) (at w : ℕ) (before : List ℕ) (inside : at + 6 ≤ length sheet) {column : Option ℕ}
     (said : column ≡ six_column (take ((at + 6) - at) (drop at sheet))) where
   is : column ≡ column_at sheet at
   is = column_inside sheet at inside said
 
-  pub word_read : {n : ℕ} → column ≡ Column.Number n → WordRead sheet at w before (set before w n) true
+  pub word_read : {n : ℕ} → column ≡ Some n → WordRead sheet at w before (set before w n) true
   unfolding column_number
   word_read e = record { ok = rw (← is, e); stored = λ _. rw (← is, e) }
 
-  pub word_none : {after : List ℕ} → column ≡ Column.Unreadable → WordRead sheet at w before after false
+  pub word_none : {after : List ℕ} → column ≡ None → WordRead sheet at w before after false
   word_none e = record { ok = rw (← is, e); stored = λ t. absurd (false≢true t) }
 
 pub feed_past : (sheet : List ℕ) (at : ℕ) → length sheet ≤ at → false ≡ is_line_feed sheet at
@@ -207,22 +205,22 @@ module _ {sheet : List ℕ} {at i : ℕ} {before : List ℕ} (asked : NumberAsks
   pub size_room : (b : ℕ) → i * 2 + 1 < length (set before (i * 2) b)
   size_room b = omega (arith, asked.asked.room, length-set before (i * 2) b)
 
-  module _ {column : SignedColumn} (is : column ≡ signed_column_at sheet (at + i * number_line_length)) where
-    pub number_read : {below size : ℕ} {r : Bool} → column ≡ SignedColumn.Number below size → r ≡ is_line_feed sheet (at + i * number_line_length + signed_length)
-        → Read (number_word sheet at) (i * 2 + 2) (number_line_ok sheet at i) (set (set before (i * 2) below) (i * 2 + 1) size) r
+  module _ {column : Option SignedNumber} (is : column ≡ signed_column_at sheet (at + i * number_line_length)) where
+    pub number_read : {number : SignedNumber} {r : Bool} → column ≡ Some number → r ≡ is_line_feed sheet (at + i * number_line_length + signed_length)
+        → Read (number_word sheet at) (i * 2 + 2) (number_line_ok sheet at i) (set (set before (i * 2) number.below) (i * 2 + 1) number.size) r
     unfolding is_number_line number_word
-    number_read {below} {size} e feed =
+    number_read {number} e feed =
         let q : i * 2 / 2 ≡ i = omega arith in
         let m : i * 2 % 2 ≡ 0 = omega arith in
         let q' : (i * 2 + 1) / 2 ≡ i = omega arith in
         let m' : (i * 2 + 1) % 2 ≡ 1 = omega arith in
         let n : i * 2 + 2 ≡ i * 2 + 1 + 1 = omega arith in
-        let here : signed_column_at sheet (at + i * number_line_length) ≡ SignedColumn.Number below size = sym is ∙ e in
-        let one : Filled (number_word sheet at) (i * 2 + 1) (set before (i * 2) below) =
+        let here : signed_column_at sheet (at + i * number_line_length) ≡ Some number = sym is ∙ e in
+        let one : Filled (number_word sheet at) (i * 2 + 1) (set before (i * 2) number.below) =
         filled_on asked.before number_room (rw (q, m, here)) in
-        record { ok = rw here feed; filled = λ _. rw n (filled_on one (size_room below) (rw (q', m', here))) }
+        record { ok = rw here feed; filled = λ _. rw n (filled_on one (size_room number.below) (rw (q', m', here))) }
 
-    pub number_unread : {after : List ℕ} → column ≡ SignedColumn.Unreadable → Read (number_word sheet at) (i * 2 + 2) (number_line_ok sheet at i) after false
+    pub number_unread : {after : List ℕ} → column ≡ None → Read (number_word sheet at) (i * 2 + 2) (number_line_ok sheet at i) after false
     unfolding is_number_line
     number_unread {after} e = no_words after (rw (← is, e))
 

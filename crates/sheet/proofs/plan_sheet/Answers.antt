@@ -5,5 +5,5 @@ use Rattle.sheet.proofs.plan_sheet.Goals as goal
 pub list_headed-requires : goal.list_headed-requires
 list_headed-requires c = search (header_good, rules)
 
-pub returns-in-Refused : goal.returns-in-Refused
-returns-in-Refused c = search (header_refused, rules)
+pub returns-in-Err : goal.returns-in-Err
+returns-in-Err c = search (header_refused, rules)

@@ -12,14 +12,13 @@ use lib.Seq.{ext_get_or, get_or-take, get_or-drop, length-take-le}
 use mir.Syntax.{w32, w64}
 use mir.Val.{Fits}
 use Rattle.base.specs.Lists.{part}
-use Rattle.columns.specs.declared.Column.{Column}
-use Rattle.columns.specs.declared.Column.TheVariants as Column
+use Rattle.std.specs.Prelude.{Option, Some, None, unwrap_or}
 use Rattle.columns.specs.Columns.{column_at}
 use Rattle.table.specs.Tables.{record_word, start_of, end_of}
 use Rattle.planner.proofs.buffer.Filling.{length_tabulate, get_d_tabulate}
 use Rattle.sheet.specs.declared.header.Counts.{Counts}
 use Rattle.sheet.specs.declared.header.Places.{Places}
-use Rattle.sheet.specs.Lines.{column_number, number_in, line_length, column_word_at}
+use Rattle.sheet.specs.Lines.{number_of, column_number, number_in, line_length, column_word_at}
 use Rattle.sheet.specs.Sheet.{line1, nodes_place, nodes_of, text_place}
 use Rattle.sheet.specs.Source.{text_byte, span, span_of, span_in}
 use Rattle.sheet.specs.code.Header.{places_of, NumberRead, CountsRead}
@@ -27,14 +26,13 @@ use Rattle.sheet.proofs.header.HeaderTests.{counts_read}
 use Rattle.sheet.proofs.lines.LineTests.{word_in_line}
 
 -- columns
-module _ (sheet : List ℕ) (at : ℕ) {column : Column} (is : column ≡ column_at sheet at) where
-  pub number_some : {n : ℕ} → column ≡ Column.Number n → Fits w32 n → NumberRead (column_number sheet at) n
-  unfolding column_number
-  number_some e f = record { is = rw (← is, e); below = f.fits }
-
-  pub number_none : column ≡ Column.Unreadable → NumberRead (column_number sheet at) 0
-  unfolding column_number
-  number_none e = record { is = rw (← is, e); below = omega arith }
+pub number_told : (sheet : List ℕ) (at : ℕ) {column : Option ℕ} {n : ℕ} → column ≡ column_at sheet at → n ≡ unwrap_or column 0 → Fits w32 n → NumberRead (column_number sheet at) n
+unfolding column_number
+number_told sheet at is said few = record { is = said ∙ (ap (λ (c : Option ℕ). unwrap_or c 0) is ∙ same (column_at sheet at)); below = few.fits }
+  where
+    same : (c : Option ℕ) → unwrap_or c 0 ≡ number_of c
+    same (Some n) = refl
+    same None = refl
 
 -- line 1
 pub counts_told : (sheet : List ℕ) {n k m x s t : ℕ} → NumberRead (number_in sheet line1 0) n → NumberRead (number_in sheet line1 1) k → NumberRead (number_in sheet line1 2) m

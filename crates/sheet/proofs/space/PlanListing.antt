@@ -18,8 +18,7 @@ use Rattle.operation.specs.Rows.{row_line}
 use Rattle.sheet.specs.Sheet.{parse}
 use Rattle.sheet.specs.Outcome.{outcome_of_sheet, PlannedInto}
 use Rattle.sheet.specs.Listing.{lines_of, lines_bytes, listing_of, Printed}
-use Rattle.sheet.specs.declared.space.Tried.{Tried}
-use Rattle.sheet.specs.declared.space.Tried.TheVariants as Tried
+use Rattle.std.specs.Prelude.{Option, Some, None}
 use Rattle.sheet.specs.code.Post.{plan_words, entries_in, answer_lines, TriedBy}
 
 -- what is listed of an answer and its plan
@@ -91,20 +90,20 @@ module _ (sheet : List ℕ) {blank plan : List ℕ} {r : Row} (done : PlannedInt
     pub small_held : entries_in (row_line r) * entry_words ≤ length plan
     small_held = (listed_small (outcome_of_sheet (parse sheet)) small done other).held
 
-    pub small_listed : {before after : List ℕ} {bytes : ℕ} → Printed (lines_bytes (answer_lines (row_line r) plan)) before after bytes → TriedBy (listing_of sheet) before after (Tried.Listed bytes)
+    pub small_listed : {before after : List ℕ} {bytes : ℕ} → Printed (lines_bytes (answer_lines (row_line r) plan)) before after bytes → TriedBy (listing_of sheet) before after (Some bytes)
     unfolding listing_of
     small_listed {bytes = bytes} p = record {
       listed = λ n e. let same : bytes ≡ n = cc in rw (← (listed_small (outcome_of_sheet (parse sheet)) small done other).lines, ← same) p;
       kept = λ e. let z : ◌≡◌ {A = ℕ} 0 1 = cc in absurd (omega arith);
     }
 
-pub too_large : (sheet out : List ℕ) → TriedBy (listing_of sheet) out out Tried.TooLarge
+pub too_large : (sheet out : List ℕ) → TriedBy (listing_of sheet) out out None
 too_large sheet out = record { listed = λ n e. let z : ◌≡◌ {A = ℕ} 0 1 = cc in absurd (omega arith); kept = λ _. refl }
 
 -- and what is made of it
-module _ {listing before after : List ℕ} {r : Tried} (tried : TriedBy listing before after r) where
-  pub was_listed : {bytes : ℕ} → r ≡ Tried.Listed bytes → Printed listing before after bytes
+module _ {listing before after : List ℕ} {r : Option ℕ} (tried : TriedBy listing before after r) where
+  pub was_listed : {bytes : ℕ} → r ≡ Some bytes → Printed listing before after bytes
   was_listed {bytes} e = tried.listed bytes e
 
-  pub then_listed : {last : List ℕ} {bytes : ℕ} → r ≡ Tried.TooLarge → Printed listing after last bytes → Printed listing before last bytes
+  pub then_listed : {last : List ℕ} {bytes : ℕ} → r ≡ None → Printed listing after last bytes → Printed listing before last bytes
   then_listed e p = rw (tried.kept e) at p

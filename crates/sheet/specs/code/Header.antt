@@ -1,13 +1,13 @@
 -- Lines 1 and 2, as the code reads them.
-use Rattle.std.specs.Prelude.{ℕ, ◌^◌, ◌<◌, ◌≤◌, Bool, cond, ◌&&◌, List, ◌≡◌, eqb, length, get_or}
+use Rattle.std.specs.Prelude.{ℕ, ◌^◌, ◌<◌, ◌≤◌, Bool, cond, ◌&&◌, List, Result, Ok, Err, ◌≡◌, eqb, length, get_or}
 use Rattle.base.specs.Refusal.{over_limit, layout_broken}
 use Rattle.sheet.specs.declared.header.Counts.{Counts}
 use Rattle.sheet.specs.declared.header.Places.{Places}
 use Rattle.operation.specs.declared.numbers.OperationNumbers.{OperationNumbers}
 use Rattle.operation.specs.Numbers.{are_listed}
 use Rattle.sheet.specs.declared.header.Header.{Header}
-use Rattle.sheet.specs.declared.header.Heading.{Heading}
-use Rattle.sheet.specs.declared.header.Heading.TheVariants as Heading
+use Rattle.sheet.specs.declared.header.SheetRefusal.{SheetRefusal}
+use Rattle.sheet.specs.declared.header.SheetRefusal.TheVariants.{OverLimit, LayoutBroken}
 use Rattle.sheet.specs.Lines.{is_line, lines_ok, number_lines_ok}
 use Rattle.sheet.specs.Sheet.{line1, line2, nodes_place, counts_of, counts_ok, children_place, numbers_place, names_place, strings_place, text_place, end_place, operation_numbers, mark_columns_ok, sheet_of, unparsed, parsed, parse}
 
@@ -74,6 +74,11 @@ pub record Limited (c : Counts) : Type 0 where
   pub strings_few : c.strings ≤ 8192
   pub text_few : c.text ≤ 16384
 
+-- the numbers of these refusals
+abbrev pub refusal_number : SheetRefusal → ℕ
+refusal_number OverLimit = over_limit.number
+refusal_number LayoutBroken = layout_broken.number
+
 -- 7 line 1 unreadable, 1 by line 1, 7 for the length or line 2
 abbrev pub header_of : List ℕ → Counts → Header
 header_of sheet c = record { counts = c; places = places_of c; operation = operation_numbers sheet }
@@ -81,11 +86,11 @@ header_of sheet c = record { counts = c; places = places_of c; operation = opera
 unfoldable pub head_ok : List ℕ → Counts → Bool
 head_ok sheet c = eqb (length sheet) (end_place c) && (is_line sheet line2 6 && are_listed (operation_numbers sheet))
 
-unfoldable pub heading_by : List ℕ → Counts → Heading
-heading_by sheet c = cond (counts_ok c) (cond (head_ok sheet c) (Heading.Good (header_of sheet c)) (Heading.Refused layout_broken.number)) (Heading.Refused over_limit.number)
+unfoldable pub heading_by : List ℕ → Counts → Result Header SheetRefusal
+heading_by sheet c = cond (counts_ok c) (cond (head_ok sheet c) (Ok (header_of sheet c)) (Err LayoutBroken)) (Err OverLimit)
 
-unfoldable pub heading_of : List ℕ → Heading
-heading_of sheet = cond (is_line sheet line1 6) (heading_by sheet (counts_of sheet)) (Heading.Refused layout_broken.number)
+unfoldable pub heading_of : List ℕ → Result Header SheetRefusal
+heading_of sheet = cond (is_line sheet line1 6) (heading_by sheet (counts_of sheet)) (Err LayoutBroken)
 
 -- the tests of the layout that are left
 abbrev pub tables_ok : List ℕ → Counts → Bool

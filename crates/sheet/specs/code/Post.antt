@@ -1,5 +1,5 @@
 -- What the private functions ask and answer.
-use Rattle.std.specs.Prelude.{ℕ, ◌+◌, ◌*◌, ◌/◌, ◌%◌, ◌^◌, ◌<◌, ◌≤◌, Bool, true, cond, ◌&&◌, List, ◌++◌, ◌≡◌, eqb, leb, length, get_or, set, replicate}
+use Rattle.std.specs.Prelude.{ℕ, ◌+◌, ◌*◌, ◌/◌, ◌%◌, ◌^◌, ◌<◌, ◌≤◌, Bool, true, cond, ◌&&◌, List, Option, Some, None, ◌++◌, ◌≡◌, eqb, leb, length, get_or, set, replicate}
 use Rattle.scope.specs.declared.Scope.{Scope}
 use Rattle.scope.specs.Bytes.{converted}
 use Rattle.base.specs.Lists.{all_from}
@@ -13,8 +13,6 @@ use Rattle.sheet.specs.declared.header.Header.{Header}
 use Rattle.operation.specs.declared.numbers.OperationNumbers.{OperationNumbers}
 use Rattle.operation.specs.declared.row.Row.{Row}
 use Rattle.operation.specs.Rows.{row_line}
-use Rattle.sheet.specs.declared.space.Tried.{Tried}
-use Rattle.sheet.specs.declared.space.Tried.TheVariants as Tried
 use Rattle.base.specs.Lent.{MutSlices}
 use Rattle.sheet.specs.Lines.{is_readable, column_number, line_length, number_line_length, lines_ok, column_word_at, number_word}
 use Rattle.sheet.specs.Sheet.{byte_scope_of, nodes_place, mark_word, children_place, numbers_place, names_place, mark_columns_ok, parse}
@@ -131,15 +129,15 @@ abbrev pub plan_words : ℕ
 plan_words = entry_words * 1536
 
 -- what became of a listing in the small space: it is written, or its plan needs more and nothing was written
-pub record TriedBy (listing before after : List ℕ) (r : Tried) : Type 0 where
-  pub listed : (bytes : ℕ) → r ≡ Tried.Listed bytes → Printed listing before after bytes
-  pub kept : r ≡ Tried.TooLarge → after ≡ before
+pub record TriedBy (listing before after : List ℕ) (r : Option ℕ) : Type 0 where
+  pub listed : (bytes : ℕ) → r ≡ Some bytes → Printed listing before after bytes
+  pub kept : r ≡ None → after ≡ before
 
 -- in an output or a plan that is lent
 abbrev pub PrintedIn : MutSlices → List ℕ → ℕ → Type 0
 PrintedIn out listing r = Printed listing out.entry.now out.exit.now r
 
-abbrev pub TriedIn : MutSlices → List ℕ → Tried → Type 0
+abbrev pub TriedIn : MutSlices → List ℕ → Option ℕ → Type 0
 TriedIn out listing r = TriedBy listing out.entry.now out.exit.now r
 
 abbrev pub PlannedIn : MutSlices → List ℕ → Row → Type 0

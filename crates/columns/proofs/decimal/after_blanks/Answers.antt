@@ -5,8 +5,8 @@ use Rattle.columns.proofs.decimal.after_blanks.Goals as goal
 pub loop-i-init : goal.loop-i-init
 loop-i-init c = search (skip_start, rules)
 
-pub returns-then-bytes-i-ne32 : goal.returns-then-bytes-i-ne32
-returns-then-bytes-i-ne32 c = search (skip_stops, rules)
+pub returns-then-byte-ne32 : goal.returns-then-byte-ne32
+returns-then-byte-ne32 c = search (skip_stops, rules)
 
 pub loop-i-preserved : goal.loop-i-preserved
 loop-i-preserved c = search (skip_on, rules)

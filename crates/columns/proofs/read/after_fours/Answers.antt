@@ -10,7 +10,7 @@ pub returns-then-not-are_blank : goal.returns-then-not-are_blank
 returns-then-not-are_blank c = search (fours_rest, rules)
 
 pub loop-i-preserved : goal.loop-i-preserved
-loop-i-preserved c = fours_on (search rules) (search rules) c.are_blank.ensures (search rules)
+loop-i-preserved c = search (fours_on, rules)
 
 pub returns : goal.returns
 returns c = search (fours_rest, rules)

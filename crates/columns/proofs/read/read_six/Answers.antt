@@ -5,8 +5,8 @@ use Rattle.columns.proofs.read.read_six.Goals as goal
 pub overflow_cast-result : goal.overflow_cast-result
 overflow_cast-result c = search (six_small, rules)
 
-pub returns-in-Number : goal.returns-in-Number
-returns-in-Number c = search (six_number, rules)
+pub returns : goal.returns
+returns c = search (six_number, rules)
 
-pub returns-in-NoNumber : goal.returns-in-NoNumber
-returns-in-NoNumber c = search (six_none, rules)
+pub returns-in_err-n : goal.returns-in_err-n
+returns-in_err-n c = search (six_none, rules)

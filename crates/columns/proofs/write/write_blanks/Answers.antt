@@ -1,12 +1,6 @@
-use Rattle.columns.proofs.write.Writing.{writing_start, blank_on, writing_ends}
+use Rattle.columns.proofs.write.Writing.{blanks_written}
 use borrow.Author.Rules.{rules}
 use Rattle.columns.proofs.write.write_blanks.Goals as goal
 
-pub loop-left-init : goal.loop-left-init
-loop-left-init c = search (writing_start, rules)
-
-pub loop-left-preserved : goal.loop-left-preserved
-loop-left-preserved c = search (blank_on, rules)
-
 pub returns : goal.returns
-returns c = search (writing_ends, rules)
+returns c = search (blanks_written, rules)

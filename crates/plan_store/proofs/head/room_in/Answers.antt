@@ -11,8 +11,8 @@ returns-then-packs-gt-MOST_PACKS c = search (room_packs, rules)
 pub loop-i-init : goal.loop-i-init
 loop-i-init c = search (leaving_start, rules)
 
-pub returns-then-left-takes : goal.returns-then-left-takes
-returns-then-left-takes c = search (leaving_fails, rules)
+pub returns-in_err-left : goal.returns-in_err-left
+returns-in_err-left c = search (leaving_fails, rules)
 
 pub loop-i-preserved : goal.loop-i-preserved
 loop-i-preserved c = search (leaving_on, rules)

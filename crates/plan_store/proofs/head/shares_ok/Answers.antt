@@ -5,14 +5,14 @@ use Rattle.plan_store.proofs.head.shares_ok.Goals as goal
 pub returns-then-shares-gt-MOST_PACKS : goal.returns-then-shares-gt-MOST_PACKS
 returns-then-shares-gt-MOST_PACKS c = search (shares_many, rules)
 
-pub loop-i-init : goal.loop-i-init
-loop-i-init c = search (sharing_start, rules)
+pub loop-share-init : goal.loop-share-init
+loop-share-init c = search (sharing_start, rules)
 
 pub returns-then-left-share : goal.returns-then-left-share
 returns-then-left-share c = search (sharing_fails, rules)
 
-pub loop-i-preserved : goal.loop-i-preserved
-loop-i-preserved c = search (sharing_on, rules)
+pub loop-share-preserved : goal.loop-share-preserved
+loop-share-preserved c = search (sharing_on, rules)
 
 pub returns : goal.returns
 returns c = search (sharing_ends, rules)

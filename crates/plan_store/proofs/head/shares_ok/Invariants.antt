@@ -1,10 +1,5 @@
-use Prim.Native.Nat.{◌-◌}
-use lib.ListN.{length}
 use Rattle.plan_store.proofs.head.Passes.{Sharing}
 use Rattle.plan_store.proofs.head.shares_ok.Given as goal
 
-abbrev pub invariant-loop-i : goal.invariant-loop-i
-invariant-loop-i l = Sharing l.shares l.i l.left
-
-abbrev pub decreases-loop-i : goal.decreases-loop-i
-decreases-loop-i l = length l.shares - l.i
+abbrev pub invariant-loop-share : goal.invariant-loop-share
+invariant-loop-share l = Sharing l.shares l.share-index l.left

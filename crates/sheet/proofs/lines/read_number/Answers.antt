@@ -11,14 +11,14 @@ overflow_add-place c = search (number_place_fits, rules)
 pub bounds-out-i : goal.bounds-out-i
 bounds-out-i c = search (number_room, rules)
 
-pub bounds-out-i-in-Number : goal.bounds-out-i-in-Number
-bounds-out-i-in-Number c = search (size_room, rules)
+pub bounds-out-i-2 : goal.bounds-out-i-2
+bounds-out-i-2 c = search (size_room, rules)
 
-pub overflow_add-place-in-Number : goal.overflow_add-place-in-Number
-overflow_add-place-in-Number c = search (number_end_place, rules)
+pub overflow_add-place-2 : goal.overflow_add-place-2
+overflow_add-place-2 c = search (number_end_place, rules)
 
-pub returns-in-Number : goal.returns-in-Number
-returns-in-Number c = search (number_read, rules)
+pub returns : goal.returns
+returns c = search (number_read, rules)
 
-pub returns-in-Unreadable : goal.returns-in-Unreadable
-returns-in-Unreadable c = search (number_unread, rules)
+pub returns-in_default : goal.returns-in_default
+returns-in_default c = search (number_unread, rules)
