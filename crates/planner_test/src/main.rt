@@ -7,6 +7,7 @@ use planner::destructuring::create_destructuring_plan;
 use planner::parameters::{create_loop_index_binding_plan, create_parameter_binding_plan};
 use scope::{ByteScope, Scope, ScopingMode};
 use std::io;
+use table::tables::Tables;
 use table::{TableRefusal, refusal_number};
 
 // Kind, start, end, first, count. k is bound, `input` is global.
@@ -121,37 +122,25 @@ fn scope() -> Scope {
 
 fn planned(asked: Asked, plan: &mut [u32]) -> PlanAnswer {
     let nodes = NODES.as_flattened();
+    let tables = Tables {
+        nodes,
+        children: &CHILDREN,
+        numbers: &NUMBERS,
+        names: &NAMES,
+        strings: &STRINGS,
+        text: &TEXT,
+    };
     match asked {
         Asked::Pattern(scoping, root) => create_destructuring_plan(
-            nodes,
-            &CHILDREN,
-            &NUMBERS,
-            &NAMES,
-            &STRINGS,
-            &TEXT,
+            &tables,
             scope(),
             scoping,
             root,
             plan,
         ),
-        Asked::LoopIndex(root) => create_loop_index_binding_plan(
-            nodes,
-            &CHILDREN,
-            &NUMBERS,
-            &NAMES,
-            &STRINGS,
-            &TEXT,
-            scope(),
-            root,
-            plan,
-        ),
+        Asked::LoopIndex(root) => create_loop_index_binding_plan(&tables, scope(), root, plan),
         Asked::Parameter(scoping, root) => create_parameter_binding_plan(
-            nodes,
-            &CHILDREN,
-            &NUMBERS,
-            &NAMES,
-            &STRINGS,
-            &TEXT,
+            &tables,
             scope(),
             scoping,
             root,

@@ -18,6 +18,7 @@ use report::{ReportAnswer, names_report};
 use run::{RunAnswer, run};
 use scope::{ByteScope, Scope, ScopingMode};
 use std::io;
+use table::tables::Tables;
 use table::{TableRefusal, refusal_number};
 
 mod parse;
@@ -106,13 +107,16 @@ fn start_list(parsed: &Parsed, names: usize) -> [u32; 16] {
 
 fn carried_out(line: &[u8], parsed: &Parsed, list: &mut [u32], plan: &mut [u32]) -> RunAnswer {
     let names = names();
+    let tables = Tables {
+        nodes: parsed.nodes.as_flattened(),
+        children: &parsed.children,
+        numbers: parsed.numbers.as_flattened(),
+        names: first(&names, number_at(line, 13)).as_flattened(),
+        strings: &STRINGS,
+        text: line,
+    };
     run(
-        parsed.nodes.as_flattened(),
-        &parsed.children,
-        parsed.numbers.as_flattened(),
-        first(&names, number_at(line, 13)).as_flattened(),
-        &STRINGS,
-        line,
+        &tables,
         scope_of(line),
         scoping_of(line),
         parsed.pattern,
@@ -124,13 +128,16 @@ fn carried_out(line: &[u8], parsed: &Parsed, list: &mut [u32], plan: &mut [u32])
 
 fn reported(line: &[u8], parsed: &Parsed, list: &mut [u32]) -> ReportAnswer {
     let names = names();
+    let tables = Tables {
+        nodes: parsed.nodes.as_flattened(),
+        children: &parsed.children,
+        numbers: parsed.numbers.as_flattened(),
+        names: first(&names, number_at(line, 13)).as_flattened(),
+        strings: &STRINGS,
+        text: line,
+    };
     names_report(
-        parsed.nodes.as_flattened(),
-        &parsed.children,
-        parsed.numbers.as_flattened(),
-        first(&names, number_at(line, 13)).as_flattened(),
-        &STRINGS,
-        line,
+        &tables,
         scope_of(line),
         scoping_of(line),
         parsed.pattern,

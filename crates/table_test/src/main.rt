@@ -6,6 +6,7 @@ ghost use Rattle.std.specs.Prelude.{◌≤◌, IfOk};
 use scope::Scope;
 use std::{array, io};
 use table::refusal_number;
+use table::tables::Tables;
 
 const NODES: [[u32; 5]; 16] = [
     [1, 0, 1, 0, 2], // "ab"
@@ -176,15 +177,15 @@ fn run_changed(change: Change) -> u32 {
         Change::NameWords(count) => lengths.2 = count,
         Change::Underscore(name) => underscore = name,
     }
-    number_of(table::check(
-        first(nodes.as_flattened(), lengths.0),
-        &children,
-        first(&numbers, lengths.1),
-        first(&names, lengths.2),
-        b"ab",
-        &text,
-        Scope::new(underscore, false),
-    ))
+    let tables = Tables {
+        nodes: first(nodes.as_flattened(), lengths.0),
+        children: &children,
+        numbers: first(&numbers, lengths.1),
+        names: first(&names, lengths.2),
+        strings: b"ab",
+        text: &text,
+    };
+    number_of(table::check(&tables, Scope::new(underscore, false)))
 }
 
 // Lists of these lengths: childless nodes, each node a child in turn, each name a byte of the text.
@@ -203,15 +204,15 @@ fn run_full(lengths: [usize; 6]) -> u32 {
         string_bytes,
         text_bytes,
     ] = lengths;
-    number_of(table::check(
-        first(nodes.as_flattened(), node_words),
-        first(&children, child_words),
-        first(&numbers, number_words),
-        first(names.as_flattened(), name_words),
-        first(&strings, string_bytes),
-        first(&text, text_bytes),
-        Scope::new(0, false),
-    ))
+    let tables = Tables {
+        nodes: first(nodes.as_flattened(), node_words),
+        children: first(&children, child_words),
+        numbers: first(&numbers, number_words),
+        names: first(names.as_flattened(), name_words),
+        strings: first(&strings, string_bytes),
+        text: first(&text, text_bytes),
+    };
+    number_of(table::check(&tables, Scope::new(0, false)))
 }
 
 // The first node is childless, and every other an array of the one before it.
@@ -228,15 +229,15 @@ fn run_chain(depth: usize, name_count: usize, underscore: u32) -> u32 {
     let mut children: [u32; 33] = array::from_fn(|i| (i % 4096) as u32);
     children[0] = (depth % 4096) as u32;
     let names = [[0u32, 1]; 2];
-    number_of(table::check(
-        first(&nodes, depth).as_flattened(),
-        first(&children, depth),
-        &NUMBERS,
-        first(&names, name_count).as_flattened(),
-        b"",
-        b"x",
-        Scope::new(underscore, false),
-    ))
+    let tables = Tables {
+        nodes: first(&nodes, depth).as_flattened(),
+        children: first(&children, depth),
+        numbers: &NUMBERS,
+        names: first(&names, name_count).as_flattened(),
+        strings: b"",
+        text: b"x",
+    };
+    number_of(table::check(&tables, Scope::new(underscore, false)))
 }
 
 // How many agree, here 0 or 1; a case that does not is named by its place in its list.

@@ -6,6 +6,7 @@ use operation::row::{Row, row_of};
 use planner::PlanAnswer;
 use scope::Scope;
 use std::io;
+use table::tables::Tables;
 
 // Kind, start, end, first, count.
 const NODES: [[u32; 5]; 54] = [
@@ -156,18 +157,15 @@ fn planned(case: [u32; 7], plan: &mut [u32]) -> PlanAnswer {
         second,
         key,
     };
-    operation::plan(
+    let tables = Tables {
         nodes,
-        &CHILDREN,
-        &NUMBERS,
-        &NAMES,
-        &STRINGS,
-        &TEXT,
-        scope(bound),
-        operation_of(numbers),
-        version,
-        plan,
-    )
+        children: &CHILDREN,
+        numbers: &NUMBERS,
+        names: &NAMES,
+        strings: &STRINGS,
+        text: &TEXT,
+    };
+    operation::plan(&tables, scope(bound), operation_of(numbers), version, plan)
 }
 
 fn main(rt: HostRuntime) -> io::Result<()> {
