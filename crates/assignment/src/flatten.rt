@@ -14,7 +14,7 @@ use crate::keys::{ObjectPairs, collect_object_pairs, field_sides};
 use crate::preview::{learn_names, preview_binding_plan};
 use planner::buffer::{clear, close, copy_entries, put_entry};
 use planner::context::name_states;
-use planner::{PlanAnswer, entry_kind};
+use planner::{Plan, PlanRefusal, entry_kind};
 use scope::{Scope, ScopingMode};
 use table::reading::{child_at, count_of, first_of};
 use table::tables::Tables;
@@ -23,7 +23,7 @@ use table::tables::Tables;
 #[derive(Clone, Copy)]
 pub(crate) enum Flattened {
     Next { at: usize },
-    Refused(PlanAnswer),
+    Refused(PlanRefusal),
 }
 
 // The two sides compared, as a pair.
@@ -106,7 +106,7 @@ fn flatten(
             tables, states, left, right, binders, scratch, plan, at,
         ),
         Judgement::Refuse => return Flattened::Refused(
-            PlanAnswer::IncompatibleDestructuringPatterns { side: left },
+            Err(PlanRefusal::IncompatibleDestructuringPatterns { side: left }),
         ),
     }
 }
@@ -128,7 +128,7 @@ fn flatten_arrays(
     let size = count_of(tables.nodes, left);
     let other = count_of(tables.nodes, right);
     if size != other {
-        return Flattened::Refused(PlanAnswer::ArraySizeMismatch { left, size, other });
+        return Flattened::Refused(Err(PlanRefusal::ArraySizeMismatch { left, size, other }));
     }
     let left_first = first_of(tables.nodes, left) as usize;
     let right_first = first_of(tables.nodes, right) as usize;
@@ -254,7 +254,7 @@ pub(crate) fn flatten_assignment_pairs(
     binders: &mut [u32; 128],
     scratch: &mut [u32],
     plan: &mut [u32],
-) -> PlanAnswer
+) -> Result<Plan, PlanRefusal>
     requires { GoodPairIn scratch (contents tables.now) left right }
     ensures { AnsweredIn plan (pairs_outcome (contents tables.now) scope left right) result × WorkingSpaces binders scratch }
 {

@@ -5,7 +5,7 @@ ghost use Rattle.std.specs.Prelude.{◌≡◌};
 ghost use Rattle.assignment.specs.code.KeyMatching.{literal_keys, FindAsks, partner_of, MissingAsks, missing_from, KeysAsks, KeysMatched, FieldAsks, FieldSides};
 
 use literal::Comparison;
-use planner::PlanAnswer;
+use planner::{Plan, PlanRefusal};
 use planner::fields::field_at;
 use planner::inner::fields::order_fields;
 use table::node_kind;
@@ -16,7 +16,7 @@ use table::tables::Tables;
 #[derive(Clone, Copy)]
 pub(crate) enum ObjectPairs {
     Matched { total: usize },
-    Refused(PlanAnswer),
+    Refused(PlanRefusal),
 }
 
 // A left and a right node.
@@ -112,15 +112,15 @@ pub(crate) fn collect_object_pairs(
     let count = count_of(tables.nodes, right);
     let keys = order_fields(tables, left_first, left_count, order);
     if keys != count {
-        return ObjectPairs::Refused(PlanAnswer::ObjectFieldCountMismatch {
+        return ObjectPairs::Refused(Err(PlanRefusal::ObjectFieldCountMismatch {
             left,
             keys,
             fields: count,
-        });
+        }));
     }
     let key = first_missing(tables, left, order, keys as usize, first, count as usize);
     if key != 0 {
-        return ObjectPairs::Refused(PlanAnswer::ObjectKeyNotFound { key });
+        return ObjectPairs::Refused(Err(PlanRefusal::ObjectKeyNotFound { key }));
     }
     ObjectPairs::Matched {
         total: keys as usize,

@@ -6,7 +6,7 @@ mod calls;
 ghost use Rattle.std.specs.Prelude.{◌≡◌, ◌<◌, length};
 
 use operation::{Operation, REGO_V0};
-use planner::PlanAnswer;
+use planner::{Plan, PlanRefusal};
 use planner::buffer::ENTRY_WORDS;
 use report::ReportAnswer;
 use run::RunAnswer;
@@ -69,7 +69,7 @@ fn scope() -> Scope {
     Scope::new(0, false)
 }
 
-fn plan_rule(plan: &mut [u32]) -> PlanAnswer {
+fn plan_rule(plan: &mut [u32]) -> Result<Plan, PlanRefusal> {
     let nodes = nodes();
     calls::plan(
         &nodes,
@@ -146,11 +146,11 @@ fn print_entries(rt: &impl Print, plan: &[u32]) -> io::Result<()> {
 fn print_plan(rt: &impl Print) -> io::Result<()> {
     let mut plan = [0u32; 3 * ENTRY_WORDS];
     match plan_rule(&mut plan) {
-        PlanAnswer::Planned {
+        Ok(Plan {
             form,
             side,
             entries,
-        } => print(rt, b"planned\n")?,
+        }) => print(rt, b"planned\n")?,
         _ => print(rt, b"refused\n")?,
     }
     print_entries(rt, &plan)

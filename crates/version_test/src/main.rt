@@ -5,7 +5,7 @@ ghost use Rattle.std.specs.Prelude.{◌≡◌, ◌<◌, length};
 
 use operation::numbers::{OperationNumbers, operation_of};
 use operation::row::row_of;
-use planner::PlanAnswer;
+use planner::{Plan, PlanRefusal};
 use scope::Scope;
 use std::io;
 
@@ -165,7 +165,7 @@ fn scope(bound: u32) -> Scope {
     changed.scope
 }
 
-fn planned(case: [u32; 7], plan: &mut [u32]) -> PlanAnswer {
+fn planned(case: [u32; 7], plan: &mut [u32]) -> Result<Plan, PlanRefusal> {
     let nodes = nodes();
     let numbers = OperationNumbers {
         number: case[0],

@@ -1,4 +1,5 @@
 -- Items and fields in turn: the pairs so far, and what is left.
+use Rattle.std.proofs.Common.{Result}
 use Prim.Native.Nat.{ℕ, ◌+◌, ◌-◌, ◌*◌, ◌^◌, ◌≤◌, ◌<◌}
 use mathlib.Core.Path.{◌≡◌, refl, sym, ap, subst, ◌∙◌}
 use mathlib.Core.Bool.{Bool}
@@ -12,7 +13,8 @@ use Rattle.table.specs.Expr.{parts, parts_all, parts_fields, Exprs, Fields}
 use Rattle.table.specs.Decode.{expr, items, fields}
 use Rattle.table.specs.code.Sound.{Node, WellFormed}
 use Rattle.table.proofs.trees.Trees.{expr_object, items_step, items_end, fields_step, fields_end}
-use Rattle.planner.specs.declared.PlanAnswer.{PlanAnswer}
+use Rattle.planner.specs.declared.Plan.{Plan}
+use Rattle.planner.specs.declared.PlanRefusal.{PlanRefusal}
 use Rattle.planner.specs.Layout.{Entry}
 use Rattle.planner.specs.code.Passes.{unbound_in}
 use Rattle.planner.specs.Entries.{Wrote}
@@ -109,7 +111,7 @@ module _ {f rest : (ℕ → Bool) → List ℕ → Flat} {T : Tables} (w : WellF
           };
     }
 
-    flattening_fails : {answer : PlanAnswer} {bound : ℕ} → done ≡ Refused answer → Flattens f T bound states₀ start at known next (Refused answer)
+    flattening_fails : {answer : Result Plan PlanRefusal} {bound : ℕ} → done ≡ Refused answer → Flattens f T bound states₀ start at known next (Refused answer)
     flattening_fails {answer} e = record {
       each = λ u seen s.
           let p = go.each u seen s in
@@ -219,7 +221,7 @@ module _ {T : Tables} {left₀ parent right₀ k₀ : ℕ} {states₀ start : Li
           so_far = flattening_on go.asks.table go.so_far (items_flat T (left + 1) (right + 1) (more - 1)) step a e;
         }
 
-        pub items_fail : {answer : PlanAnswer} → done ≡ Refused answer → Flattens (items_flat T left₀ right₀ k₀) T (most_items T right₀ k₀) states₀ start at known next (Refused answer)
+        pub items_fail : {answer : Result Plan PlanRefusal} → done ≡ Refused answer → Flattens (items_flat T left₀ right₀ k₀) T (most_items T right₀ k₀) states₀ start at known next (Refused answer)
         items_fail e = flattening_fails go.asks.table go.so_far (items_flat T (left + 1) (right + 1) (more - 1)) step a e
 
   pub items_over : more ≤ 0 → Flattens (items_flat T left₀ right₀ k₀) T (most_items T right₀ k₀) states₀ start at states mid (Next here)
@@ -321,7 +323,7 @@ module _ {T : Tables} {left right : ℕ} {order : List ℕ} {total : ℕ} {state
           so_far = flattening_on go.table go.so_far (fields_flat T left (place + 2) (more - 1)) field_step a e;
         }
 
-        pub fields_fail : {answer : PlanAnswer} → done ≡ Refused answer → Flattens (objects_flat T left right) T (most_of T right) states₀ start at known next (Refused answer)
+        pub fields_fail : {answer : Result Plan PlanRefusal} → done ≡ Refused answer → Flattens (objects_flat T left right) T (most_of T right) states₀ start at known next (Refused answer)
         fields_fail e = flattening_fails go.table go.so_far (fields_flat T left (place + 2) (more - 1)) field_step a e
 
   pub fields_over : more ≤ 0 → Flattens (objects_flat T left right) T (most_of T right) states₀ start at states mid (Next here)

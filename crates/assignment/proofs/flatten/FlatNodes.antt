@@ -1,4 +1,5 @@
 -- Two nodes of a table in pairs, answer by answer.
+use Rattle.std.proofs.Common.{Result, Err}
 use Prim.Native.Nat.{ℕ, ◌+◌, ◌^◌, ◌≤◌, ◌<◌}
 use mathlib.Core.Path.{◌≡◌, refl, sym, ap, subst, ◌∙◌}
 use mathlib.Core.Bool.{Bool, true, false, cond, ◌&&◌, ◌||◌}
@@ -17,8 +18,9 @@ use Rattle.table.specs.Decode.{expr, items, fields_of}
 use Rattle.table.proofs.trees.Trees.{expr_array, expr_object, width_array, child_node, count_items, count_fields_lem}
 use Rattle.table.proofs.trees.Forest.{tree_few}
 use Rattle.planner.specs.Names.{states_of}
-use Rattle.planner.specs.declared.PlanAnswer.{PlanAnswer}
-use Rattle.planner.specs.declared.PlanAnswer.TheVariants.{ArraySizeMismatch, IncompatibleDestructuringPatterns}
+use Rattle.planner.specs.declared.Plan.{Plan}
+use Rattle.planner.specs.declared.PlanRefusal.{PlanRefusal}
+use Rattle.planner.specs.declared.PlanRefusal.TheVariants.{ArraySizeMismatch, IncompatibleDestructuringPatterns}
 use Rattle.base.specs.Refusal.{array_size_mismatch, incompatible_destructuring_patterns}
 use Rattle.planner.specs.Plan.{equality_expr}
 use Rattle.planner.specs.Layout.{Entry, below, top, entry, entries}
@@ -218,7 +220,7 @@ module _ {T : Tables} {states : List ℕ} {left right at : ℕ} (a : FlattenAsks
               sym (flat_fields u seen (expr T left) (expr T right) (some_bind m.0 u seen s) (shape_fields T w left a.pair_ok.first k.0) (expr_object T w right a.pair_ok.second k.1) k.2 k.3
               ∙ rw (count_fields_lem (expr T) T.children (first_word_of T.nodes right) (count_of T.nodes right)))
 
-    pub flat_refused : way ≡ Refuse → (before : List ℕ) → Flattens (nodes_flat T left right) T (most_of T right) states before at states before (Refused (IncompatibleDestructuringPatterns left))
+    pub flat_refused : way ≡ Refuse → (before : List ℕ) → Flattens (nodes_flat T left right) T (most_of T right) states before at states before (Refused (Err (IncompatibleDestructuringPatterns left)))
     unfolding nodes_flat
     flat_refused e before = let m = means j.one j.other _ j.is Refuse e in flattens_none T (most_of T right) states before at (λ u seen s. record { refusal = incompatible_destructuring_patterns left; is = go u seen s m.0 m.1; line = refl })
       where
@@ -236,7 +238,7 @@ module _ {T : Tables} {states : List ℕ} {left right at : ℕ} (a : FlattenAsks
 
 -- two arrays
 module _ {T : Tables} {states : List ℕ} {left right at : ℕ} (a : ArraysAsks T states left right at) {size other : ℕ} (is_size : size ≡ count_of T.nodes left) (is-other : other ≡ count_of T.nodes right) where
-  pub arrays_differ : (size ≡ other → ⊥) → (before : List ℕ) → Flattens (arrays_flat T left right) T (most_of T right) states before at states before (Refused (ArraySizeMismatch left size other))
+  pub arrays_differ : (size ≡ other → ⊥) → (before : List ℕ) → Flattens (arrays_flat T left right) T (most_of T right) states before at states before (Refused (Err (ArraySizeMismatch left size other)))
   unfolding arrays_flat
   arrays_differ differ before =
       let z = ne_eqb (count_of T.nodes left) (count_of T.nodes right) (λ e. differ (is_size ∙ (e ∙ sym is-other))) in
@@ -276,7 +278,7 @@ module _ {T : Tables} {states : List ℕ} {left right at : ℕ} (a : ByKeyAsks T
   pub ask_fields : {total : ℕ} → keys ≡ Matched total → ObjectFieldsAsks T states left right order total at
   ask_fields {total} e = record { asks = a.asks; object = a.keyed.both.right_ok.object; keys = subst (MatchedBy T left right order) e m.told }
 
-  pub objects_refused : {answer : PlanAnswer} → keys ≡ ObjectPairs.Refused answer → (before : List ℕ) → Flattens (objects_flat T left right) T (most_of T right) states before at states before (Refused answer)
+  pub objects_refused : {answer : Result Plan PlanRefusal} → keys ≡ ObjectPairs.Refused answer → (before : List ℕ) → Flattens (objects_flat T left right) T (most_of T right) states before at states before (Refused answer)
   objects_refused {answer} e before = let f = subst (MatchedBy T left right order) e m.told in flattens_none T (most_of T right) states before at (λ u seen s. f u seen)
 
 -- the whole call
@@ -293,13 +295,13 @@ module _ (T : Tables) {left right : ℕ} (g : GoodPair T left right) (s : Scope)
     unfolding nodes_flat
     came r e = subst (λ (x : Flattened). FlattenedAs (flatten (is_unbound s RespectParent) (expr T right) (expr T left) []) [] (most_of T right) states before 0 known mid x) e (f.each (is_unbound s RespectParent) [] scoped)
 
-    pub pairs_refused : {answer : PlanAnswer} {later : List ℕ} → done ≡ Refused answer → length mid ≡ length before → later ≡ replicate (length mid) 0
+    pub pairs_refused : {answer : Result Plan PlanRefusal} {later : List ℕ} → done ≡ Refused answer → length mid ≡ length before → later ≡ replicate (length mid) 0
         → Answered (flat_outcome (flatten (is_unbound s RespectParent) (expr T right) (expr T left) [])) before later answer
     pairs_refused {answer} e long zeros =
         let c = (came (Refused answer) e).failed in
         rw c.is (refuses c.refusal c.line (rw long at zeros))
 
-    pub pairs_planned : {at : ℕ} {later : List ℕ} {r : PlanAnswer} → done ≡ Next at → Closed 4 at mid later r
+    pub pairs_planned : {at : ℕ} {later : List ℕ} {r : Result Plan PlanRefusal} → done ≡ Next at → Closed 4 at mid later r
         → Answered (flat_outcome (flatten (is_unbound s RespectParent) (expr T right) (expr T left) [])) before later r
     pairs_planned {at} e d =
         let c = came (Next at) e in

@@ -1,4 +1,5 @@
 -- The pair of two sides as they are.
+use Rattle.std.proofs.Common.{Result}
 use Prim.Native.Nat.{ℕ, ◌+◌, ◌≤◌}
 use mathlib.Core.Path.{◌≡◌, refl, sym, ap, subst, ◌∙◌}
 use mathlib.Core.Bool.{Bool}
@@ -8,7 +9,8 @@ use lib.ListN.{length}
 use Rattle.table.specs.Tables.{Tables}
 use Rattle.table.specs.Decode.{expr}
 use Rattle.table.specs.code.Sound.{Node, WellFormed}
-use Rattle.planner.specs.declared.PlanAnswer.{PlanAnswer}
+use Rattle.planner.specs.declared.Plan.{Plan}
+use Rattle.planner.specs.declared.PlanRefusal.{PlanRefusal}
 use Rattle.planner.specs.Plan.{DestructuringPlan, plan, after}
 use Rattle.planner.specs.Layout.{Entry, below, top, entry, entries, introduces_binding}
 use Rattle.planner.specs.code.Passes.{unbound_in}
@@ -49,7 +51,7 @@ flattens_as {f} {g} {T} {most} {bound} {states} {before} {at} {later} {after} {r
     }
 
 -- a refusal before any pair
-pub flattens_none : {f : (ℕ → Bool) → List ℕ → Flat} (T : Tables) (most : ℕ) (states before : List ℕ) (at : ℕ) {answer : PlanAnswer}
+pub flattens_none : {f : (ℕ → Bool) → List ℕ → Flat} (T : Tables) (most : ℕ) (states before : List ℕ) (at : ℕ) {answer : Result Plan PlanRefusal}
     → ((u : ℕ → Bool) (seen : List ℕ) → Scoped T u seen states → FailedAs (f u seen) answer) → Flattens f T most states before at states before (Refused answer)
 unfolding pairs_entries
 flattens_none T most states before at fails = record {

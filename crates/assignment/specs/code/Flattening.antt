@@ -1,10 +1,11 @@
 -- What the functions of `flatten` ask and say.
-use Rattle.std.specs.Prelude.{ℕ, ◌+◌, ◌-◌, ◌^◌, ◌≤◌, ◌<◌, ◌≡◌, Bool, cond, ◌&&◌, List, [], ◌∷◌, ◌++◌, eqb, length, get_or}
+use Rattle.std.specs.Prelude.{ℕ, ◌+◌, ◌-◌, ◌^◌, ◌≤◌, ◌<◌, ◌≡◌, Bool, cond, ◌&&◌, List, [], ◌∷◌, ◌++◌, eqb, length, get_or, Result}
 use Rattle.base.specs.Lent.{MutSlice, MutSlices, old, new}
 use Rattle.table.specs.Tables.{Tables, kind_of, child_at}
 use Rattle.base.specs.Lists.{elem}
 use Rattle.table.specs.code.Sound.{Node, WellFormed}
-use Rattle.planner.specs.declared.PlanAnswer.{PlanAnswer}
+use Rattle.planner.specs.declared.Plan.{Plan}
+use Rattle.planner.specs.declared.PlanRefusal.{PlanRefusal}
 use Rattle.planner.specs.Layout.{Entry, below, top, entry}
 use Rattle.assignment.specs.declared.flatten.Flattened.{Flattened}
 use Rattle.assignment.specs.declared.flatten.Flattened.TheVariants.{Next, Refused}
@@ -45,7 +46,7 @@ pub record Reached (o : Flat) (seen : List ℕ) (most : ℕ) (states₀ before :
   pub learns : Learns names states₀ states
 
 -- a refusal, and the pairs and names before it
-pub record Stopped (o : Flat) (states₀ before : List ℕ) (at : ℕ) (states after : List ℕ) (a : PlanAnswer) : Type 0 where
+pub record Stopped (o : Flat) (states₀ before : List ℕ) (at : ℕ) (states after : List ℕ) (a : Result Plan PlanRefusal) : Type 0 where
   pub failed : FailedAs o a
   pub pairs : List Pair
   pub names : List ℕ
