@@ -16,10 +16,10 @@ use crate::flatten::flatten_assignment_pairs;
 use crate::preview::{introduces_binding, preview_binding_plan, preview_sides};
 use checks::inner::check_literal_structure;
 use checks::{LiteralStructureCheck, Reading};
-use planner::{Plan, PlanRefusal};
 use planner::buffer::{ENTRY_WORDS, PATTERN_WORDS, clear};
 use planner::context::name_states;
 use planner::inner::destructuring::plan_pattern;
+use planner::{Plan, PlanRefusal};
 use scope::{Scope, ScopingMode};
 use table::reading::{first_of, is_node, kind_of, name_class};
 use table::tables::Tables;
@@ -332,7 +332,7 @@ pub fn create_assignment_binding_plan(
     let checked = check(tables, scope);
     if let Err(refused) = checked {
         clear(plan);
-        return Err(PlanRefusal::TableRefused(refused));
+        return Err(refused.into());
     }
     if !is_node(tables.nodes, left) {
         clear(plan);

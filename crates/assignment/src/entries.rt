@@ -40,7 +40,12 @@ pub(crate) fn first_same_scope(nodes: &[u32], scope: Scope, scratch: &[u32], cou
 }
 
 // The first entries of the scratch in the lent buffer.
-pub(crate) fn deliver(plan: &mut [u32], scratch: &[u32], form: u32, count: usize) -> Result<Plan, PlanRefusal>
+pub(crate) fn deliver(
+    plan: &mut [u32],
+    scratch: &[u32],
+    form: u32,
+    count: usize,
+) -> Result<Plan, PlanRefusal>
     requires { ReadAsks scratch.now count }
     ensures { AnsweredIn plan (planned form 0 (read_entries scratch.now 0 count)) result }
 {

@@ -17,10 +17,10 @@ use crate::version::refusing_name;
 use assignment::AssignOp;
 use assignment::assignment::create_assignment_binding_plan;
 use checks::Reading;
-use planner::{Plan, PlanRefusal};
 use planner::buffer::clear;
 use planner::destructuring::create_destructuring_plan;
 use planner::parameters::{create_loop_index_binding_plan, create_parameter_binding_plan};
+use planner::{Plan, PlanRefusal};
 use scope::{Scope, ScopingMode};
 use some_in::create_some_in_binding_plan;
 use table::tables::Tables;
@@ -63,7 +63,12 @@ pub enum Operation {
 }
 
 // Version 0.
-fn plan_v0(tables: &Tables<'_>, scope: Scope, operation: Operation, plan: &mut [u32]) -> Result<Plan, PlanRefusal>
+fn plan_v0(
+    tables: &Tables<'_>,
+    scope: Scope,
+    operation: Operation,
+    plan: &mut [u32],
+) -> Result<Plan, PlanRefusal>
     ensures { AnsweredIn plan (operation_outcome (contents tables.now) scope operation) result }
 {
     match operation {

@@ -12,10 +12,10 @@ ghost use Rattle.some_in.specs.code.Post.{PlaceAsks, Validated, SomeInClosed, Va
 
 use crate::collection::check_collection;
 use checks::{LiteralStructureCheck, Reading};
-use planner::{Plan, PlanRefusal};
 use planner::buffer::{clear, close};
 use planner::inner::destructuring::plan_pattern;
 use planner::inner::parameters::validate_pattern_bindings;
+use planner::{Plan, PlanRefusal};
 use scope::{Scope, ScopingMode};
 use table::check;
 use table::reading::is_node;
@@ -169,7 +169,7 @@ pub fn create_some_in_binding_plan(
     let checked = check(tables, scope);
     if let Err(refused) = checked {
         clear(plan);
-        return Err(PlanRefusal::TableRefused(refused));
+        return Err(refused.into());
     }
     if !is_node(tables.nodes, value) {
         clear(plan);
