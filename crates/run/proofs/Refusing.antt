@@ -17,7 +17,7 @@ use Rattle.table.specs.declared.TableRefusal.{TableRefusal}
 use Rattle.table.specs.Tables.{Tables, name_count, is_node}
 use Rattle.table.specs.Decode.{expr}
 use Rattle.table.specs.Rules.{within_limits, follows_rules, shallow, names_differ}
-use Rattle.table.specs.Check.{checked, table_refused, TableAnswered, tested_of}
+use Rattle.table.specs.Check.{checked, TableAnswered, tested_of}
 use Rattle.table.specs.code.Sound.{WellFormed}
 use Rattle.table.proofs.tests.Bools.{and_true, told_no, told_yes}
 use Rattle.table.proofs.trees.Facts.{sound_table}

@@ -5,7 +5,7 @@ use mathlib.Core.List.{List, []}
 use mathlib.Core.Bool.{Bool, true, false, cond, ◌&&◌, ◌||◌, not, false≢true}
 use mathlib.Core.Option.{none, some}
 use native.Mathlib.Omega.{arith}
-use borrow.Author.Tests.{eqb-true, eqb-false, eq-eqb, ne_eqb, le-leb, lt-leb, leb-true, leb-false, not-true, not-false}
+use borrow.Author.Tests.{eqb-true, eqb-false, eq-eqb, ne_eqb, le-leb, lt-leb, leb-true, leb-false}
 use lib.Dec.{T as True, eqb, leb}
 use lib.ListN.{length, get_or, replicate, length-replicate}
 use lib.Seq.{ext_get_or}
@@ -20,7 +20,7 @@ use Rattle.table.proofs.tests.Bools.{and_true}
 use Rattle.table.proofs.trees.Facts.{sound_table}
 use Rattle.table.proofs.tests.Scan.{all_at}
 use Rattle.base.specs.Refusal.{plan_too_large}
-use Rattle.planner.specs.Plan.{plan, after}
+use Rattle.planner.specs.Plan.{plan}
 use Rattle.planner.specs.Layout.{top, entry_words, entries}
 use Rattle.planner.specs.Entries.{read_entries, Wrote, Closed, word_at}
 use Rattle.planner.specs.Operations.{planned, fits, written, plan_of}
@@ -34,7 +34,7 @@ use Rattle.value.specs.Value.{Value, is_value, value_of, value_at, Proper, node_
 use Rattle.value.specs.code.Post.{ValueNode}
 use Rattle.value.proofs.Keys.{true_is, is_true}
 use Rattle.value.proofs.Admitted.{value_proper}
-use Rattle.std.proofs.Common.{Option, Some, None, Result, Ok, Err}
+use Rattle.std.proofs.Common.{Option, Some, None, Ok, Err}
 use Rattle.matching.specs.Matching.{Env, MatchOutcome, matched, missed, fault, pick_value, run, start, outcome, Asked, Promise}
 use Rattle.matching.specs.code.Post as Post
 use Rattle.matching.specs.code.Post.{env_of, ListOk, PlanIn, names_after, PatternCame}
@@ -44,7 +44,6 @@ use Rattle.matching.proofs.reading.PlanTold.{run_whole}
 use Rattle.report.proofs.Meeting.{after_met, mentions_met, mentioned_named}
 use Rattle.run.specs.declared.RunAnswer.{RunAnswer}
 use Rattle.run.specs.declared.RunAnswer.TheVariants.{Match, NoMatch}
-use Rattle.run.specs.declared.RunRefusal.{RunRefusal}
 use Rattle.run.specs.declared.RunRefusal.TheVariants.{PlanTooLarge}
 use Rattle.run.specs.Answer.{turned_back_lem, a_match, no_match_lem}
 use Rattle.run.specs.Operations.{listed_node, in_table, all_names, is_value_node, listed, values_listed, known_listed, carried_out, ran, carried_result, run_answer, plan_after, set_names, planned_name, values_after, Ran}

@@ -1,6 +1,6 @@
 -- What the functions of a run ask of their caller and say.
 use Rattle.std.specs.Prelude.{ℕ, ◌≤◌, ◌≡◌, Bool, true, ◌&&◌, Result, Ok, Err, List, [], length, replicate}
-use Rattle.base.specs.Refusal.{Refusal, passed}
+use Rattle.base.specs.Refusal.{passed}
 use Rattle.scope.specs.declared.Scope.{Scope}
 use Rattle.scope.specs.declared.ScopingMode.{ScopingMode}
 use Rattle.scope.specs.Scope.{is_unbound, known}
