@@ -99,9 +99,9 @@ module _ (T : Tables) (s : Scope) (mode : ScopingMode) (pattern value : ℕ) (va
 
     -- turned back with another number
     module _ (lows highs : List ℕ) {buffer cleared : List ℕ} {refusal : RunRefusal} (back : r ≡ Err refusal) where
-      pub probe_refused : ((n : ℕ) → refusal ≡ PlanTooLarge n → ⊥) → cleared ≡ replicate (length buffer) 0 → Judged T s mode pattern value values lows highs buffer now cleared (Err (Refused.Run refusal))
+      pub probe_refused : ((n : ℕ) → refusal ≡ PlanTooLarge n → ⊥) → cleared ≡ replicate (length buffer) 0 → {a : ToleranceRefusal} → a ≡ Refused.Run refusal → Judged T s mode pattern value values lows highs buffer now cleared (Err a)
       unfolding tolerance_result plan_left values_left
-      probe_refused other z = go (verdict T s mode pattern value values) (told (verdict T s mode pattern value values))
+      probe_refused other z is = rw is (go (verdict T s mode pattern value values) (told (verdict T s mode pattern value values)))
         where
           go : (v : Verdict T s mode pattern value values (run_outcome T s mode pattern value values)) → Told v → Judged T s mode pattern value values lows highs buffer now cleared (Err (Refused.Run refusal))
           go (inl x) (kept, said) =
@@ -117,7 +117,7 @@ module _ (T : Tables) (s : Scope) (mode : ScopingMode) (pattern value : ℕ) (va
           go (inr a) (kept, said) = absurd (other (length (entries (plan_of T s mode pattern) top)) (let q : ◌≡◌ {A = Result RunAnswer RunRefusal} (Err refusal) (Err (PlanTooLarge (length (entries (plan_of T s mode pattern) top)))) = sym back ∙ said in cc))
 
     -- nothing up to 23 refuses
-    module _ {needed : ℕ} (six : r ≡ Err (PlanTooLarge needed)) where
+    module _ {refusal : RunRefusal} (back : r ≡ Err refusal) {needed : ℕ} (six : refusal ≡ PlanTooLarge needed) where
       pub record Passed : Type 0 where
         pub asks : RunAsks T s mode pattern value values
         pub kept : now ≡ values
@@ -128,10 +128,10 @@ module _ (T : Tables) (s : Scope) (mode : ScopingMode) (pattern value : ℕ) (va
         where
           go : (v : Verdict T s mode pattern value values (run_outcome T s mode pattern value values)) → Told v → Passed
           go (inl x) (kept, said) =
-              let q : Run.turned_back_lem (plan_too_large needed) ≡ Run.turned_back_lem x.refusal = sym (ap Run.result_of six) ∙ said in
+              let q : Run.turned_back_lem (plan_too_large needed) ≡ Run.turned_back_lem x.refusal = sym (ap Run.result_of (back ∙ ap Err six)) ∙ said in
               let p : plan_too_large needed ≡ x.refusal = cc in
               absurd (false≢true (sym x.number ∙ sym (ap (λ (y : Refusal). eqb y.number 6) p)))
-          go (inr a) (kept, said) = record { asks = a; kept = kept; size = let q : ◌≡◌ {A = Result RunAnswer RunRefusal} (Err (PlanTooLarge needed)) (Err (PlanTooLarge (length (entries (plan_of T s mode pattern) top)))) = sym six ∙ said in cc }
+          go (inr a) (kept, said) = record { asks = a; kept = kept; size = let q : ◌≡◌ {A = Result RunAnswer RunRefusal} (Err (PlanTooLarge needed)) (Err (PlanTooLarge (length (entries (plan_of T s mode pattern) top)))) = sym (back ∙ ap Err six) ∙ said in cc }
 
       pub probe_names : ListAsks T.names now
       probe_names = let a = all_passed.asks in let k = all_passed.kept in record { few = (run_table a).limits.names; long = rw k a.long }
@@ -249,9 +249,9 @@ module _ {T : Tables} {s : Scope} {mode : ScopingMode} {pattern value : ℕ} {va
 
 -- 5. For the code: what follows a run that was turned back with 6 alone
 module _ (T : Tables) (s : Scope) (mode : ScopingMode) (pattern value : ℕ) (values : List ℕ) {now left : List ℕ} {r : Result RunAnswer RunRefusal} (done : Ran.Ran (planned_name (Scope.known s mode) (expr T pattern)) (run_outcome T s mode pattern value values) values (replicate 1 0) now left r)
-    {needed : ℕ} (six : r ≡ Err (PlanTooLarge needed)) {list : List ℕ} (of : KnownList T.names T.text s mode now list) where
-  here : Passed T s mode pattern value values done six
-  here = all_passed T s mode pattern value values done six
+    {refusal : RunRefusal} (back : r ≡ Err refusal) {needed : ℕ} (six : refusal ≡ PlanTooLarge needed) {list : List ℕ} (of : KnownList T.names T.text s mode now list) where
+  here : Passed T s mode pattern value values done back six
+  here = all_passed T s mode pattern value values done back six
 
   known_here : KnownList T.names T.text s mode values list
   known_here = rw here.kept at of
@@ -280,9 +280,9 @@ module _ (T : Tables) (s : Scope) (mode : ScopingMode) (pattern value : ℕ) (va
       good : ranges_ok T s mode value values lows highs ≡ true
       good = ranges_are ∙ not-false ok t
 
-      pub plan_refused : {buffer cleared : List ℕ} → length buffer / entry_words < needed → cleared ≡ replicate (length buffer) 0 → Judged T s mode pattern value values lows highs buffer now cleared (Err (Refused.Run (PlanTooLarge needed)))
+      pub plan_refused : {buffer cleared : List ℕ} → length buffer / entry_words < needed → cleared ≡ replicate (length buffer) 0 → {a : ToleranceRefusal} → a ≡ Refused.Run (PlanTooLarge needed) → Judged T s mode pattern value values lows highs buffer now cleared (Err a)
       unfolding tolerance_result plan_left values_left written
-      plan_refused {buffer} {cleared} lt z =
+      plan_refused {buffer} {cleared} lt z is = rw is (
           let size = here.size in
           let f : fits (entries (plan_of T s mode pattern) top) buffer ≡ false = lt-leb (length (entries (plan_of T s mode pattern) top)) (length buffer / entry_words) (rw size at lt) in
           let d : Answer = decision T s mode pattern value values lows highs in
@@ -295,7 +295,7 @@ module _ (T : Tables) (s : Scope) (mode : ScopingMode) (pattern value : ℕ) (va
             plan = z ∙ sym (ap (λ (o : ToleranceOutcome). plan_left o buffer) q ∙ rw f);
             list = here.kept ∙ sym (ap (λ (o : ToleranceOutcome). values_left (planned_name (Scope.known s mode) (expr T pattern)) o buffer values) q
                 ∙ ap (λ (b : Bool). cond b (set_names (planned_name (Scope.known s mode) (expr T pattern)) (set_by d (with_lowest T s mode pattern value values lows highs)) values) values) f);
-          }
+          })
 
       module _ {buffer : List ℕ} (le : needed ≤ length buffer / entry_words) where
         pub ask_judge : ToJudge T s mode pattern value now lows highs list buffer
