@@ -43,6 +43,7 @@ use Rattle.run.specs.code.Post.{RunAsks, to_bind}
 use Rattle.run.proofs.Known.{planned_is}
 use Rattle.run.proofs.Running.{run_table, value_ok, listed_value, ask_plan}
 use Rattle.run.proofs.Refusing.{run_passed}
+use Rattle.std.proofs.Common.{Ok}
 use Rattle.tolerance.specs.declared.ToleranceAnswer.{ToleranceAnswer}
 use Rattle.tolerance.specs.declared.ToleranceAnswer.TheVariants.{Always}
 use Rattle.tolerance.specs.Tolerance.{Number, is_allowed, chosen, chosen_value, chosen_env, Choice, Answer, always, sometimes, never, outcome_under, Matches, Means}
@@ -234,19 +235,19 @@ module _ {T : Tables} {s : Scope} {mode : ScopingMode} {pattern value : ℕ} {va
       told_is : r ≡ answer_named (decision T s mode pattern value values lows highs)
       told_is = (c.each s mode values asks.judging).0
 
-      result : (b : Answer) → tolerance_result_of (answer_named b) ≡ answers b
+      result : (b : Answer) → tolerance_result_of (Ok (answer_named b)) ≡ answers b
       result always = refl
       result sometimes = refl
       result never = refl
 
       -- an answer with its list
       told_with : {after : List ℕ} → after ≡ set_names (planned_name (Scope.known s mode) (expr T pattern)) (set_by (decision T s mode pattern value values lows highs) (with_lowest T s mode pattern value values lows highs)) values
-          → Judged T s mode pattern value values lows highs buffer after filled r
+          → Judged T s mode pattern value values lows highs buffer after filled (Ok r)
       unfolding tolerance_result plan_left values_left
       told_with is = record {
         answer = decision T s mode pattern value values lows highs;
         means = λ t. is_answer run_asks lows highs asks.judging.ranges;
-        told = ap tolerance_result_of told_is ∙ (result (decision T s mode pattern value values lows highs)
+        told = ap (λ (a : ToleranceAnswer). tolerance_result_of (Ok a)) told_is ∙ (result (decision T s mode pattern value values lows highs)
             ∙ sym (ap (λ (o : ToleranceOutcome). tolerance_result o buffer) (outcome_judged run_asks lows highs asks.judging.ranges (decision T s mode pattern value values lows highs))
             ∙ ap (λ (b : Bool). cond b (answers (decision T s mode pattern value values lows highs)) (turned_back_lem (plan_too_large (length (es run_asks))))) fit));
         plan = in_buffer ∙ sym (ap (λ (o : ToleranceOutcome). plan_left o buffer) (outcome_judged run_asks lows highs asks.judging.ranges (decision T s mode pattern value values lows highs)));
@@ -259,13 +260,13 @@ module _ {T : Tables} {s : Scope} {mode : ScopingMode} {pattern value : ℕ} {va
       named_always sometimes q = absurd (false≢true (cc))
       named_always never q = absurd (false≢true (cc))
 
-      pub judged_always : r ≡ Always → {after : List ℕ} → ListSet (length T.names / 2) list' values after → Judged T s mode pattern value values lows highs buffer after filled r
+      pub judged_always : r ≡ Always → {after : List ℕ} → ListSet (length T.names / 2) list' values after → Judged T s mode pattern value values lows highs buffer after filled (Ok r)
       judged_always y {after} set =
           let all = named_always (decision T s mode pattern value values lows highs) (sym told_is ∙ y) in
           told_with (names_set_lem asks.judging list' c.list_ok ((c.each s mode values asks.judging).1 y) all set
           ∙ sym (ap (λ (b : Answer). set_names (planned_name (Scope.known s mode) (expr T pattern)) (set_by b (with_lowest T s mode pattern value values lows highs)) values) all))
 
-      pub judged_else : (r ≡ Always → ⊥) → Judged T s mode pattern value values lows highs buffer values filled r
+      pub judged_else : (r ≡ Always → ⊥) → Judged T s mode pattern value values lows highs buffer values filled (Ok r)
       judged_else n = told_with (go (decision T s mode pattern value values lows highs) told_is)
         where
           go : (b : Answer) → r ≡ answer_named b → values ≡ set_names (planned_name (Scope.known s mode) (expr T pattern)) (set_by b (with_lowest T s mode pattern value values lows highs)) values
