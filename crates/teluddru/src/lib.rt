@@ -27,7 +27,7 @@ use crate::words::tolerances::tolerance_words;
 use body::BodyPlanned;
 use common_example::ExampleAnswer;
 use common_example::sides::ScopedPattern;
-use name_table::NameAnswer;
+use name_table::{NameAnswer, NameRefusal};
 use operation::Operation;
 use planner::PlanAnswer;
 use report::ReportAnswer;
@@ -82,7 +82,7 @@ pub fn add_name<'a>(
     used: u32,
     start: u32,
     length: u32,
-) -> NameAnswer
+) -> Result<NameAnswer, NameRefusal>
     ensures { let T = tables nodes.now children.now numbers.now (name_words names.old) strings.now text.now in
         NameAddedTo names (add_outcome T used start length) used start length result }
 {
