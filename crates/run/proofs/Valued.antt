@@ -10,7 +10,6 @@ use lib.ListN.{length, get_or, set, replicate}
 use Rattle.scope.specs.declared.Scope.{Scope}
 use Rattle.scope.specs.declared.ScopingMode.{ScopingMode}
 use Rattle.scope.specs.declared.Binding.{Binding}
-use Rattle.scope.specs.declared.Binding.TheVariants as Binding
 use Rattle.scope.specs.Scope.{is_unbound, asked, question_of, known}
 use Rattle.scope.proofs.Laws.{says_yes, says_no}
 use Rattle.table.specs.declared.NameClass.{NameClass}
