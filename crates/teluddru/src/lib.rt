@@ -25,7 +25,7 @@ use crate::words::reports::report_words;
 use crate::words::runs::run_words;
 use crate::words::tolerances::tolerance_words;
 use body::BodyPlanned;
-use common_example::ExampleAnswer;
+use common_example::example::{Example, ExampleRefusal};
 use common_example::sides::ScopedPattern;
 use name_table::{NameAnswer, NameRefusal};
 use operation::Operation;
@@ -207,7 +207,7 @@ pub fn common_example<'a>(
     values2: &[u32],
     example_nodes: &mut [u32],
     example_children: &mut [u32],
-) -> ExampleAnswer
+) -> Result<Option<Example>, ExampleRefusal>
     ensures { let T = lent_records nodes children numbers names strings text in
         CommonIn T first values1 second values2 example_nodes example_children result }
 {
