@@ -20,6 +20,7 @@ use Rattle.report.specs.declared.ReportAnswer.{ReportAnswer}
 use Rattle.report.specs.Answer.{report_line}
 use Rattle.report.specs.Report.{ReportedBy}
 use Rattle.name_table.specs.declared.NameAnswer.{NameAnswer}
+use Rattle.name_table.specs.declared.NameRefusal.{NameRefusal}
 use Rattle.name_table.specs.Adding.{add_outcome}
 use Rattle.name_table.specs.Answer.{name_line, NameAdded}
 use Rattle.parties.specs.Parties.{Shared, lent_tables, plan, body, run, report, bind, add_unbound, child, add_name, planned, body_planned_lem, ran, reported, scoped, named, seen, scope_after_call, shared_after}
@@ -43,5 +44,5 @@ pub record ByContract (m : Shared) (s : Scope) : Type 0 where
   pub unbinds : (x : ℕ) (r : Changed) → Called x (add_unbound_variable s x) r → (scoped (call_of r.answer) ≡ seen (add_unbound x) m s) × (r.scope ≡ scope_after_call (add_unbound x) m s)
   pub children : (r : Scope) → r ≡ child_of s → r ≡ scope_after_call child m s
   -- name_table::add_name
-  pub names : (start size : ℕ) (after : List ℕ) (r : NameAnswer) → NameAdded (add_outcome m.tables m.used start size) m.used start size m.tables.names after r
+  pub names : (start size : ℕ) (after : List ℕ) (r : Result NameAnswer NameRefusal) → NameAdded (add_outcome m.tables m.used start size) m.used start size m.tables.names after r
       → (named (name_line r) ≡ seen (add_name start size) m s) × (after ≡ (shared_after (add_name start size) m).tables.names)
