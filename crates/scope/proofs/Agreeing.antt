@@ -262,8 +262,8 @@ pub agreement_promise : AgreementPromise
 agreement_promise = record { new = λ u h. agreed (new_agrees u h) (new_words u h); calls = calls_agree; questions = questions_agree; kept = marks_kept }
 
 -- An empty scope in place of a refused one.
-pub converted_or_empty : (b : ByteScope) {r : Result Scope MarkOutside} → ConvertedFrom b r → result_unwrap_or r (new_scope 0 false) ≡ converted b
-converted_or_empty b {r} c = go (marks_ok b) refl r c.answer c.scope
+pub converted_or_empty : (b : ByteScope) {r : Result Scope MarkOutside} → ConvertedFrom b r → {e : Scope} → e ≡ new_scope 0 false → {s : Scope} → s ≡ result_unwrap_or r e → s ≡ converted b
+converted_or_empty b {r} c empty is = is ∙ (ap (result_unwrap_or r) empty ∙ go (marks_ok b) refl r c.answer c.scope)
   where
     go : (a : Bool) → marks_ok b ≡ a → (r : Result Scope MarkOutside) → conversion_of r ≡ require a breaks_rules passed → IfOk r (λ s. s ≡ of_bytes b)
         → result_unwrap_or r (new_scope 0 false) ≡ converted b
