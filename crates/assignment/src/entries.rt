@@ -7,7 +7,7 @@ ghost use Rattle.assignment.specs.Assignment.{binds_again, first_same_scope};
 
 use planner::buffer::{ENTRY_WORDS, close, copy_entries};
 use planner::{Plan, PlanRefusal, entry_kind};
-use scope::{Binding, Scope};
+use scope::Scope;
 use table::reading::first_of;
 
 // Does an entry bind a name that this very scope has bound?
@@ -15,12 +15,9 @@ fn bound_here(nodes: &[u32], scope: Scope, kind: u32, node: u32) -> bool
     ensures { result ≡ binds_again nodes.now scope kind node }
 {
     if kind == entry_kind::BIND {
-        let binding = scope.has_same_scope_binding(first_of(nodes, node));
-        return match binding {
-            Binding::Yes => true,
-            Binding::No => false,
-            Binding::NameOutside => false,
-        };
+        return scope
+            .has_same_scope_binding(first_of(nodes, node))
+            .unwrap_or(false);
     }
     false
 }

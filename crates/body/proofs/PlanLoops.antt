@@ -10,7 +10,10 @@ use lib.ListN.{length, get_or}
 use mir.Val.{Fits}
 use mir.Syntax.{w64}
 use Rattle.scope.specs.declared.Scope.{Scope}
-use Rattle.scope.specs.declared.Changed.{Changed}
+use Rattle.scope.specs.declared.NameOutside.{NameOutside}
+use Rattle.scope.proofs.Laws.{bound_or_kept}
+use Rattle.std.specs.Prelude.{Result}
+use Rattle.std.specs.Result.{result_unwrap_or}
 use Rattle.scope.specs.declared.ScopingMode.TheVariants.{RespectParent}
 use Rattle.scope.specs.Scope.{bind_variable, Called}
 use Rattle.table.specs.Tables.{Tables, first_word_of}
@@ -34,8 +37,8 @@ module _ (nodes : List ℕ) (s : Scope) (kind node : ℕ) where
   pub binds_none : (kind ≡ 1 → ⊥) → s ≡ bound_entry nodes s kind node
   binds_none e = simp (ne_eqb kind 1 e)
 
-  pub binds_name : kind ≡ 1 → {x : ℕ} → x ≡ first_word_of nodes node → {r : Changed} → Called x (bind_variable s x) r → r.scope ≡ bound_entry nodes s kind node
-  binds_name e i c = c.scope ∙ (ap (bind_variable s) i ∙ simp (eq-eqb kind 1 e))
+  pub binds_name : kind ≡ 1 → {x : ℕ} → x ≡ first_word_of nodes node → {r : Result Scope NameOutside} → Called x (bind_variable s x) r → {t : Scope} → t ≡ result_unwrap_or r s → t ≡ bound_entry nodes s kind node
+  binds_name e {x} i c is = is ∙ (bound_or_kept s x c ∙ (ap (bind_variable s) i ∙ simp (eq-eqb kind 1 e)))
 
 entry_bound : (nodes : List ℕ) (s : Scope) (e : Entry) → bound_entry nodes s e.kind e.node ≡ bind_all s (bound_names (first_word_of nodes) (e ∷ []))
 unfolding bind_all bound_names

@@ -15,8 +15,7 @@ pub(crate) fn bind_entry(nodes: &[u32], scope: Scope, kind: u32, node: u32) -> S
     if kind != entry_kind::BIND {
         return scope;
     }
-    let changed = scope.bind_variable(first_of(nodes, node));
-    changed.scope
+    scope.bind_variable(first_of(nodes, node)).unwrap_or(scope)
 }
 
 // A name that is bound is known; `_` stays.

@@ -15,7 +15,7 @@ use body::{BodyAnswer, plan_body};
 use operation::inner::{put_word, tell};
 use operation::row::{Row, row_from, row_of};
 use planner::buffer::clear;
-use scope::{ConversionAnswer, Scope};
+use scope::{MarkOutside, Scope};
 use table::limits::within_limits;
 use table::tables::Tables;
 
@@ -33,7 +33,7 @@ fn words_first(scheduler: u32, lines: &[u32]) -> u32
 }
 
 // 1 or 2, or 0.
-fn marks_first(tables: &Tables<'_>, made: ConversionAnswer) -> u32
+fn marks_first(tables: &Tables<'_>, made: Result<Scope, MarkOutside>) -> u32
     ensures { line result 0 0 0 ≡ tested_line (marks_first (contents tables.now) (conversion_of made)) }
 {
     if within_limits(tables) {

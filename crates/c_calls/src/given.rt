@@ -7,7 +7,7 @@ ghost use Rattle.table.specs.Lent.{lent};
 ghost use Rattle.c_calls.specs.Given.{marks_of, byte_scope_of, pattern_numbers, GivenTold};
 
 use operation::numbers::{OperationNumbers, are_listed};
-use scope::{ByteScope, ConversionAnswer, Converted, Scope};
+use scope::{ByteScope, MarkOutside, Scope};
 use table::limits::within_limits;
 use table::tables::Tables;
 
@@ -31,14 +31,21 @@ fn marks_of(marks: &[u8]) -> [u8; 128]
 }
 
 // `_` is told by its bytes: the scope needs no number of it.
-pub(crate) fn scope_of(marks: &[u8], scheduler: u32) -> Converted
+pub(crate) fn scope_of(marks: &[u8], scheduler: u32) -> Result<Scope, MarkOutside>
     ensures { ConvertedFrom (byte_scope_of marks.now scheduler) result }
 {
-    Scope::from_bytes(ByteScope {
+    Scope::try_from(ByteScope {
         marks: marks_of(marks),
         underscore: 0,
         scheduler: scheduler == 1,
     })
+}
+
+// A refused scope is never asked: an empty one stands in its place.
+pub(crate) fn given_scope(made: Result<Scope, MarkOutside>) -> Scope
+    ensures { result ≡ given_scope made }
+{
+    made.unwrap_or(Scope::new(0, false))
 }
 
 // Run and the names report are of a pattern, whose operation is 1.
@@ -56,19 +63,19 @@ pub(crate) fn pattern_numbers(scheduler: u32, scoping: u32, pattern: u32) -> Ope
 }
 
 // The number of a conversion's refusal, or 0.
-pub(crate) fn conversion_number(made: ConversionAnswer) -> u32
+pub(crate) fn conversion_number(made: Result<Scope, MarkOutside>) -> u32
     ensures { result ≡ (tested_line (conversion_of made)).number }
 {
     match made {
-        ConversionAnswer::Done => 0,
-        ConversionAnswer::MarkOutside => 2,
+        Ok(_) => 0,
+        Err(MarkOutside) => 2,
     }
 }
 
 // The number of the refusal that comes before the operation's own, or 0.
 pub(crate) fn refused_first(
     tables: &Tables<'_>,
-    made: ConversionAnswer,
+    made: Result<Scope, MarkOutside>,
     asked: OperationNumbers,
 ) -> u32
     ensures { GivenTold (contents tables.now) (conversion_of made) asked result }

@@ -25,9 +25,7 @@ pub fn teluddru_names_report(
 {
     let asked = pattern_numbers(scheduler, scoping, pattern);
     let made = scope_of(marks, scheduler);
-    let converted = made.answer;
-    let scope = made.scope;
-    let before = refused_first(tables, converted, asked);
+    let before = refused_first(tables, made, asked);
     if before != 0 {
         clear(list);
         return refuse(answer, before);

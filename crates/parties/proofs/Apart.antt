@@ -4,6 +4,7 @@ use mathlib.Core.Path.{◌≡◌, refl, sym, ap, ◌∙◌}
 use mathlib.Core.Bool.{Bool, true, false, cond, false≢true}
 use mathlib.Core.List.{List, [], ◌∷◌}
 use Rattle.scope.specs.declared.Scope.{Scope}
+use Rattle.scope.proofs.Laws.{bound_or_kept, added_or_kept}
 use Rattle.parties.specs.Parties.{Shared, PartyCall, add_name, Seen, seen, scope_after_call, shared_after, Party, house, shop, State, party_scope, sees, leaves, Event, finally, is_by, OwnCall, own_calls, observed}
 use Rattle.parties.specs.CallContracts.{ByContract}
 use Rattle.parties.specs.Promise.{PartiesPromise}
@@ -84,8 +85,8 @@ by_contract m s = record {
   bodies = λ lines before after r done. let a = done.answer in let b = done.buffer in (cc, done.scope);
   runs = λ mode pattern value values buffer valuesExit bufferExit r done. let a = done.answer in let b = done.plan in let d = done.list in cc;
   reports = λ mode pattern before after r done. let a = done.answer in let b = done.list in cc;
-  binds = λ x r done. let a = done.answer in (cc, done.scope);
-  unbinds = λ x r done. let a = done.answer in (cc, done.scope);
+  binds = λ x r done. let a = done.answer in (cc, bound_or_kept s x done);
+  unbinds = λ x r done. let a = done.answer in (cc, added_or_kept s x done);
   children = λ r is. is;
   names = λ start size after r done. let a = done.answer in (cc, done.names);
 }

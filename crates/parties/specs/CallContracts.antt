@@ -1,8 +1,9 @@
 -- What a function gives that meets its contract is what `seen`, `scope_after_call` and `shared_after` say of its call.
 use Rattle.std.specs.Prelude.{ℕ, ◌≡◌, List, Result}
+use Rattle.std.specs.Result.{result_unwrap_or}
 use Rattle.scope.specs.declared.Scope.{Scope}
 use Rattle.scope.specs.declared.ScopingMode.{ScopingMode}
-use Rattle.scope.specs.declared.Changed.{Changed}
+use Rattle.scope.specs.declared.NameOutside.{NameOutside}
 use Rattle.scope.specs.Scope.{known, bind_variable, add_unbound_variable, child_of, call_of, Called}
 use Rattle.table.specs.Decode.{expr}
 use Rattle.planner.specs.declared.Plan.{Plan}
@@ -40,8 +41,8 @@ pub record ByContract (m : Shared) (s : Scope) : Type 0 where
   pub reports : (mode : ScopingMode) (pattern : ℕ) (before after : List ℕ) (r : ReportAnswer) → ReportedBy (lent_tables m) s mode pattern before after r
       → reported (report_line r) after ≡ seen (report mode pattern before) m s
   -- Scope::bind_variable, add_unbound_variable, child
-  pub binds : (x : ℕ) (r : Changed) → Called x (bind_variable s x) r → (scoped (call_of r.answer) ≡ seen (bind x) m s) × (r.scope ≡ scope_after_call (bind x) m s)
-  pub unbinds : (x : ℕ) (r : Changed) → Called x (add_unbound_variable s x) r → (scoped (call_of r.answer) ≡ seen (add_unbound x) m s) × (r.scope ≡ scope_after_call (add_unbound x) m s)
+  pub binds : (x : ℕ) (r : Result Scope NameOutside) → Called x (bind_variable s x) r → (scoped (call_of r) ≡ seen (bind x) m s) × (result_unwrap_or r s ≡ scope_after_call (bind x) m s)
+  pub unbinds : (x : ℕ) (r : Result Scope NameOutside) → Called x (add_unbound_variable s x) r → (scoped (call_of r) ≡ seen (add_unbound x) m s) × (result_unwrap_or r s ≡ scope_after_call (add_unbound x) m s)
   pub children : (r : Scope) → r ≡ child_of s → r ≡ scope_after_call child m s
   -- name_table::add_name
   pub names : (start size : ℕ) (after : List ℕ) (r : Result NameAnswer NameRefusal) → NameAdded (add_outcome m.tables m.used start size) m.used start size m.tables.names after r

@@ -5,7 +5,7 @@ ghost use Rattle.planner.specs.Names.{states_of, unbound_mark};
 ghost use Rattle.planner.specs.code.Post.{NameNumber};
 ghost use Rattle.planner.specs.code.Validation.{mark_if, flag_of, flags_of};
 
-use scope::{Binding, Scope, ScopingMode};
+use scope::{Scope, ScopingMode};
 use table::NameClass;
 use table::reading::name_class;
 
@@ -14,12 +14,7 @@ fn unbound_mark(scope: Scope, scoping: ScopingMode, name: u32) -> u8
     requires { NameNumber name }
     ensures { result ≡ unbound_mark (is_unbound scope scoping name) }
 {
-    let binding = scope.is_var_unbound(name, scoping);
-    match binding {
-        Binding::Yes => 1,
-        Binding::No => 0,
-        Binding::NameOutside => 0,
-    }
+    u8::from(scope.is_var_unbound(name, scoping).unwrap_or(false))
 }
 
 // 1 for an unbound name; if `defined`, for one with no binder that is known.

@@ -9,9 +9,10 @@ use lib.Dec.{eqb}
 use lib.ListN.{length, get_or, set, replicate}
 use Rattle.scope.specs.declared.Scope.{Scope}
 use Rattle.scope.specs.declared.ScopingMode.{ScopingMode}
-use Rattle.scope.specs.declared.Binding.{Binding}
+use Rattle.scope.specs.declared.NameOutside.{NameOutside}
+use Rattle.std.specs.Prelude.{Result}
+use Rattle.std.specs.Result.{result_unwrap_or}
 use Rattle.scope.specs.Scope.{is_unbound, asked, question_of, known}
-use Rattle.scope.proofs.Laws.{says_yes, says_no}
 use Rattle.table.specs.declared.NameClass.{NameClass}
 use Rattle.table.specs.declared.NameClass.TheVariants.{Underscore, InputOrData, Ordinary}
 use Rattle.table.specs.Tables.{Tables, tables, name_count, name_bytes}
@@ -22,7 +23,7 @@ use Rattle.table.proofs.tests.Scan.{Scan, scan_start, scan_on, scan_fails, scan_
 use Rattle.planner.specs.Names.{state_by}
 use Rattle.planner.specs.code.Post.{NameNumber}
 use Rattle.planner.specs.Simple.{mentions}
-use Rattle.planner.proofs.laws.States.{name_never}
+use Rattle.planner.proofs.laws.States.{name_reply}
 use Rattle.planner.proofs.laws.SamePlan.{class_wild}
 use Rattle.report.proofs.Meeting.{mentions_met, met_at}
 use Rattle.value.proofs.Changing.{Changing, changing_zeros, changing_on}
@@ -47,15 +48,8 @@ module _ (names text : List ℕ) (x : ℕ) {class : NameClass} (of : class ≡ c
   told_ordinary e = told_wild (simp e)
 
 -- what a scope says of a name
-module _ (x : ℕ) (u : Bool) {b : Binding} (is : question_of b ≡ asked x u) where
-  pub unbound_yes : b ≡ Binding.Yes → true ≡ u
-  unbound_yes e = sym (says_yes x u (ap question_of (sym e) ∙ is)).1
-
-  pub unbound_no : b ≡ Binding.No → false ≡ u
-  unbound_no e = sym (says_no x u (ap question_of (sym e) ∙ is)).1
-
-  pub unbound_never : NameNumber x → b ≡ Binding.NameOutside → false ≡ u
-  unbound_never v e = absurd (name_never x u is v e)
+pub unbound_reply : (x : ℕ) (u : Bool) → NameNumber x → (r : Result Bool NameOutside) → question_of r ≡ asked x u → {b : Bool} → b ≡ result_unwrap_or r false → b ≡ u
+unbound_reply x u v r is e = e ∙ name_reply x u v r is
 
 pub starts_none : (u : Bool) (listed : ℕ) {r : Bool} → r ≡ u → r ≡ true → 0 ≡ cond u 0 listed
 starts_none u listed is t = let e : u ≡ true = sym is ∙ t in rw e

@@ -81,12 +81,12 @@ fn scope_of(line: &[u8]) -> Scope {
     for (mark, column) in marks.iter_mut().zip(8..12) {
         *mark = mark_of(byte_at(line, column));
     }
-    let made = Scope::from_bytes(ByteScope {
+    let made = Scope::try_from(ByteScope {
         marks,
         underscore: underscore_of(byte_at(line, 11)),
         scheduler: false,
     });
-    made.scope
+    made.unwrap_or(Scope::new(0, false))
 }
 
 fn scoping_of(line: &[u8]) -> ScopingMode {

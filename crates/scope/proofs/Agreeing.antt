@@ -14,10 +14,12 @@ use Rattle.scope.specs.declared.ByteScope.{ByteScope}
 use Rattle.scope.specs.declared.ScopingMode.{ScopingMode}
 use Rattle.scope.specs.Names.{is_name, contains, size_of}
 use Rattle.scope.specs.Says.{Says, in_child}
-use Rattle.scope.specs.declared.ConversionAnswer.{ConversionAnswer}
-use Rattle.scope.specs.declared.ConversionAnswer.TheVariants.{Done, MarkOutside}
+use Rattle.scope.specs.declared.MarkOutside.{MarkOutside}
+use Rattle.std.specs.Prelude.{Result, Ok, Err, IfOk}
+use Rattle.base.specs.Refusal.{breaks_rules, passed, require}
+use Rattle.std.specs.Result.{result_unwrap_or, result_err}
 use Rattle.scope.specs.Scope.{says, is_underscore, is_unbound, same_scope, bound_count, changeable, bound_at, unbound_at, bind_variable, add_unbound_variable, child_of, new_scope, named, asked}
-use Rattle.scope.specs.Bytes.{says_mark, marks_ok, mark_bit, marked, of_bytes, sum_of, to_bytes, empty_bytes, conversion_of}
+use Rattle.scope.specs.Bytes.{says_mark, marks_ok, mark_bit, marked, of_bytes, sum_of, to_bytes, empty_bytes, conversion_of, converted, ConvertedFrom}
 use Rattle.scope.specs.Bytes as Bytes
 use Rattle.scope.specs.Promises.{ChangedAt}
 use Rattle.scope.specs.Agreement.{Marks, ScopeWords, Call, CallsAgree, QuestionsAgree, MarksKept, AgreementPromise, ConversionPromise}
@@ -259,11 +261,22 @@ module _ (b : ByteScope) (good : Marks b) where
 pub agreement_promise : AgreementPromise
 agreement_promise = record { new = λ u h. agreed (new_agrees u h) (new_words u h); calls = calls_agree; questions = questions_agree; kept = marks_kept }
 
-conversion_settled : (a c : ConversionAnswer) → conversion_of a ≡ conversion_of c → a ≡ c
-conversion_settled Done Done e = refl
-conversion_settled Done MarkOutside e = cc
-conversion_settled MarkOutside Done e = cc
-conversion_settled MarkOutside MarkOutside e = refl
+-- An empty scope in place of a refused one.
+pub converted_or_empty : (b : ByteScope) {r : Result Scope MarkOutside} → ConvertedFrom b r → {e : Scope} → e ≡ new_scope 0 false → {s : Scope} → s ≡ result_unwrap_or r e → s ≡ converted b
+converted_or_empty b {r} c empty is = is ∙ (ap (result_unwrap_or r) empty ∙ go (marks_ok b) refl r c.answer c.scope)
+  where
+    go : (a : Bool) → marks_ok b ≡ a → (r : Result Scope MarkOutside) → conversion_of r ≡ require a breaks_rules passed → IfOk r (λ s. s ≡ of_bytes b)
+        → result_unwrap_or r (new_scope 0 false) ≡ converted b
+    go true p (Ok s) e is = simp p is
+    go true p (Err o) e is = cc
+    go false p (Ok s) e is = cc
+    go false p (Err o) e is = simp p
+
+conversion_settled : (a c : Result Scope MarkOutside) → conversion_of a ≡ conversion_of c → result_err a ≡ result_err c
+conversion_settled (Ok s) (Ok t) e = refl
+conversion_settled (Ok s) (Err d) e = cc
+conversion_settled (Err c) (Ok t) e = cc
+conversion_settled (Err c) (Err d) e = refl
 
 marks_bounded : (b : ByteScope) → marks_ok b ≡ true → (i : ℕ) → get_or b.marks i 0 ≤ 31
 unfolding marks_ok

@@ -1,28 +1,25 @@
 -- What each way out of a function has shown, over plain values.
 use Prim.Native.Nat.{ℕ, ◌+◌, ◌-◌, ◌*◌, ◌%◌, ◌^◌, ◌≤◌, ◌<◌}
 use mathlib.Core.Path.{◌≡◌, sym, ap, ◌∙◌}
-use mathlib.Core.Bool.{Bool, true, false, not, and-false}
+use mathlib.Core.Bool.{Bool, true, false, cond, not, and-false}
 use mathlib.Core.List.{List}
 use native.Mathlib.Omega.{arith}
 use borrow.Author.Tests.{lt-leb, le-leb, eq-eqb, ne_eqb, not-true, not-false}
 use lib.Bits.{bit_and, bit_or}
 use lib.Count.{ones, ones-le}
-use lib.Dec.{eqb}
 use mir.Syntax.{w32, w64}
 use mir.Val.{Fits}
+use Rattle.base.specs.Refusal.{name_outside}
 use Rattle.scope.specs.declared.name_set.NameSet.{NameSet}
 use Rattle.scope.specs.declared.Scope.{Scope}
 use Rattle.scope.specs.declared.ScopingMode.{ScopingMode}
 use Rattle.scope.specs.declared.ScopingMode.TheVariants.{RespectParent, AllowShadowing}
-use Rattle.scope.specs.declared.ScopeAnswer.{ScopeAnswer}
-use Rattle.scope.specs.declared.ScopeAnswer.TheVariants.{Done, NameOutside}
-use Rattle.scope.specs.declared.Binding.TheVariants as Binding
+use Rattle.std.specs.Prelude.{Ok, Err}
 use Rattle.scope.specs.Names.{is_name, bit_of, with_bit, without_bit, put_bit, at_name, contains, with_name, without_name, no_names, size_of}
 use Rattle.scope.specs.Says.{marked_unbound, taken, by_scoping}
 use Rattle.scope.specs.declared.ByteScope.{ByteScope}
-use Rattle.scope.specs.declared.ConversionAnswer.TheVariants as Conversion
 use Rattle.scope.specs.Bytes.{marks_ok, mark_bit, word_from, marked, of_bytes, ConvertedFrom, weight, sum_of, to_bytes}
-use Rattle.scope.specs.Scope.{new_scope, child_of, says, is_underscore, is_unbound, same_scope, changeable, bind_variable, add_unbound_variable, named, call_of, Called, replied, asked, question_of}
+use Rattle.scope.specs.Scope.{new_scope, child_of, says, is_underscore, is_unbound, same_scope, changeable, bind_variable, add_unbound_variable, Called, replied, turned_back_lem, asked}
 use Rattle.scope.proofs.Bits.{one_shifted}
 use Rattle.base.proofs.Filling.{Filling, filling_ends}
 use Rattle.scope.proofs.Sets.{name_positive, name_most, set_counted}
@@ -46,13 +43,6 @@ told_no {r} {b} e t = sym e ∙ not-true r t
 
 pub told_yes : {r b : Bool} → r ≡ b → not r ≡ false → b ≡ true
 told_yes {r} {b} e t = sym e ∙ not-false r t
-
-module _ (x : ℕ) {r : Bool} (e : r ≡ is_name x) where
-  pub answer_done : r ≡ true → call_of Done ≡ named x
-  answer_done t = simp (sym e ∙ t)
-
-  pub answer_outside : r ≡ false → call_of NameOutside ≡ named x
-  answer_outside t = simp (sym e ∙ t)
 
 -- a word with and without a bit
 pub bit_set : (w k : ℕ) → k < 64 → bit_or w ((1 * 2 ^ k) % 2 ^ 64) ≡ with_bit w k
@@ -111,37 +101,38 @@ unfolding new_scope
 new_is u h e = simp e
 
 -- a change
-module _ (s : Scope) (x : ℕ) where
-  pub not_changeable : {r : Bool} → r ≡ is_name x → not r ≡ true → false ≡ changeable s x
-  unfolding changeable
-  not_changeable e t = simp (told_no e t)
+module _ (s : Scope) (x : ℕ) (b : Bool) {r : Bool} (e : r ≡ is_name x) where
+  pub mark_outside : not r ≡ true → Called x (cond b (bind_variable s x) (add_unbound_variable s x)) (Err (record {}))
+  mark_outside t = record { answer = simp (told_no e t); scope = tt }
 
-  pub changeable_is : {r : Bool} → r ≡ is_name x → not r ≡ false → not (eqb x s.underscore) ≡ changeable s x
-  unfolding changeable is_underscore
-  changeable_is e t = simp (told_yes e t)
+  module _ (t : not r ≡ false) where
+    pub mark_underscore : x ≡ s.underscore → Called x (cond b (bind_variable s x) (add_unbound_variable s x)) (Ok s)
+    unfolding bind_variable add_unbound_variable changeable is_underscore
+    mark_underscore u = record { answer = simp (told_yes e t); scope = go b }
+      where
+        go : (b : Bool) → s ≡ cond b (bind_variable s x) (add_unbound_variable s x)
+        go true = simp (told_yes e t, eq-eqb _ _ u)
+        go false = simp (told_yes e t, eq-eqb _ _ u)
 
-  module _ {a : ScopeAnswer} (is : call_of a ≡ named x) {r : Bool} (e : r ≡ changeable s x) where
-    module _ (t : not r ≡ true) where
-      pub bind_none : Called x (bind_variable s x) (record { answer = a; scope = s })
-      unfolding bind_variable
-      bind_none = record { answer = is; scope = simp (told_no e t) }
-
-      pub add_none : Called x (add_unbound_variable s x) (record { answer = a; scope = s })
-      unfolding add_unbound_variable
-      add_none = record { answer = is; scope = simp (told_no e t) }
-
-    module _ (t : not r ≡ false) {bound here unbound local : NameSet} where
-      pub bind_done : bound ≡ with_name s.bound x → here ≡ with_name s.here x → unbound ≡ without_name s.unbound x → local ≡ without_name s.local x
-          → Called x (bind_variable s x)
-          (record { answer = a; scope = record { bound = bound; here = here; unbound = unbound; local = local; global = s.global; underscore = s.underscore; scheduler = s.scheduler } })
-      unfolding bind_variable
-      bind_done b h u l = record { answer = is; scope = simp (told_yes e t, b, h, u, l) }
-
-      pub add_done : bound ≡ without_name s.bound x → here ≡ without_name s.here x → unbound ≡ with_name s.unbound x → local ≡ without_name s.local x
-          → Called x (add_unbound_variable s x)
-          (record { answer = a; scope = record { bound = bound; here = here; unbound = unbound; local = local; global = s.global; underscore = s.underscore; scheduler = s.scheduler } })
-      unfolding add_unbound_variable
-      add_done b h u l = record { answer = is; scope = simp (told_yes e t, b, h, u, l) }
+    pub mark_done : (x ≡ s.underscore → ⊥) → {bound here unbound local : NameSet}
+        → bound ≡ at_name (put_bit b) s.bound x → here ≡ at_name (put_bit b) s.here x → unbound ≡ at_name (put_bit (not b)) s.unbound x → local ≡ at_name (put_bit false) s.local x
+        → Called x (cond b (bind_variable s x) (add_unbound_variable s x))
+        (Ok (record { bound = bound; here = here; unbound = unbound; local = local; global = s.global; underscore = s.underscore; scheduler = s.scheduler }))
+    unfolding bind_variable add_unbound_variable changeable is_underscore with_name without_name
+    mark_done u e₁ e₂ e₃ e₄ = record { answer = simp (told_yes e t); scope = rw (e₁, e₂, e₃, e₄) (go b) }
+      where
+        go : (b : Bool) → ◌≡◌ {A = Scope}
+            (record {
+              bound = at_name (put_bit b) s.bound x;
+              here = at_name (put_bit b) s.here x;
+              unbound = at_name (put_bit (not b)) s.unbound x;
+              local = at_name (put_bit false) s.local x;
+              global = s.global;
+              underscore = s.underscore;
+              scheduler = s.scheduler;
+            }) (cond b (bind_variable s x) (add_unbound_variable s x))
+        go true = simp (told_yes e t, ne_eqb _ _ u)
+        go false = simp (told_yes e t, ne_eqb _ _ u)
 
 -- what a scope says of a name
 module _ (s : Scope) (x : ℕ) where
@@ -168,33 +159,28 @@ module _ (s : Scope) (x : ℕ) where
     taken_global t is = simp (sym e ∙ t) is
 
   -- the questions
-  pub unbound_outside : (mode : ScopingMode) {r : Bool} → r ≡ is_name x → not r ≡ true → question_of Binding.NameOutside ≡ asked x (is_unbound s mode x)
+  pub unbound_outside : (mode : ScopingMode) {r : Bool} → r ≡ is_name x → not r ≡ true → turned_back_lem name_outside ≡ asked x (is_unbound s mode x)
   unbound_outside mode e t = simp (told_no e t)
 
-  pub same_outside : {r : Bool} → r ≡ is_name x → not r ≡ true → question_of Binding.NameOutside ≡ asked x (same_scope s x)
+  pub same_outside : {r : Bool} → r ≡ is_name x → not r ≡ true → turned_back_lem name_outside ≡ asked x (same_scope s x)
   same_outside e t = simp (told_no e t)
 
   module _ {r : Bool} (e : r ≡ is_name x) (t : not r ≡ false) where
-    pub unbound_underscore : (mode : ScopingMode) → x ≡ s.underscore → question_of Binding.No ≡ asked x (is_unbound s mode x)
+    pub unbound_underscore : (mode : ScopingMode) → x ≡ s.underscore → replied false ≡ asked x (is_unbound s mode x)
     unfolding is_unbound is_underscore
     unbound_underscore mode u = simp (told_yes e t, eq-eqb _ _ u)
 
-    pub same_underscore : x ≡ s.underscore → question_of Binding.No ≡ asked x (same_scope s x)
+    pub same_underscore : x ≡ s.underscore → replied false ≡ asked x (same_scope s x)
     unfolding same_scope is_underscore
     same_underscore u = simp (told_yes e t, eq-eqb _ _ u)
 
     module _ (u : x ≡ s.underscore → ⊥) where
-      module _ {h : Bool} (is : h ≡ contains s.here x) where
-        pub same_yes : h ≡ true → question_of Binding.Yes ≡ asked x (same_scope s x)
-        unfolding same_scope is_underscore says
-        same_yes b = simp (told_yes e t, ne_eqb _ _ u, sym is ∙ b)
-
-        pub same_no : h ≡ false → question_of Binding.No ≡ asked x (same_scope s x)
-        unfolding same_scope is_underscore says
-        same_no b = simp (told_yes e t, ne_eqb _ _ u, sym is ∙ b)
+      pub same_is : {h : Bool} → h ≡ contains s.here x → replied h ≡ asked x (same_scope s x)
+      unfolding same_scope is_underscore says
+      same_is is = simp (told_yes e t, ne_eqb _ _ u, is)
 
       module _ {marked : Bool} (m : marked ≡ marked_unbound s.scheduler (says s x)) where
-        pub unbound_marked : (mode : ScopingMode) → marked ≡ true → question_of Binding.Yes ≡ asked x (is_unbound s mode x)
+        pub unbound_marked : (mode : ScopingMode) → marked ≡ true → replied true ≡ asked x (is_unbound s mode x)
         unfolding is_unbound is_underscore
         unbound_marked mode b = simp (told_yes e t, ne_eqb _ _ u, sym m ∙ b)
 
@@ -203,15 +189,11 @@ module _ (s : Scope) (x : ℕ) where
           unfolding is_unbound is_underscore
           unbound_is mode = simp (told_yes e t, ne_eqb _ _ u, sym m ∙ no)
 
-          pub unbound_shadowed : (mode : ScopingMode) → mode ≡ AllowShadowing → question_of Binding.Yes ≡ asked x (is_unbound s mode x)
+          pub unbound_shadowed : (mode : ScopingMode) → mode ≡ AllowShadowing → replied true ≡ asked x (is_unbound s mode x)
           unbound_shadowed mode a = sym (unbound_is mode ∙ simp a)
 
-          module _ {k : Bool} (f : k ≡ taken (says s x)) where
-            pub unbound_taken : (mode : ScopingMode) → mode ≡ RespectParent → k ≡ true → question_of Binding.No ≡ asked x (is_unbound s mode x)
-            unbound_taken mode a b = sym (unbound_is mode ∙ simp (a, sym f ∙ b))
-
-            pub unbound_free : (mode : ScopingMode) → mode ≡ RespectParent → k ≡ false → question_of Binding.Yes ≡ asked x (is_unbound s mode x)
-            unbound_free mode a b = sym (unbound_is mode ∙ simp (a, sym f ∙ b))
+          pub unbound_free : {k : Bool} → k ≡ taken (says s x) → (mode : ScopingMode) → mode ≡ RespectParent → replied (not k) ≡ asked x (is_unbound s mode x)
+          unbound_free f mode a = sym (unbound_is mode ∙ simp (a, f))
 
 -- conversions
 pub marked_is : (ms : List ℕ) (place : ℕ) {l h : ℕ} → l ≡ word_from (mark_bit ms place) 0 64 → h ≡ word_from (mark_bit ms place) 64 64 → ◌≡◌ {A = NameSet} (record { low = l; high = h }) (marked ms place)
@@ -219,18 +201,14 @@ unfolding marked
 marked_is ms place e f = simp (e, f)
 
 module _ (b : ByteScope) {r : Bool} (e : r ≡ marks_ok b) where
-  pub conversion_refused : {s : Scope} → not r ≡ true → s ≡ new_scope 0 false → ConvertedFrom b (record { answer = Conversion.MarkOutside; scope = s })
-  conversion_refused t is = record { answer = simp (told_no e t); scope = simp (told_no e t, is) }
+  pub conversion_refused : not r ≡ true → ConvertedFrom b (Err (record {}))
+  conversion_refused t = record { answer = simp (told_no e t); scope = tt }
 
   pub conversion_done : {bound here unbound local global : NameSet} → not r ≡ false
       → bound ≡ marked b.marks 0 → here ≡ marked b.marks 1 → unbound ≡ marked b.marks 2 → local ≡ marked b.marks 3 → global ≡ marked b.marks 4
-      → ConvertedFrom b
-      (record {
-        answer = Conversion.Done;
-        scope = record { bound = bound; here = here; unbound = unbound; local = local; global = global; underscore = b.underscore; scheduler = b.scheduler };
-      })
+      → ConvertedFrom b (Ok (record { bound = bound; here = here; unbound = unbound; local = local; global = global; underscore = b.underscore; scheduler = b.scheduler }))
   unfolding of_bytes
-  conversion_done t e₁ e₂ e₃ e₄ e₅ = record { answer = simp (told_yes e t); scope = simp (told_yes e t, e₁, e₂, e₃, e₄, e₅) }
+  conversion_done t e₁ e₂ e₃ e₄ e₅ = record { answer = simp (told_yes e t); scope = simp (e₁, e₂, e₃, e₄, e₅) }
 
 module _ (names : NameSet) (x k : ℕ) {r : Bool} (e : r ≡ contains names x) where
   pub weight_in : r ≡ true → k ≡ weight (contains names x) k

@@ -1,17 +1,17 @@
 -- The promises of a scope's calls.
 use Prim.Native.Nat.{ℕ}
 use mathlib.Core.Path.{◌≡◌, refl, sym, ap, ◌∙◌}
-use mathlib.Core.Bool.{Bool, true, false, cond, not, and-true, and-false, or-true, and-eq-true_iff}
-use Rattle.base.specs.Refusal.{name_outside}
+use mathlib.Core.Bool.{Bool, true, false, cond, not, ◌&&◌, and-true, and-false, or-true, and-eq-true_iff}
+use Rattle.base.specs.Refusal.{name_outside, Tested, passed, refused}
 use Rattle.scope.specs.declared.Scope.{Scope}
 use Rattle.scope.specs.declared.ScopingMode.{ScopingMode}
 use Rattle.scope.specs.declared.ScopingMode.TheVariants.{RespectParent, AllowShadowing}
-use Rattle.scope.specs.declared.ScopeAnswer.{ScopeAnswer}
-use Rattle.scope.specs.declared.ScopeAnswer.TheVariants.{Done, NameOutside}
-use Rattle.scope.specs.declared.Binding.{Binding}
+use Rattle.scope.specs.declared.NameOutside.{NameOutside}
+use Rattle.std.specs.Prelude.{Result, Ok, Err}
+use Rattle.std.specs.Result.{result_unwrap_or, result_err}
 use Rattle.scope.specs.Names.{is_name, contains, no_names, count_from, size_of}
 use Rattle.scope.specs.Says.{Says, nothing, bind, add_unbound, in_child, unbound_under, bound_here, by_scoping}
-use Rattle.scope.specs.Scope.{says, is_underscore, is_unbound, same_scope, bound_count, changeable, bound_at, unbound_at, bind_variable, add_unbound_variable, child_of, new_scope, call_of, Question, replied, turned_back_lem, asked, question_of}
+use Rattle.scope.specs.Scope.{says, is_underscore, is_unbound, same_scope, bound_count, changeable, bound_at, unbound_at, bind_variable, add_unbound_variable, child_of, new_scope, named, call_of, Called, Question, replied, turned_back_lem, asked, question_of}
 use Rattle.scope.specs.Promises.{SameFrame, ChangedAt, BindPromise, AddPromise, ChildPromise, NewPromise, ScopePromise, AnswerLaws}
 use Rattle.scope.proofs.Sets.{contains_none, with_it, with_others, without_it, without_others, count_same}
 
@@ -161,47 +161,57 @@ scope_promise s x = record {
 }
 
 -- the answers
-call_settled : (a b : ScopeAnswer) → call_of a ≡ call_of b → a ≡ b
-call_settled Done Done e = refl
-call_settled Done NameOutside e = cc
-call_settled NameOutside Done e = cc
-call_settled NameOutside NameOutside e = refl
+call_settled : (a b : Result Scope NameOutside) → call_of a ≡ call_of b → result_err a ≡ result_err b
+call_settled (Ok s) (Ok t) e = refl
+call_settled (Ok s) (Err d) e = cc
+call_settled (Err c) (Ok t) e = cc
+call_settled (Err c) (Err d) e = refl
 
-abbrev binding_in : Question → Binding
-binding_in (replied true) = Binding.Yes
-binding_in (replied false) = Binding.No
-binding_in (turned_back_lem r) = Binding.NameOutside
+abbrev reply_in : Question → Result Bool NameOutside
+reply_in (replied b) = Ok b
+reply_in (turned_back_lem r) = Err (record {})
 
-back : (b : Binding) → binding_in (question_of b) ≡ b
-back Binding.Yes = refl
-back Binding.No = refl
-back Binding.NameOutside = refl
+back : (r : Result Bool NameOutside) → reply_in (question_of r) ≡ r
+back (Ok b) = refl
+back (Err e) = refl
+
+-- At a refusal the scope that the caller has is the call's.
+refused_outside : (x : ℕ) → ◌≡◌ {A = Tested} (refused name_outside) (named x) → is_name x ≡ false
+refused_outside x e = go (is_name x) refl
+  where
+    go : (a : Bool) → is_name x ≡ a → is_name x ≡ false
+    go false p = p
+    go true p = let h : ◌≡◌ {A = Tested} (refused name_outside) passed = e ∙ simp p in cc
+
+module _ (s : Scope) (x : ℕ) where
+  pub bound_or_kept : {r : Result Scope NameOutside} → Called x (bind_variable s x) r → result_unwrap_or r s ≡ bind_variable s x
+  bound_or_kept {r = Ok t} c = c.scope
+  bound_or_kept {r = Err e} c = sym ((bind_promise s x).changed.outside (refused_outside x c.answer))
+
+  pub added_or_kept : {r : Result Scope NameOutside} → Called x (add_unbound_variable s x) r → result_unwrap_or r s ≡ add_unbound_variable s x
+  added_or_kept {r = Ok t} c = c.scope
+  added_or_kept {r = Err e} c = sym ((add_promise s x).changed.outside (refused_outside x c.answer))
 
 -- what each answer to a question says
 module _ (x : ℕ) (u : Bool) where
-  pub says_yes : question_of Binding.Yes ≡ asked x u → (is_name x ≡ true) × (u ≡ true)
-  says_yes e = go (is_name x) refl u refl
+  pub says_reply : {b : Bool} → ◌≡◌ {A = Question} (replied b) (asked x u) → (is_name x ≡ true) × (b ≡ u)
+  says_reply {b} e = go (is_name x) refl
     where
-      go : (a : Bool) → is_name x ≡ a → (b : Bool) → u ≡ b → (is_name x ≡ true) × (u ≡ true)
-      go true p true q = (p, q)
-      go true p false q = let h : ◌≡◌ {A = Question} (replied true) (replied false) = e ∙ simp (p, q) in let z : Binding.Yes ≡ Binding.No = ap binding_in h in (cc, cc)
-      go false p b q = let h : ◌≡◌ {A = Question} (replied true) (turned_back_lem name_outside) = e ∙ simp p in let z : Binding.Yes ≡ Binding.NameOutside = ap binding_in h in (cc, cc)
+      go : (a : Bool) → is_name x ≡ a → (is_name x ≡ true) × (b ≡ u)
+      go true p = let h : ◌≡◌ {A = Question} (replied b) (replied u) = e ∙ simp p in (p, cc)
+      go false p = let h : ◌≡◌ {A = Question} (replied b) (turned_back_lem name_outside) = e ∙ simp p in (cc, cc)
 
-  pub says_no : question_of Binding.No ≡ asked x u → (is_name x ≡ true) × (u ≡ false)
-  says_no e = go (is_name x) refl u refl
+  pub says_outside : ◌≡◌ {A = Question} (turned_back_lem name_outside) (asked x u) → is_name x ≡ false
+  says_outside e = go (is_name x) refl
     where
-      go : (a : Bool) → is_name x ≡ a → (b : Bool) → u ≡ b → (is_name x ≡ true) × (u ≡ false)
-      go true p false q = (p, q)
-      go true p true q = let h : ◌≡◌ {A = Question} (replied false) (replied true) = e ∙ simp (p, q) in let z : Binding.No ≡ Binding.Yes = ap binding_in h in (cc, cc)
-      go false p b q = let h : ◌≡◌ {A = Question} (replied false) (turned_back_lem name_outside) = e ∙ simp p in let z : Binding.No ≡ Binding.NameOutside = ap binding_in h in (cc, cc)
+      go : (a : Bool) → is_name x ≡ a → is_name x ≡ false
+      go false p = p
+      go true p = let h : ◌≡◌ {A = Question} (turned_back_lem name_outside) (replied u) = e ∙ simp p in cc
 
-  pub says_outside : question_of Binding.NameOutside ≡ asked x u → is_name x ≡ false
-  says_outside e = go (is_name x) refl u refl
-    where
-      go : (a : Bool) → is_name x ≡ a → (b : Bool) → u ≡ b → is_name x ≡ false
-      go false p b q = p
-      go true p true q = let h : ◌≡◌ {A = Question} (turned_back_lem name_outside) (replied true) = e ∙ simp (p, q) in let z : Binding.NameOutside ≡ Binding.Yes = ap binding_in h in cc
-      go true p false q = let h : ◌≡◌ {A = Question} (turned_back_lem name_outside) (replied false) = e ∙ simp (p, q) in let z : Binding.NameOutside ≡ Binding.No = ap binding_in h in cc
+  -- A number that is no name's counts as "no".
+  pub reply_or_no : (r : Result Bool NameOutside) → question_of r ≡ asked x u → result_unwrap_or r false ≡ (is_name x && u)
+  reply_or_no (Ok b) e = let y = says_reply e in simp y.0 y.1
+  reply_or_no (Err o) e = simp (says_outside e)
 
 pub answer_laws : AnswerLaws
-answer_laws = record { calls = call_settled; questions = λ a b e. sym (back a) ∙ (ap binding_in e ∙ back b) }
+answer_laws = record { calls = call_settled; questions = λ a b e. sym (back a) ∙ (ap reply_in e ∙ back b) }

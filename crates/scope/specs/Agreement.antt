@@ -1,12 +1,13 @@
 -- Bit words and bytes are two layouts of one scope. Converted and then called or asked, or called or asked and then converted, it comes to the
 -- same: from any 128 marks of 0 to 31, at every number, 0 and above 128 included. The module Agreeing of proofs/ proves it.
-use Rattle.std.specs.Prelude.{ℕ, ◌^◌, ◌≤◌, ◌<◌, ◌≡◌, Bool, true, length, get_or}
+use Rattle.std.specs.Prelude.{ℕ, ◌^◌, ◌≤◌, ◌<◌, ◌≡◌, Bool, true, length, get_or, Result}
+use Rattle.std.specs.Result.{result_err}
 use Rattle.base.specs.Refusal.{Tested}
 use Rattle.scope.specs.declared.name_set.NameSet.{NameSet}
 use Rattle.scope.specs.declared.Scope.{Scope}
 use Rattle.scope.specs.declared.ByteScope.{ByteScope}
 use Rattle.scope.specs.declared.ScopingMode.{ScopingMode}
-use Rattle.scope.specs.declared.ConversionAnswer.{ConversionAnswer}
+use Rattle.scope.specs.declared.MarkOutside.{MarkOutside}
 use Rattle.scope.specs.Names.{is_name}
 use Rattle.scope.specs.Scope.{says, is_unbound, same_scope, bound_count, bind_variable, add_unbound_variable, child_of, new_scope, named, asked}
 use Rattle.scope.specs.Bytes.{marks_ok, of_bytes, to_bytes, empty_bytes, conversion_of}
@@ -72,4 +73,4 @@ pub record ConversionPromise : Type 0 where
   pub marks : (s : Scope) → Marks (to_bytes s)
   pub small : (b : ByteScope) → ((i : ℕ) → get_or b.marks i 0 ≤ 31) → marks_ok b ≡ true
   pub large : (b : ByteScope) → marks_ok b ≡ true → (i : ℕ) → get_or b.marks i 0 ≤ 31
-  pub settled : (a c : ConversionAnswer) → conversion_of a ≡ conversion_of c → a ≡ c
+  pub settled : (a c : Result Scope MarkOutside) → conversion_of a ≡ conversion_of c → result_err a ≡ result_err c

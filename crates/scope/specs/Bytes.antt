@@ -1,15 +1,13 @@
 -- The byte layout, as sheets have it: the marks of name x stand at place x - 1, summed. The calls and questions are defined on it as on bit
 -- words; `Agreement` says that the two agree. Conversions between them.
-use Rattle.std.specs.Prelude.{ℕ, zero, suc, ◌+◌, ◌-◌, ◌*◌, ◌/◌, ◌%◌, ◌^◌, ◌≡◌, Bool, true, false, cond, not, ◌&&◌, List, [], ◌∷◌, map, eqb, leb, get_or, set, replicate}
+use Rattle.std.specs.Prelude.{ℕ, zero, suc, ◌+◌, ◌-◌, ◌*◌, ◌/◌, ◌%◌, ◌^◌, ◌≡◌, Bool, true, false, cond, not, ◌&&◌, List, [], ◌∷◌, map, eqb, leb, get_or, set, replicate, Result, Ok, Err, IfOk}
 use Rattle.base.specs.Lists.{tabulate}
 use Rattle.base.specs.Refusal.{breaks_rules, Tested, passed, refused, require}
 use Rattle.scope.specs.declared.name_set.NameSet.{NameSet}
 use Rattle.scope.specs.declared.Scope.{Scope}
 use Rattle.scope.specs.declared.ByteScope.{ByteScope}
 use Rattle.scope.specs.declared.ScopingMode.{ScopingMode}
-use Rattle.scope.specs.declared.Converted.{Converted}
-use Rattle.scope.specs.declared.ConversionAnswer.{ConversionAnswer}
-use Rattle.scope.specs.declared.ConversionAnswer.TheVariants.{Done, MarkOutside}
+use Rattle.scope.specs.declared.MarkOutside.{MarkOutside}
 use Rattle.scope.specs.Names.{is_name, contains, count_from}
 use Rattle.scope.specs.Says.{Says, unbound_under, bound_here}
 use Rattle.scope.specs.Scope.{new_scope}
@@ -101,20 +99,20 @@ of_bytes b =
     }
 
 -- what a conversion answers: marks above 31 break the table rules
-abbrev pub conversion_of : ConversionAnswer → Tested
-conversion_of Done = passed
-conversion_of MarkOutside = refused breaks_rules
+abbrev pub conversion_of : Result Scope MarkOutside → Tested
+conversion_of (Ok s) = passed
+conversion_of (Err outside) = refused breaks_rules
 
 abbrev pub convertible : ByteScope → Tested
 convertible b = require (marks_ok b) breaks_rules passed
 
--- the scope beside the answer, empty at a refusal
+-- the scope of a conversion, or an empty one in its place at a refusal
 abbrev pub converted : ByteScope → Scope
 converted b = cond (marks_ok b) (of_bytes b) (new_scope 0 false)
 
-pub record ConvertedFrom (b : ByteScope) (r : Converted) : Type 0 where
-  pub answer : conversion_of r.answer ≡ convertible b
-  pub scope : r.scope ≡ converted b
+pub record ConvertedFrom (b : ByteScope) (r : Result Scope MarkOutside) : Type 0 where
+  pub answer : conversion_of r ≡ convertible b
+  pub scope : IfOk r (λ s. s ≡ of_bytes b)
 
 -- Bytes from bit words: the marks of a name, summed.
 abbrev pub weight : Bool → ℕ → ℕ

@@ -1,10 +1,10 @@
 -- What each call on a scope promises, with no word of its bits. The module Laws of proofs/ proves each.
-use Rattle.std.specs.Prelude.{ℕ, ◌≡◌, Bool, true, false, not}
+use Rattle.std.specs.Prelude.{ℕ, ◌≡◌, Bool, true, false, not, Result}
+use Rattle.std.specs.Result.{result_err}
 use Rattle.scope.specs.declared.Scope.{Scope}
 use Rattle.scope.specs.declared.ScopingMode.{ScopingMode}
 use Rattle.scope.specs.declared.ScopingMode.TheVariants.{RespectParent, AllowShadowing}
-use Rattle.scope.specs.declared.ScopeAnswer.{ScopeAnswer}
-use Rattle.scope.specs.declared.Binding.{Binding}
+use Rattle.scope.specs.declared.NameOutside.{NameOutside}
 use Rattle.scope.specs.Names.{is_name}
 use Rattle.scope.specs.Says.{Says, nothing, bind, add_unbound, in_child}
 use Rattle.scope.specs.Scope.{says, is_underscore, is_unbound, same_scope, bound_count, bind_variable, add_unbound_variable, child_of, new_scope, call_of, question_of}
@@ -58,5 +58,5 @@ pub record ScopePromise (s : Scope) (x : ℕ) : Type 0 where
 
 -- Document 01's numbers settle the answers.
 pub record AnswerLaws : Type 0 where
-  pub calls : (a b : ScopeAnswer) → call_of a ≡ call_of b → a ≡ b
-  pub questions : (a b : Binding) → question_of a ≡ question_of b → a ≡ b
+  pub calls : (a b : Result Scope NameOutside) → call_of a ≡ call_of b → result_err a ≡ result_err b
+  pub questions : (a b : Result Bool NameOutside) → question_of a ≡ question_of b → a ≡ b

@@ -1,12 +1,9 @@
 -- A scope as bit words: what it says of a name, and what each call makes of it.
-use Rattle.std.specs.Prelude.{ℕ, ◌≡◌, Bool, true, false, cond, not, ◌&&◌, eqb}
+use Rattle.std.specs.Prelude.{ℕ, ◌≡◌, Bool, cond, not, ◌&&◌, eqb, Result, Ok, Err, IfOk}
 use Rattle.base.specs.Refusal.{Refusal, name_outside, Tested, passed, refused, require, require_or}
 use Rattle.scope.specs.declared.Scope.{Scope}
 use Rattle.scope.specs.declared.ScopingMode.{ScopingMode}
-use Rattle.scope.specs.declared.Changed.{Changed}
-use Rattle.scope.specs.declared.ScopeAnswer.{ScopeAnswer}
-use Rattle.scope.specs.declared.ScopeAnswer.TheVariants.{Done, NameOutside}
-use Rattle.scope.specs.declared.Binding.{Binding}
+use Rattle.scope.specs.declared.NameOutside.{NameOutside}
 unfoldable pub use Rattle.scope.specs.Names.{is_name}
 use Rattle.scope.specs.Names.{contains, with_name, without_name, no_names, size_of}
 use Rattle.scope.specs.Says.{Says, unbound_under, bound_here}
@@ -103,18 +100,18 @@ new_scope underscore scheduler =
       scheduler = scheduler;
     }
 
--- A name outside 1 to 128 is turned back, and the scope returns as given.
+-- A name outside 1 to 128 is turned back, and the caller's scope stays as it was.
 abbrev pub named : ℕ → Tested
 named x = require (is_name x) name_outside passed
 
 -- what a call answers
-abbrev pub call_of : ScopeAnswer → Tested
-call_of Done = passed
-call_of NameOutside = refused name_outside
+abbrev pub call_of : Result Scope NameOutside → Tested
+call_of (Ok s) = passed
+call_of (Err outside) = refused name_outside
 
-pub record Called (x : ℕ) (s : Scope) (r : Changed) : Type 0 where
-  pub answer : call_of r.answer ≡ named x
-  pub scope : r.scope ≡ s
+pub record Called (x : ℕ) (s : Scope) (r : Result Scope NameOutside) : Type 0 where
+  pub answer : call_of r ≡ named x
+  pub scope : IfOk r (λ t. t ≡ s)
 
 -- what a question comes to
 pub data Question : Type 0 where
@@ -125,7 +122,6 @@ abbrev pub asked : ℕ → Bool → Question
 asked x b = require_or turned_back_lem (is_name x) name_outside (replied b)
 
 -- what a question answers
-abbrev pub question_of : Binding → Question
-question_of Binding.Yes = replied true
-question_of Binding.No = replied false
-question_of Binding.NameOutside = turned_back_lem name_outside
+abbrev pub question_of : Result Bool NameOutside → Question
+question_of (Ok b) = replied b
+question_of (Err outside) = turned_back_lem name_outside

@@ -1,9 +1,9 @@
 // Scopes (compiler/context.rs, and the impl of VariableBindingContext for ScopeContext in hoist.rs).
 #![tactic(auto)]
 
-ghost use Rattle.std.specs.Prelude.{◌≡◌};
+ghost use Rattle.std.specs.Prelude.{◌≡◌, cond};
 ghost use Rattle.scope.specs.Says.{marked_unbound, taken};
-ghost use Rattle.scope.specs.Scope.{says, new_scope, child_of, bind_variable, add_unbound_variable, changeable, is_unbound, same_scope, bound_count, named, call_of, Called, asked, question_of};
+ghost use Rattle.scope.specs.Scope.{says, new_scope, child_of, bind_variable, add_unbound_variable, is_unbound, same_scope, bound_count, Called, asked, question_of};
 ghost use Rattle.scope.specs.Bytes.{sum_of, to_bytes, ConvertedFrom};
 
 use bytes::{marked, marks_ok, weight};
@@ -40,47 +40,13 @@ pub enum ScopingMode {
     AllowShadowing,
 }
 
-#[derive(Clone, Copy)]
-pub enum ScopeAnswer {
-    Done,
-    NameOutside,
-}
+// The number of a call or question is no name's: not 1 to 128.
+#[derive(Clone, Copy, Debug, PartialEq, Eq)]
+pub struct NameOutside;
 
-// A scope beside the answer of the call that made it.
-#[derive(Clone, Copy)]
-pub struct Changed {
-    pub answer: ScopeAnswer,
-    pub scope: Scope,
-}
-
-#[derive(Clone, Copy)]
-pub enum ConversionAnswer {
-    Done,
-    MarkOutside,
-}
-
-// A scope beside the answer of the conversion that made it.
-#[derive(Clone, Copy)]
-pub struct Converted {
-    pub answer: ConversionAnswer,
-    pub scope: Scope,
-}
-
-#[derive(Clone, Copy)]
-pub enum Binding {
-    Yes,
-    No,
-    NameOutside,
-}
-
-fn answer_of(name: u32) -> ScopeAnswer
-    ensures { call_of result ≡ named name }
-{
-    if is_name(name) {
-        return ScopeAnswer::Done;
-    }
-    ScopeAnswer::NameOutside
-}
+// A mark above 31.
+#[derive(Clone, Copy, Debug, PartialEq, Eq)]
+pub struct MarkOutside;
 
 impl Scope {
     pub fn new(underscore: u32, scheduler: bool) -> Self
@@ -106,82 +72,46 @@ impl Scope {
         self
     }
 
-    pub fn bind_variable(self, name: u32) -> Changed
+    pub fn bind_variable(self, name: u32) -> Result<Self, NameOutside>
         ensures { Called name (bind_variable self name) result }
     {
-        let answer = answer_of(name);
-        if !self.changeable(name) {
-            return Changed {
-                answer,
-                scope: self,
-            };
-        }
-        let scope = Self {
-            bound: self.bound.with(name),
-            here: self.here.with(name),
-            unbound: self.unbound.without(name),
-            local: self.local.without(name),
-            ..self
-        };
-        Changed { answer, scope }
+        self.mark_as(name, true)
     }
 
-    pub fn add_unbound_variable(self, name: u32) -> Changed
+    pub fn add_unbound_variable(self, name: u32) -> Result<Self, NameOutside>
         ensures { Called name (add_unbound_variable self name) result }
     {
-        let answer = answer_of(name);
-        if !self.changeable(name) {
-            return Changed {
-                answer,
-                scope: self,
-            };
-        }
-        let scope = Self {
-            bound: self.bound.without(name),
-            here: self.here.without(name),
-            unbound: self.unbound.with(name),
-            local: self.local.without(name),
-            ..self
-        };
-        Changed { answer, scope }
+        self.mark_as(name, false)
     }
 
-    pub fn is_var_unbound(self, name: u32, scoping: ScopingMode) -> Binding
+    pub fn is_var_unbound(self, name: u32, scoping: ScopingMode) -> Result<bool, NameOutside>
         ensures { question_of result ≡ asked name (is_unbound self scoping name) }
     {
         if !is_name(name) {
-            return Binding::NameOutside;
+            return Err(NameOutside);
         }
         if name == self.underscore {
-            return Binding::No; // under both scopings
+            return Ok(false); // under both scopings
         }
         if self.marked_unbound(name) {
-            return Binding::Yes;
+            return Ok(true);
         }
         match scoping {
-            ScopingMode::AllowShadowing => Binding::Yes,
-            ScopingMode::RespectParent => {
-                if self.taken(name) {
-                    return Binding::No;
-                }
-                Binding::Yes
-            }
+            ScopingMode::AllowShadowing => Ok(true),
+            ScopingMode::RespectParent => Ok(!self.taken(name)),
         }
     }
 
-    pub fn has_same_scope_binding(self, name: u32) -> Binding
+    pub fn has_same_scope_binding(self, name: u32) -> Result<bool, NameOutside>
         ensures { question_of result ≡ asked name (same_scope self name) }
     {
         if !is_name(name) {
-            return Binding::NameOutside;
+            return Err(NameOutside);
         }
         if name == self.underscore {
-            return Binding::No;
+            return Ok(false);
         }
-        if self.here.contains(name) {
-            return Binding::Yes;
-        }
-        Binding::No
+        Ok(self.here.contains(name))
     }
 
     // How many names are bound.
@@ -191,52 +121,23 @@ impl Scope {
         self.bound.count()
     }
 
-    // Marks above 31 are refused, with an empty scope.
-    pub fn from_bytes(bytes: ByteScope) -> Converted
-        ensures { ConvertedFrom bytes result }
-    {
-        if !marks_ok(bytes) {
-            return Converted {
-                answer: ConversionAnswer::MarkOutside,
-                scope: Self::new(0, false),
-            };
-        }
-        Converted {
-            answer: ConversionAnswer::Done,
-            scope: Self {
-                bound: marked(&bytes.marks, 0),
-                here: marked(&bytes.marks, 1),
-                unbound: marked(&bytes.marks, 2),
-                local: marked(&bytes.marks, 3),
-                global: marked(&bytes.marks, 4),
-                underscore: bytes.underscore,
-                scheduler: bytes.scheduler,
-            },
-        }
-    }
-
-    pub fn to_bytes(self) -> ByteScope
-        ensures { result ≡ to_bytes self }
-    {
-        let mut marks = [0u8; 128];
-        for i in 0..128 {
-            marks[i] = self.mark(i as u32 + 1);
-        }
-        ByteScope {
-            marks,
-            underscore: self.underscore,
-            scheduler: self.scheduler,
-        }
-    }
-
-    // Is it a name other than `_`?
-    fn changeable(self, name: u32) -> bool
-        ensures { result ≡ changeable self name }
+    // The name bound in this scope, or unbound; `_` stays as it is.
+    fn mark_as(self, name: u32, bound: bool) -> Result<Self, NameOutside>
+        ensures { Called name (cond bound (bind_variable self name) (add_unbound_variable self name)) result }
     {
         if !is_name(name) {
-            return false;
+            return Err(NameOutside);
         }
-        name != self.underscore
+        if name == self.underscore {
+            return Ok(self);
+        }
+        Ok(Self {
+            bound: self.bound.put(name, bound),
+            here: self.here.put(name, bound),
+            unbound: self.unbound.put(name, !bound),
+            local: self.local.put(name, false),
+            ..self
+        })
     }
 
     // unbound by its mark, or local under a scheduler
@@ -271,5 +172,42 @@ impl Scope {
             + weight(self.unbound, name, 4)
             + weight(self.local, name, 8)
             + weight(self.global, name, 16)
+    }
+}
+
+impl TryFrom<ByteScope> for Scope {
+    type Error = MarkOutside;
+
+    ghost try_from_gives = { ConvertedFrom };
+
+    fn try_from(bytes: ByteScope) -> Result<Self, MarkOutside> {
+        if !marks_ok(bytes) {
+            return Err(MarkOutside);
+        }
+        Ok(Self {
+            bound: marked(&bytes.marks, 0),
+            here: marked(&bytes.marks, 1),
+            unbound: marked(&bytes.marks, 2),
+            local: marked(&bytes.marks, 3),
+            global: marked(&bytes.marks, 4),
+            underscore: bytes.underscore,
+            scheduler: bytes.scheduler,
+        })
+    }
+}
+
+impl From<Scope> for ByteScope {
+    ghost from_gives = { λ scope bytes. bytes ≡ to_bytes scope };
+
+    fn from(scope: Scope) -> Self {
+        let mut marks = [0u8; 128];
+        for i in 0..128 {
+            marks[i] = scope.mark(i as u32 + 1);
+        }
+        Self {
+            marks,
+            underscore: scope.underscore,
+            scheduler: scope.scheduler,
+        }
     }
 }

@@ -1,6 +1,6 @@
 // Sets of names as two 64-bit words, a bit a name.
 ghost use Rattle.std.specs.Prelude.{◌≡◌, ◌<◌};
-ghost use Rattle.scope.specs.Names.{is_name, bit_of, with_bit, without_bit, put_bit, at_name, contains, with_name, without_name, no_names, size_of};
+ghost use Rattle.scope.specs.Names.{is_name, bit_of, with_bit, without_bit, put_bit, at_name, contains, no_names, size_of};
 
 // A set of names, a bit a name: names 1 to 64 in `low`, 65 to 128 in `high`.
 #[derive(Clone, Copy)]
@@ -73,7 +73,7 @@ impl NameSet {
     }
 
     // The set with a name, or without it; the same set for any other number.
-    fn put(self, name: u32, present: bool) -> Self
+    pub(crate) fn put(self, name: u32, present: bool) -> Self
         ensures { result ≡ at_name (put_bit present) self name }
     {
         if !is_name(name) {
@@ -89,18 +89,6 @@ impl NameSet {
             low: self.low,
             high: put_bit(self.high, name - 65, present),
         }
-    }
-
-    pub(crate) fn with(self, name: u32) -> Self
-        ensures { result ≡ with_name self name }
-    {
-        self.put(name, true)
-    }
-
-    pub(crate) fn without(self, name: u32) -> Self
-        ensures { result ≡ without_name self name }
-    {
-        self.put(name, false)
     }
 
     pub(crate) fn count(self) -> u32

@@ -4,7 +4,7 @@
 
 ghost use Rattle.std.specs.Prelude.{◌≤◌, ◌<◌};
 
-use scope::{Binding, ByteScope, ConversionAnswer, Scope, ScopeAnswer, ScopingMode};
+use scope::{ByteScope, NameOutside, Scope, ScopingMode};
 use std::io;
 
 // By mark, as hoist.rs reads it: 1 unbound under RespectParent, 2 the same under a scheduler,
@@ -13,13 +13,12 @@ const SAYS: [u8; 32] = [
     3, 0, 7, 4, 3, 3, 7, 7, 3, 2, 7, 6, 3, 3, 7, 7, 0, 0, 4, 4, 3, 3, 7, 7, 2, 2, 6, 6, 3, 3, 7, 7,
 ];
 
-fn digit(b: Binding) -> u32
+fn digit(reply: Result<bool, NameOutside>) -> u32
     ensures { result ≤ 2 }
 {
-    match b {
-        Binding::Yes => 1,
-        Binding::No => 0,
-        Binding::NameOutside => 2,
+    match reply {
+        Ok(yes) => u32::from(yes),
+        Err(NameOutside) => 2,
     }
 }
 
@@ -38,10 +37,10 @@ fn right(s: Scope, name: u32, want: u32) -> u32
     u32::from(asked(s, name) == want)
 }
 
-fn right_answer(a: ScopeAnswer, outside: bool) -> u32
+fn right_answer(changed: Result<Scope, NameOutside>, outside: bool) -> u32
     ensures { result ≤ 1 }
 {
-    u32::from(outside == matches!(a, ScopeAnswer::NameOutside))
+    u32::from(outside == changed.is_err())
 }
 
 // A change of one name leaves its neighbour 3 alone.
@@ -49,13 +48,11 @@ fn right_changes(s: Scope, name: u32, want: u32) -> u32
     ensures { result ≤ 5 }
 {
     let bound = s.bind_variable(name);
-    let bound_scope = bound.scope;
-    let answer = bound.answer;
-    let added = s.add_unbound_variable(name);
-    let added_scope = added.scope;
+    let bound_scope = bound.unwrap_or(s);
+    let added_scope = s.add_unbound_variable(name).unwrap_or(s);
     right(bound_scope, name, 11)
         + right(bound_scope, 3, want)
-        + right_answer(answer, false)
+        + right_answer(bound, false)
         + right(added_scope, name, 110)
         + right(added_scope, 3, want)
 }
@@ -64,14 +61,11 @@ fn right_changes(s: Scope, name: u32, want: u32) -> u32
 fn right_refusals(s: Scope, name: u32, want: u32) -> u32
     ensures { result ≤ 4 }
 {
-    let skipped = s.bind_variable(2);
-    let skipped_scope = skipped.scope;
+    let skipped_scope = s.bind_variable(2).unwrap_or(s);
     let refused = s.bind_variable(129);
-    let refused_scope = refused.scope;
-    let answer = refused.answer;
     right(skipped_scope, 2, 0)
-        + right_answer(answer, true)
-        + right(refused_scope, name, want)
+        + right_answer(refused, true)
+        + right(refused.unwrap_or(s), name, want)
         + right(s, 129, 222)
 }
 
@@ -90,7 +84,7 @@ fn mark_wanted(here: bool, changed: u8, mark: u8) -> u8 {
 
 // Are the bytes of the scope this mark everywhere, but at the name the changed one?
 fn right_bytes(s: Scope, name: u32, changed: u8, mark: u8) -> bool {
-    let bytes = s.to_bytes();
+    let bytes = ByteScope::from(s);
     let marks = bytes.marks;
     let mut same = true;
     for i in 0..128 {
@@ -99,15 +93,13 @@ fn right_bytes(s: Scope, name: u32, changed: u8, mark: u8) -> bool {
     same
 }
 
-// A mark above 31 is refused, with an empty scope.
+// A mark above 31 is refused; the scope in its place is empty.
 fn right_refusal(mark: u8) -> u32
     requires { mark < 32 }
     ensures { result ≤ 1 }
 {
-    let large = Scope::from_bytes(bytes_of(mark + 32, true));
-    let answer = large.answer;
-    let empty = large.scope;
-    u32::from(matches!(answer, ConversionAnswer::MarkOutside) && right_bytes(empty, 0, 0, 0))
+    let large = Scope::try_from(bytes_of(mark + 32, true));
+    u32::from(large.is_err() && right_bytes(large.unwrap_or(Scope::new(0, false)), 0, 0, 0))
 }
 
 // The byte layout after each call, by its own sums, and as many bound names as it says.
@@ -115,10 +107,8 @@ fn right_layout(s: Scope, name: u32, mark: u8) -> u32
     requires { mark < 32 }
     ensures { result ≤ 5 }
 {
-    let bound = s.bind_variable(name);
-    let bound_scope = bound.scope;
-    let added = s.add_unbound_variable(name);
-    let added_scope = added.scope;
+    let bound_scope = s.bind_variable(name).unwrap_or(s);
+    let added_scope = s.add_unbound_variable(name).unwrap_or(s);
     let inherited = mark - mark / 2 % 2 * 2;
     u32::from(right_bytes(s, 0, 0, mark))
         + u32::from(right_bytes(s.child(), 0, 0, inherited))
@@ -132,8 +122,7 @@ fn right_of(mark: u8, scheduler: bool, name: u32, respects: u32, same: u32) -> u
     requires { (mark < 32) × (respects < 2) × (same < 2) }
     ensures { result ≤ 17 }
 {
-    let made = Scope::from_bytes(bytes_of(mark, scheduler));
-    let s = made.scope;
+    let s = Scope::try_from(bytes_of(mark, scheduler)).unwrap_or(Scope::new(0, false));
     let inherited = respects * 100 + 10;
     let want = inherited + same;
     right(s, name, want)

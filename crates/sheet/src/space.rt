@@ -25,12 +25,12 @@ const SMALL_NODES: usize = 64;
 fn scope_of(marks: &[u8; 128], operation: OperationNumbers) -> Scope
     ensures { result ≡ scope_in operation marks.now }
 {
-    let made = Scope::from_bytes(ByteScope {
+    let made = Scope::try_from(ByteScope {
         marks: *marks,
         underscore: 0,
         scheduler: operation.scheduler == 1,
     });
-    made.scope
+    made.unwrap_or(Scope::new(0, false))
 }
 
 // A refusal that has no place and no counts.

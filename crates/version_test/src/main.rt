@@ -142,8 +142,8 @@ const CASES: [[u32; 7]; 57] = [
 
 // At most one name is bound.
 fn scope(bound: u32) -> Scope {
-    let changed = Scope::new(0, false).bind_variable(bound);
-    changed.scope
+    let none = Scope::new(0, false);
+    none.bind_variable(bound).unwrap_or(none)
 }
 
 fn planned(case: [u32; 7], plan: &mut [u32]) -> Result<Plan, PlanRefusal> {

@@ -7,9 +7,11 @@ use native.Mathlib.Omega.{arith}
 use borrow.Author.Tests.{ne_eqb}
 use lib.ListN.{get_or, length, get_or-eq_default}
 use Rattle.scope.specs.declared.Scope.{Scope}
-use Rattle.scope.specs.declared.Binding.{Binding}
+use Rattle.scope.specs.declared.NameOutside.{NameOutside}
+use Rattle.std.specs.Prelude.{Result}
+use Rattle.std.specs.Result.{result_unwrap_or}
 use Rattle.scope.specs.Scope.{same_scope, asked, question_of}
-use Rattle.scope.proofs.Laws.{says_yes, says_no, says_outside}
+use Rattle.scope.proofs.Laws.{reply_or_no}
 use Rattle.table.specs.Tables.{first_word_of}
 use Rattle.planner.specs.Entries.{entry_at, read_entries}
 use Rattle.planner.proofs.buffer.ReadBack.{read_step, read_end}
@@ -63,15 +65,9 @@ module _ {scratch : List ℕ} {k i : ℕ} (s : Scanning binds_any scratch k i) w
 
 -- one entry
 module _ (nodes : List ℕ) (s : Scope) (node : ℕ) {kind : ℕ} where
-  module _ (is-bind : kind ≡ 1) {x : ℕ} (is : x ≡ first_word_of nodes node) {b : Binding} (told : question_of b ≡ asked x (same_scope s x)) where
-    pub here_yes : b ≡ Binding.Yes → true ≡ binds_again nodes s kind node
-    here_yes e = let y = says_yes x (same_scope s x) (ap question_of (sym e) ∙ told) in simp (is-bind, sym is, y.0, y.1)
-
-    pub here_no : b ≡ Binding.No → false ≡ binds_again nodes s kind node
-    here_no e = let n = says_no x (same_scope s x) (ap question_of (sym e) ∙ told) in simp (is-bind, sym is, n.0, n.1)
-
-    pub here_outside : b ≡ Binding.NameOutside → false ≡ binds_again nodes s kind node
-    here_outside e = simp (is-bind, sym is, says_outside x (same_scope s x) (ap question_of (sym e) ∙ told))
+  pub here_reply : kind ≡ 1 → {x : ℕ} → x ≡ first_word_of nodes node → (r : Result Bool NameOutside) → question_of r ≡ asked x (same_scope s x) → {b : Bool} → b ≡ result_unwrap_or r false
+      → b ≡ binds_again nodes s kind node
+  here_reply is-bind {x} is r told e = e ∙ (reply_or_no x (same_scope s x) r told ∙ simp (is-bind, is))
 
   pub here_other : (kind ≡ 1 → ⊥) → false ≡ binds_again nodes s kind node
   here_other d = simp (ne_eqb kind 1 d)

@@ -11,9 +11,12 @@ use lib.Seq.{get_or-set_other, ext_get_or}
 use Rattle.base.specs.Lists.{tabulate}
 use Rattle.scope.specs.declared.Scope.{Scope}
 use Rattle.scope.specs.declared.ScopingMode.{ScopingMode}
-use Rattle.scope.specs.declared.Binding.{Binding}
+use Rattle.scope.specs.declared.NameOutside.{NameOutside}
+use Rattle.std.specs.Prelude.{Result}
+use Rattle.std.specs.Result.{result_unwrap_or}
+use Rattle.std.specs.Int.{from_bool}
 use Rattle.scope.specs.Scope.{is_name, is_unbound, asked, question_of}
-use Rattle.scope.proofs.Laws.{says_yes, says_no, says_outside}
+use Rattle.scope.proofs.Laws.{reply_or_no}
 use Rattle.table.specs.declared.NameClass.{NameClass}
 use Rattle.table.specs.declared.NameClass.TheVariants.{Underscore, InputOrData, Ordinary}
 use Rattle.table.specs.Tables.{name_bytes}
@@ -25,23 +28,21 @@ use Rattle.planner.specs.code.Validation.{mark_if, flag_by, flag_of, flags_of}
 use Rattle.planner.proofs.buffer.Filling.{Filling, filling_start, filling_on, filling_ends, length_tabulate, get_d_tabulate, tabulate_next, tabulate_same}
 
 -- the scope's answer of a name's number
-module _ (x : ℕ) (u : Bool) {b : Binding} (is : question_of b ≡ asked x u) where
-  pub mark_yes : b ≡ Binding.Yes → 1 ≡ unbound_mark u
-  mark_yes e = simp (says_yes x u (ap question_of (sym e) ∙ is)).1
+pub name_reply : (x : ℕ) (u : Bool) → NameNumber x → (r : Result Bool NameOutside) → question_of r ≡ asked x u → result_unwrap_or r false ≡ u
+unfolding is_name
+name_reply x u v r is =
+    let l = le-leb 1 x v.low in
+    let h = le-leb x 128 v.high in
+    let both : is_name x ≡ true = simp (l, h) in
+    reply_or_no x u r is ∙ simp both
 
-  pub mark_no : b ≡ Binding.No → 0 ≡ unbound_mark u
-  mark_no e = simp (says_no x u (ap question_of (sym e) ∙ is)).1
-
-  pub name_never : NameNumber x → b ≡ Binding.NameOutside → ⊥
-  unfolding is_name
-  name_never v e =
-      let l = le-leb 1 x v.low in
-      let h = le-leb x 128 v.high in
-      let both : is_name x ≡ true = simp (l, h) in
-      false≢true (sym (says_outside x u (ap question_of (sym e) ∙ is)) ∙ both)
-
-  pub mark_never : NameNumber x → b ≡ Binding.NameOutside → 0 ≡ unbound_mark u
-  mark_never v e = absurd (name_never v e)
+pub mark_reply : (x : ℕ) (u : Bool) → NameNumber x → (r : Result Bool NameOutside) → question_of r ≡ asked x u → {b : Bool} → b ≡ result_unwrap_or r false
+    → {n : ℕ} → n ≡ from_bool b → n ≡ unbound_mark u
+mark_reply x u v r is {b} e {n} told = told ∙ (ap from_bool (e ∙ name_reply x u v r is) ∙ go u)
+  where
+    go : (u : Bool) → from_bool u ≡ unbound_mark u
+    go true = refl
+    go false = refl
 
 -- a name's mark
 module _ (defined : Bool) (binder : ℕ) (u : Bool) where

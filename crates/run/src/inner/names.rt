@@ -10,7 +10,7 @@ ghost use Rattle.run.specs.Operations.{known_listed};
 ghost use Rattle.run.specs.code.NamesPost.{ListAsks, StartOf, NamesSet, has_value, all_have_values, KnownAsks};
 
 use report::inner::names_met;
-use scope::{Binding, Scope, ScopingMode};
+use scope::{Scope, ScopingMode};
 use table::NameClass;
 use table::reading::name_class;
 use table::tables::Tables;
@@ -30,12 +30,7 @@ fn is_unbound(scope: Scope, scoping: ScopingMode, name: u32) -> bool
     requires { NameNumber name }
     ensures { result ≡ is_unbound scope scoping name }
 {
-    let binding = scope.is_var_unbound(name, scoping);
-    match binding {
-        Binding::Yes => true,
-        Binding::No => false,
-        Binding::NameOutside => false,
-    }
+    scope.is_var_unbound(name, scoping).unwrap_or(false)
 }
 
 // A known name has its listed value at the start, another name none.

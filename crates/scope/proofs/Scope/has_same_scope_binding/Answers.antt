@@ -1,4 +1,4 @@
-use Rattle.scope.proofs.Cases.{same_outside, same_underscore, same_yes, same_no}
+use Rattle.scope.proofs.Cases.{same_outside, same_underscore, same_is}
 use borrow.Author.Rules.{rules}
 use Rattle.scope.proofs.Scope.has_same_scope_binding.Goals as goal
 
@@ -8,8 +8,5 @@ returns-then-not-is_name c = search (same_outside, rules)
 pub returns-then-name-self : goal.returns-then-name-self
 returns-then-name-self c = search (same_underscore, rules)
 
-pub returns-then-contains : goal.returns-then-contains
-returns-then-contains c = search (same_yes, rules)
-
 pub returns : goal.returns
-returns c = search (same_no, rules)
+returns c = search (same_is, rules)

@@ -1,7 +1,7 @@
 use Rattle.base.proofs.Filling.{filling_start, filling_on}
 use Rattle.scope.proofs.Cases.{bytes_done}
 use borrow.Author.Rules.{rules}
-use Rattle.scope.proofs.Scope.to_bytes.Goals as goal
+use Rattle.scope.proofs.ByteScopeFromScope.from.Goals as goal
 
 pub loop-i-init : goal.loop-i-init
 loop-i-init c = search (filling_start, rules)
