@@ -11,9 +11,10 @@ ghost use Rattle.c_calls.specs.Bodies.{words_first, marks_first, marks_in, ToldB
 
 use crate::given::{conversion_number, scope_of};
 use body::lines::is_body;
-use body::{BodyAnswer, plan_body};
+use body::{BodyRefusal, plan_body};
 use operation::inner::{put_word, tell};
-use operation::row::{Row, row_from, row_of};
+use operation::row::{Row, refusal_row, row_from};
+use planner::Plan;
 use planner::buffer::clear;
 use scope::{MarkOutside, Scope};
 use table::limits::within_limits;
@@ -73,27 +74,23 @@ struct BodyRow {
     pub line: u32,
 }
 
-fn body_row(answer: BodyAnswer) -> BodyRow
+fn body_row(answer: Result<Plan, BodyRefusal>) -> BodyRow
     ensures { body_line (row_line result.row) result.line ≡ body_line_of answer }
 {
     match answer {
-        BodyAnswer::Accepted {
-            form,
-            side,
-            entries,
-        } => BodyRow {
-            row: row_from(0, form as u64, side as u64, entries as u64),
+        Ok(plan) => BodyRow {
+            row: row_from(0, plan.form as u64, plan.side as u64, plan.entries as u64),
             line: 0,
         },
-        BodyAnswer::NotABody => BodyRow {
+        Err(BodyRefusal::NotABody) => BodyRow {
             row: row_from(37, 0, 0, 0),
             line: 0,
         },
-        BodyAnswer::LineRefused { line, answer } => BodyRow {
-            row: row_of(answer),
+        Err(BodyRefusal::LineRefused { line, refusal }) => BodyRow {
+            row: refusal_row(refusal),
             line,
         },
-        BodyAnswer::NameNotReady { line, name } => BodyRow {
+        Err(BodyRefusal::NameNotReady { line, name }) => BodyRow {
             row: row_from(38, name as u64, 0, 0),
             line,
         },

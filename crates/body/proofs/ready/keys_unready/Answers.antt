@@ -12,9 +12,6 @@ first_unknown-found-requires c = keys_ask c.loop-i.invariant
 pub returns-then-found-ne0 : goal.returns-then-found-ne0
 returns-then-found-ne0 c = search (keys_found_lem, rules)
 
-pub overflow_add-i : goal.overflow_add-i
-overflow_add-i c = next_fits c.loop-i.invariant.asks c.loop-i-test.true
-
 pub loop-i-smaller : goal.loop-i-smaller
 loop-i-smaller c = let more = c.loop-i-test.true in
     omega arith

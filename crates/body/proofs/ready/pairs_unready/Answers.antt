@@ -11,9 +11,6 @@ first_unknown-found-requires c = pairs_ask c.loop-i.invariant
 pub returns-then-found-ne0 : goal.returns-then-found-ne0
 returns-then-found-ne0 c = search (pairs_found_lem, rules)
 
-pub overflow_add-i : goal.overflow_add-i
-overflow_add-i c = search (next_fits, rules)
-
 pub loop-i-preserved : goal.loop-i-preserved
 loop-i-preserved c = search (pairs_on, rules)
 
