@@ -10,9 +10,10 @@ use lib.Dec.{leb}
 use lib.ListN.{length, replicate}
 use Rattle.base.specs.Refusal as Refusal
 use Rattle.base.specs.Refusal.{layout_broken, breaks_rules, over_limit, value_too_large, Tested, passed, require, tested_or, Line, line, tested_line}
-use Rattle.scope.specs.declared.Converted.{Converted}
-use Rattle.scope.specs.declared.ConversionAnswer.{ConversionAnswer}
-use Rattle.scope.specs.declared.ConversionAnswer.TheVariants.{Done, MarkOutside}
+use Rattle.scope.specs.declared.Scope.{Scope}
+use Rattle.scope.specs.declared.MarkOutside.{MarkOutside}
+use Rattle.scope.proofs.Agreeing.{converted_or_empty}
+use Rattle.std.specs.Prelude.{Result, Ok, Err}
 use Rattle.scope.specs.declared.ScopingMode.{ScopingMode}
 use Rattle.scope.specs.Bytes.{marks_ok, conversion_of, ConvertedFrom}
 use Rattle.table.specs.declared.TableRefusal.{TableRefusal}
@@ -39,7 +40,7 @@ use Rattle.common_example.specs.Operations.{PatternSide, side_checked, child_ent
 use Rattle.common_example.specs.Common.{example_result, pattern_side, Gives, checked_result, tested_result, SideChecked}
 use Rattle.common_example.proofs.written.Sizes.{entries_size}
 use Rattle.c_calls.specs.declared.examples.HostSide.{HostSide}
-use Rattle.c_calls.specs.Given.{byte_scope_of, scope_of, pattern_numbers, tested_first, given_first, GivenTold}
+use Rattle.c_calls.specs.Given.{byte_scope_of, scope_of, given_scope, pattern_numbers, tested_first, given_first, GivenTold}
 use Rattle.c_calls.specs.Examples.{GivenSide, numbers_in, side_in, example_call, example_line, ExampleCalled, OfHost, ExampleFirst, SecondRefused, marked_outcome}
 use Rattle.c_calls.proofs.Called.{no_refusal}
 
@@ -51,10 +52,10 @@ pub example_table : (answer : ExampleAnswer) {t : TableRefusal} {l : Line} {n : 
 example_table answer {t} e n is = rw e (table_row t n is)
 
 -- 2. a side as it is given
-pub host_is : (marks : List ℕ) (scheduler scoping pattern : ℕ) {c : Converted} {o : OperationNumbers} {mode : ScopingMode} → ConvertedFrom (byte_scope_of marks scheduler) c
-    → o ≡ pattern_numbers scheduler scoping pattern → mode ≡ scoping_of scoping
-    → OfHost marks scheduler scoping pattern (record { made = c.answer; asked = o; pattern = record { scope = c.scope; scoping = mode; root = pattern } })
-host_is marks scheduler scoping pattern from asked mode = record { made = from.answer; scope = from.scope; scoping_is = mode; root = refl; asked = asked }
+pub host_is : (marks : List ℕ) (scheduler scoping pattern : ℕ) {c : Result Scope MarkOutside} {s : Scope} {o : OperationNumbers} {mode : ScopingMode} → ConvertedFrom (byte_scope_of marks scheduler) c
+    → s ≡ given_scope c → o ≡ pattern_numbers scheduler scoping pattern → mode ≡ scoping_of scoping
+    → OfHost marks scheduler scoping pattern (record { made = c; asked = o; pattern = record { scope = s; scoping = mode; root = pattern } })
+host_is marks scheduler scoping pattern from given asked mode = record { made = from.answer; scope = converted_or_empty (byte_scope_of marks scheduler) from refl given; scoping_is = mode; root = refl; asked = asked }
 
 -- 3. what comes first
 module _ (T : Tables) {h₁ h₂ : HostSide} {l : Bool} (listed : l ≡ are_listed h₂.asked) where
@@ -81,11 +82,11 @@ module _ {T : Tables} {s : PatternSide} {c : Checked} (i : SideChecked T s c) wh
       go (Refusal.refused r) q = absurd (false≢true (cc))
 
 module _ {T : Tables} (s₁ s₂ : PatternSide) {out kids out' kids' : List ℕ} {r : ExampleAnswer} where
-  pub given_done : (made : ConversionAnswer) → made ≡ Done → Gives T (example_outcome T s₁ s₂) out kids out' kids' r → Gives T (marked_outcome T s₁ (conversion_of made) s₂) out kids out' kids' r
+  pub given_done : (made : Result Scope MarkOutside) {s : Scope} → made ≡ Ok s → Gives T (example_outcome T s₁ s₂) out kids out' kids' r → Gives T (marked_outcome T s₁ (conversion_of made) s₂) out kids out' kids' r
   unfolding example_outcome
   given_done made e g = rw e g
 
-  pub given_marked : (made : ConversionAnswer) → made ≡ MarkOutside → SecondRefused T s₁ r → out' ≡ replicate (length out) 0 → kids' ≡ replicate (length kids) 0
+  pub given_marked : (made : Result Scope MarkOutside) {o : MarkOutside} → made ≡ Err o → SecondRefused T s₁ r → out' ≡ replicate (length out) 0 → kids' ≡ replicate (length kids) 0
       → Gives T (marked_outcome T s₁ (conversion_of made) s₂) out kids out' kids' r
   unfolding example_answer nodes_after children_after
   given_marked made e i f g = rw e (go (side_checked T s₁) i.answer)

@@ -14,9 +14,6 @@ overflow_add-first c = search (marking_place, rules)
 pub partner_place-place-requires : goal.partner_place-place-requires
 partner_place-place-requires c = search (marking_ask, rules)
 
-pub overflow_add-i : goal.overflow_add-i
-overflow_add-i c = search (marking_next, rules)
-
 pub loop-i-preserved : goal.loop-i-preserved
 loop-i-preserved c = search (marking_on, rules)
 
