@@ -1,4 +1,5 @@
 -- What the calls come to, from what the calls below them say.
+use Rattle.std.proofs.Common.{Result}
 use Prim.Native.Nat.{ℕ}
 use mathlib.Core.Path.{◌≡◌, refl, ap, sym, ◌∙◌, subst}
 use mathlib.Core.Bool.{Bool, true, false, false≢true}
@@ -11,13 +12,13 @@ use Rattle.scope.specs.declared.ScopingMode.{ScopingMode}
 use Rattle.scope.specs.declared.ByteScope.{ByteScope}
 use Rattle.scope.specs.declared.MarkOutside.{MarkOutside}
 use Rattle.scope.proofs.Agreeing.{converted_or_empty}
-use Rattle.std.specs.Prelude.{Result}
 use Rattle.scope.specs.Scope.{known}
 use Rattle.scope.specs.Bytes.{marks_ok, of_bytes, conversion_of, convertible, ConvertedFrom}
 use Rattle.table.specs.Tables.{Tables}
 use Rattle.table.specs.Decode.{expr}
 use Rattle.table.specs.Rules.{within_limits}
-use Rattle.planner.specs.declared.PlanAnswer.{PlanAnswer}
+use Rattle.planner.specs.declared.Plan.{Plan}
+use Rattle.planner.specs.declared.PlanRefusal.{PlanRefusal}
 use Rattle.planner.specs.Answer.{line_of}
 use Rattle.planner.specs.Operations as Plan
 use Rattle.planner.specs.Operations.{Outcome, answered, written, Answered}
@@ -46,7 +47,7 @@ pub plan_fits :
     (version : ℕ)
     (operation : Operation)
     {before after : List ℕ}
-    {answer : PlanAnswer}
+    {answer : Result Plan PlanRefusal}
     {row : Row}
     → Answered (version_outcome T s version operation) before after answer
     → row_line row ≡ line_of answer
@@ -147,7 +148,7 @@ module _ (T : Tables) (marks : List ℕ) (o : OperationNumbers) {made : Result S
       (version : ℕ)
       {buffer bufferExit words wordsExit : List ℕ}
       {operation : Operation}
-      {answer : PlanAnswer}
+      {answer : Result Plan PlanRefusal}
       {row : Row}
       {r : ℕ}
       {s : Scope}

@@ -3,17 +3,16 @@ use Prim.Native.Nat.{ℕ, ◌+◌, ◌/◌, ◌≤◌}
 use mathlib.Core.Path.{◌≡◌, refl, sym, ap, subst, ◌∙◌}
 use mathlib.Core.Bool.{Bool, true, false, not, ◌&&◌, cond, false≢true}
 use mathlib.Core.List.{List}
-use mathlib.Core.Option.{some, none}
+use Rattle.std.proofs.Common.{Option, Some, None, Result, Ok, Err}
 use native.Mathlib.Omega.{arith}
 use borrow.Author.Tests.{leb-true}
 use lib.Dec.{leb}
 use lib.ListN.{length, replicate}
 use Rattle.base.specs.Refusal as Refusal
-use Rattle.base.specs.Refusal.{layout_broken, breaks_rules, over_limit, value_too_large, Tested, passed, require, tested_or, Line, line, tested_line}
+use Rattle.base.specs.Refusal.{layout_broken, breaks_rules, over_limit, value_too_large, Tested, passed, require, tested_or, Line, line, refusal_line, tested_line}
 use Rattle.scope.specs.declared.Scope.{Scope}
 use Rattle.scope.specs.declared.MarkOutside.{MarkOutside}
 use Rattle.scope.proofs.Agreeing.{converted_or_empty}
-use Rattle.std.specs.Prelude.{Result, Ok, Err}
 use Rattle.scope.specs.declared.ScopingMode.{ScopingMode}
 use Rattle.scope.specs.Bytes.{marks_ok, conversion_of, ConvertedFrom}
 use Rattle.table.specs.declared.TableRefusal.{TableRefusal}
@@ -31,13 +30,15 @@ use Rattle.operation.specs.Numbers.{are_listed, scoping_of}
 use Rattle.operation.specs.Rows.{row_line, Told}
 use Rattle.operation.proofs.RowLaws.{table_row}
 use Rattle.value.specs.Value.{Value}
-use Rattle.common_example.specs.declared.Checked.{Checked}
-use Rattle.common_example.specs.declared.Checked.TheVariants as Checked
-use Rattle.common_example.specs.declared.ExampleAnswer.{ExampleAnswer}
-use Rattle.common_example.specs.declared.ExampleAnswer.TheVariants as Answer
+use Rattle.common_example.specs.declared.example.Example.{Example}
+use Rattle.common_example.specs.declared.example.ExampleRefusal.{ExampleRefusal}
+use Rattle.common_example.specs.declared.example.ExampleRefusal.TheVariants.{SideRefused, ValueTooLarge}
+use Rattle.common_example.specs.declared.sides.SideRefusal.{SideRefusal}
+use Rattle.common_example.specs.declared.sides.SideRefusal.TheVariants as Side
+use Rattle.common_example.specs.Answer.{side_refused}
 use Rattle.common_example.specs.Overlap.{size, depthᵛ}
 use Rattle.common_example.specs.Operations.{PatternSide, side_checked, child_entries, ExampleOutcome, refused, no_value_lem, both, example_outcome, turned_back_lem, found, fits_in, example_answer, nodes_after, children_after}
-use Rattle.common_example.specs.Common.{example_result, pattern_side, Gives, checked_result, tested_result, SideChecked}
+use Rattle.common_example.specs.Common.{example_refused, example_result, pattern_side, Gives, example_tested, SideChecked}
 use Rattle.common_example.proofs.written.Sizes.{entries_size}
 use Rattle.c_calls.specs.declared.examples.HostSide.{HostSide}
 use Rattle.c_calls.specs.Given.{byte_scope_of, scope_of, given_scope, pattern_numbers, tested_first, given_first, GivenTold}
@@ -45,11 +46,17 @@ use Rattle.c_calls.specs.Examples.{GivenSide, numbers_in, side_in, example_call,
 use Rattle.c_calls.proofs.Called.{no_refusal}
 
 -- 1. the four numbers
-pub example_is : (answer : ExampleAnswer) {a : ExampleAnswer} {l : Line} → answer ≡ a → l ≡ example_line (example_result a) → l ≡ example_line (example_result answer)
+pub side_is : (refused : SideRefusal) {a : SideRefusal} {l : Line} → refused ≡ a → l ≡ refusal_line (side_refused a) → l ≡ refusal_line (side_refused refused)
+side_is refused e is = rw e is
+
+pub side_table : (refused : SideRefusal) {t : TableRefusal} {l : Line} {n : ℕ} → refused ≡ Side.TableRefused t → n ≡ (table_refused t).number → l ≡ line n 0 0 0 → l ≡ refusal_line (side_refused refused)
+side_table refused {t} e n is = rw e (table_row t n is)
+
+pub example_is : (answer : Result (Option Example) ExampleRefusal) {a : Result (Option Example) ExampleRefusal} {l : Line} → answer ≡ a → l ≡ example_line (example_result a) → l ≡ example_line (example_result answer)
 example_is answer e is = rw e is
 
-pub example_table : (answer : ExampleAnswer) {t : TableRefusal} {l : Line} {n : ℕ} → answer ≡ Answer.TableRefused t → n ≡ (table_refused t).number → l ≡ line n 0 0 0 → l ≡ example_line (example_result answer)
-example_table answer {t} e n is = rw e (table_row t n is)
+pub example_side : (answer : Result (Option Example) ExampleRefusal) {x : SideRefusal} {l : Line} → answer ≡ Err (SideRefused x) → l ≡ refusal_line (side_refused x) → l ≡ example_line (example_result answer)
+example_side answer e is = rw e is
 
 -- 2. a side as it is given
 pub host_is : (marks : List ℕ) (scheduler scoping pattern : ℕ) {c : Result Scope MarkOutside} {s : Scope} {o : OperationNumbers} {mode : ScopingMode} → ConvertedFrom (byte_scope_of marks scheduler) c
@@ -66,35 +73,27 @@ module _ (T : Tables) {h₁ h₂ : HostSide} {l : Bool} (listed : l ≡ are_list
   first_listed t g = record { told = rw (told_yes listed t) g.told; small = g.small }
 
 -- 4. marks of the second side above 31
-module _ {T : Tables} {s : PatternSide} {c : Checked} (i : SideChecked T s c) where
-  pub second_first : {x : ExampleAnswer} → c ≡ Checked.Refused x → SecondRefused T s x
-  second_first {x} e = record { answer = go (side_checked T s) (sym (ap checked_result e) ∙ i.answer) }
-    where
-      go : (t : Tested) → some (example_result x) ≡ tested_result t → some (example_result x) ≡ tested_result (tested_or Refusal.refused t (Refusal.refused breaks_rules))
-      go passed q = absurd (false≢true (cc))
-      go (Refusal.refused r) q = q
+module _ {T : Tables} {s : PatternSide} {c : Result Unit ExampleRefusal} (i : SideChecked T s c) where
+  pub second_first : {x : ExampleRefusal} → c ≡ Err x → SecondRefused T s x
+  second_first e = let h = sym i.answer ∙ ap example_tested e in record { answer = rw h refl }
 
-  pub second_marks : c ≡ Checked.Passed → SecondRefused T s (Answer.TableRefused BreaksRules)
-  second_marks e = record { answer = go (side_checked T s) (sym (ap checked_result e) ∙ i.answer) }
-    where
-      go : (t : Tested) → none ≡ tested_result t → some (turned_back_lem breaks_rules) ≡ tested_result (tested_or Refusal.refused t (Refusal.refused breaks_rules))
-      go passed q = refl
-      go (Refusal.refused r) q = absurd (false≢true (cc))
+  pub second_marks : {u : Unit} → c ≡ Ok u → SecondRefused T s (SideRefused (Side.TableRefused BreaksRules))
+  second_marks e = let h = sym i.answer ∙ ap example_tested e in record { answer = rw h refl }
 
-module _ {T : Tables} (s₁ s₂ : PatternSide) {out kids out' kids' : List ℕ} {r : ExampleAnswer} where
-  pub given_done : (made : Result Scope MarkOutside) {s : Scope} → made ≡ Ok s → Gives T (example_outcome T s₁ s₂) out kids out' kids' r → Gives T (marked_outcome T s₁ (conversion_of made) s₂) out kids out' kids' r
+module _ {T : Tables} (s₁ s₂ : PatternSide) {out kids out' kids' : List ℕ} where
+  pub given_done : {r : Result (Option Example) ExampleRefusal} (made : Result Scope MarkOutside) {s : Scope} → made ≡ Ok s → Gives T (example_outcome T s₁ s₂) out kids out' kids' r → Gives T (marked_outcome T s₁ (conversion_of made) s₂) out kids out' kids' r
   unfolding example_outcome
   given_done made e g = rw e g
 
-  pub given_marked : (made : Result Scope MarkOutside) {o : MarkOutside} → made ≡ Err o → SecondRefused T s₁ r → out' ≡ replicate (length out) 0 → kids' ≡ replicate (length kids) 0
-      → Gives T (marked_outcome T s₁ (conversion_of made) s₂) out kids out' kids' r
+  pub given_marked : {r : ExampleRefusal} (made : Result Scope MarkOutside) {o : MarkOutside} → made ≡ Err o → SecondRefused T s₁ r → out' ≡ replicate (length out) 0 → kids' ≡ replicate (length kids) 0
+      → Gives T (marked_outcome T s₁ (conversion_of made) s₂) out kids out' kids' (Err r)
   unfolding example_answer nodes_after children_after
-  given_marked made e i f g = rw e (go (side_checked T s₁) i.answer)
+  given_marked {r} made e i f g = rw e (go (side_checked T s₁) i.answer)
     where
-      go : (t : Tested) → some (example_result r) ≡ tested_result (tested_or Refusal.refused t (Refusal.refused breaks_rules))
-          → Gives T (tested_or refused t (refused breaks_rules)) out kids out' kids' r
-      go passed q = let z : example_result r ≡ turned_back_lem breaks_rules = cc in record { answer = z; nodes_are = f; children_are = g }
-      go (Refusal.refused x) q = let z : example_result r ≡ turned_back_lem x = cc in record { answer = z; nodes_are = f; children_are = g }
+      go : (t : Tested) → Refusal.refused (example_refused r) ≡ tested_or Refusal.refused t (Refusal.refused breaks_rules)
+          → Gives T (tested_or refused t (refused breaks_rules)) out kids out' kids' (Err r)
+      go passed q = let z : example_refused r ≡ breaks_rules = cc in record { answer = ap turned_back_lem z; nodes_are = f; children_are = g }
+      go (Refusal.refused x) q = let z : example_refused r ≡ x = cc in record { answer = ap turned_back_lem z; nodes_are = f; children_are = g }
 
 -- 5. what is told fits in the words
 small_value : (v : Value) (out kids : List ℕ) → fits_in v out kids ≡ true → size v ≤ 512
@@ -119,19 +118,22 @@ found_short T (both v) out kids n k m few e = go (fits_in v out kids) refl e
         short (omega arith) (omega arith) (omega arith) (omega arith)
     go false f q = absurd (false≢true (cc))
 
-answer_short : (T : Tables) (o : ExampleOutcome) (out kids : List ℕ) → node_count T ≤ 512 → (x : ExampleAnswer) → example_result x ≡ example_answer T o out kids → ShortLine (example_line (example_result x))
-answer_short T o out kids few (Answer.Found n k m) e = found_short T o out kids n k m few e
-answer_short T o out kids few Answer.NoValue e = short (omega arith) (omega arith) (omega arith) (omega arith)
-answer_short T o out kids few (Answer.TableRefused OverLimit) e = short (omega arith) (omega arith) (omega arith) (omega arith)
-answer_short T o out kids few (Answer.TableRefused BreaksRules) e = short (omega arith) (omega arith) (omega arith) (omega arith)
-answer_short T o out kids few (Answer.TableRefused TooDeep) e = short (omega arith) (omega arith) (omega arith) (omega arith)
-answer_short T o out kids few (Answer.TableRefused EqualNames) e = short (omega arith) (omega arith) (omega arith) (omega arith)
-answer_short T o out kids few Answer.RootOutside e = short (omega arith) (omega arith) (omega arith) (omega arith)
-answer_short T o out kids few Answer.ListTooShort e = short (omega arith) (omega arith) (omega arith) (omega arith)
-answer_short T o out kids few Answer.PatternNotSimple e = short (omega arith) (omega arith) (omega arith) (omega arith)
-answer_short T o out kids few Answer.NotAValue e = short (omega arith) (omega arith) (omega arith) (omega arith)
-answer_short T o out kids few Answer.NameWithoutValue e = short (omega arith) (omega arith) (omega arith) (omega arith)
-answer_short T o out kids few Answer.ValueTooLarge e = short (omega arith) (omega arith) (omega arith) (omega arith)
+side_short : (r : SideRefusal) → ShortLine (refusal_line (side_refused r))
+side_short (Side.TableRefused OverLimit) = short (omega arith) (omega arith) (omega arith) (omega arith)
+side_short (Side.TableRefused BreaksRules) = short (omega arith) (omega arith) (omega arith) (omega arith)
+side_short (Side.TableRefused TooDeep) = short (omega arith) (omega arith) (omega arith) (omega arith)
+side_short (Side.TableRefused EqualNames) = short (omega arith) (omega arith) (omega arith) (omega arith)
+side_short Side.RootOutside = short (omega arith) (omega arith) (omega arith) (omega arith)
+side_short Side.ListTooShort = short (omega arith) (omega arith) (omega arith) (omega arith)
+side_short Side.PatternNotSimple = short (omega arith) (omega arith) (omega arith) (omega arith)
+side_short Side.NotAValue = short (omega arith) (omega arith) (omega arith) (omega arith)
+side_short Side.NameWithoutValue = short (omega arith) (omega arith) (omega arith) (omega arith)
+
+answer_short : (T : Tables) (o : ExampleOutcome) (out kids : List ℕ) → node_count T ≤ 512 → (x : Result (Option Example) ExampleRefusal) → example_result x ≡ example_answer T o out kids → ShortLine (example_line (example_result x))
+answer_short T o out kids few (Ok (Some a)) e = found_short T o out kids a.node a.nodes a.children few e
+answer_short T o out kids few (Ok None) e = short (omega arith) (omega arith) (omega arith) (omega arith)
+answer_short T o out kids few (Err (SideRefused r)) e = side_short r
+answer_short T o out kids few (Err ValueTooLarge) e = short (omega arith) (omega arith) (omega arith) (omega arith)
 
 -- 6. the call
 module _ (T : Tables) {marks₁ marks₂ : List ℕ} {scheduler₁ scoping₁ pattern₁ scheduler₂ scoping₂ pattern₂ : ℕ} {h₁ h₂ : HostSide}
@@ -204,7 +206,7 @@ module _ (T : Tables) {marks₁ marks₂ : List ℕ} {scheduler₁ scoping₁ pa
     few_nodes : node_count T ≤ 512
     few_nodes = (limits_of T passes.limits).nodes
 
-    module _ {out kids out' kids' : List ℕ} {x : ExampleAnswer} (was : Gives T (marked_outcome T (pattern_side h₁.pattern values₁) (conversion_of h₂.made) (pattern_side h₂.pattern values₂)) out kids out' kids' x)
+    module _ {out kids out' kids' : List ℕ} {x : Result (Option Example) ExampleRefusal} (was : Gives T (marked_outcome T (pattern_side h₁.pattern values₁) (conversion_of h₂.made) (pattern_side h₂.pattern values₂)) out kids out' kids' x)
         {row : Row} (is : row_line row ≡ example_line (example_result x)) where
       pub example_fits : ShortLine (row_line row)
       example_fits = subst ShortLine (sym is) (answer_short T (marked_outcome T (pattern_side h₁.pattern values₁) (conversion_of h₂.made) (pattern_side h₂.pattern values₂)) out kids few_nodes x was.answer)

@@ -14,8 +14,8 @@ use Rattle.table.specs.declared.TableRefusal.{TableRefusal}
 use Rattle.table.specs.Tables.{Tables}
 use Rattle.table.specs.Rules.{within_limits}
 use Rattle.table.specs.Check.{table_refused, checked}
-use Rattle.table_fault.specs.declared.FaultAnswer.{FaultAnswer}
-use Rattle.table_fault.specs.declared.FaultAnswer.TheVariants as Answer
+use Rattle.table_fault.specs.declared.BrokenRule.{BrokenRule}
+use Rattle.std.proofs.Common.{Option, Some, None}
 use Rattle.table_fault.specs.Rules.{mark_ok_at}
 use Rattle.table_fault.specs.Fault.{Fault, no_fault_lem, broken, fault_of, fault_told, fault_line, FaultAnswered}
 use Rattle.table_fault.specs.Promise.{checked_with_marks}
@@ -29,10 +29,10 @@ use Rattle.operation.specs.Rows.{row_line, Told}
 use Rattle.c_calls.specs.Given.{scope_of, tested_first, given_first}
 use Rattle.c_calls.specs.Faults.{FaultCallPromise}
 
-pub fault_none : (answer : FaultAnswer) {l : Line} → answer ≡ Answer.RulesKept → l ≡ line 0 0 0 0 → l ≡ fault_line (fault_told answer)
+pub fault_none : (answer : Option BrokenRule) {l : Line} → answer ≡ None → l ≡ line 0 0 0 0 → l ≡ fault_line (fault_told answer)
 fault_none answer e is = rw e is
 
-pub fault_some : (answer : FaultAnswer) {t : TableRefusal} {rule place n : ℕ} {l : Line} → answer ≡ Answer.Broken t rule place → n ≡ (table_refused t).number → l ≡ line n rule place 0
+pub fault_some : (answer : Option BrokenRule) {t : TableRefusal} {rule place n : ℕ} {l : Line} → answer ≡ Some (record { refused = t; rule = rule; place = place }) → n ≡ (table_refused t).number → l ≡ line n rule place 0
     → l ≡ fault_line (fault_told answer)
 fault_some answer {rule = rule} {place = place} e n is = rw e (is ∙ ap (λ (m : ℕ). line m rule place 0) n)
 
@@ -48,7 +48,7 @@ module _ (T : Tables) (marks : List ℕ) where
           let n = fault_number T marks refusal number place e in
           short (omega arith) (omega (arith, s.0)) (omega (arith, s.1)) (omega arith)
 
-  module _ {answer : FaultAnswer} {row : Row} (found : FaultAnswered T marks answer) (is : row_line row ≡ fault_line (fault_told answer)) where
+  module _ {answer : Option BrokenRule} {row : Row} (found : FaultAnswered T marks answer) (is : row_line row ≡ fault_line (fault_told answer)) where
     line_is : row_line row ≡ fault_line (fault_of T marks)
     line_is = is ∙ ap fault_line found.answer
 

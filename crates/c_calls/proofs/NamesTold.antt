@@ -20,17 +20,19 @@ use Rattle.operation.specs.declared.row.Row.{Row}
 use Rattle.operation.specs.Rows.{row_line, Told}
 use Rattle.operation.proofs.RowLaws.{table_row}
 use Rattle.name_table.specs.declared.NameAnswer.{NameAnswer}
-use Rattle.name_table.specs.declared.NameAnswer.TheVariants as Name
+use Rattle.name_table.specs.declared.NameRefusal.{NameRefusal}
+use Rattle.name_table.specs.declared.NameRefusal.TheVariants as No
+use Rattle.std.proofs.Common.{Result, Err}
 use Rattle.name_table.specs.Adding.{in_use, in_use_within_limits, has_names, checked_in_use, allowed, number_with_bytes, has_place, AddOutcome, refused, existing, added, at_end, existing_or_added, add_outcome, add_line}
 use Rattle.name_table.specs.Answer.{name_line, NameAdded}
 use Rattle.name_table.proofs.Laws.{name_laws}
 use Rattle.c_calls.specs.NameCall.{NameCalled}
 use Rattle.c_calls.proofs.Shortness.{require_is, table_short}
 
-pub name_is : (answer : NameAnswer) {a : NameAnswer} {l : Line} → answer ≡ a → l ≡ name_line a → l ≡ name_line answer
+pub name_is : (answer : Result NameAnswer NameRefusal) {a : Result NameAnswer NameRefusal} {l : Line} → answer ≡ a → l ≡ name_line a → l ≡ name_line answer
 name_is answer e is = rw e is
 
-pub name_table : (answer : NameAnswer) {t : TableRefusal} {l : Line} {n : ℕ} → answer ≡ Name.TableRefused t → n ≡ (table_refused t).number → l ≡ line n 0 0 0 → l ≡ name_line answer
+pub name_table : (answer : Result NameAnswer NameRefusal) {t : TableRefusal} {l : Line} {n : ℕ} → answer ≡ Err (No.TableRefused t) → n ≡ (table_refused t).number → l ≡ line n 0 0 0 → l ≡ name_line answer
 name_table answer {t} e n is = rw e (table_row t n is)
 
 -- what is told fits in the words
@@ -78,7 +80,7 @@ module _ (T : Tables) (used start size : ℕ) where
       go (existing x) e = let h = number_short ((name_laws T used start size).existing_is_name_lem x e) in short (omega arith) (omega arith) (omega arith) (omega arith)
       go (added x) e = let h = number_short ((name_laws T used start size).added_is_name_lem x e) in short (omega arith) (omega arith) (omega arith) (omega arith)
 
-  module _ {names after : List ℕ} {answer : NameAnswer} {row : Row} (done : NameAdded (add_outcome T used start size) used start size names after answer) (is : row_line row ≡ name_line answer) where
+  module _ {names after : List ℕ} {answer : Result NameAnswer NameRefusal} {row : Row} (done : NameAdded (add_outcome T used start size) used start size names after answer) (is : row_line row ≡ name_line answer) where
     pub name_fits : ShortLine (row_line row)
     name_fits = subst ShortLine (sym (is ∙ done.answer)) name_short
 

@@ -1,6 +1,5 @@
 -- The call for the common example (request 13 of document 02): what is given of each side, the refusals in their order, the answer's four numbers in the lent words and the two lists afterwards.
-use Rattle.std.specs.Prelude.{ℕ, ◌≤◌, ◌≡◌, List}
-use Rattle.std.proofs.Math.Option.{some}
+use Rattle.std.specs.Prelude.{ℕ, ◌≤◌, ◌≡◌, List, Option, Result}
 use Rattle.base.specs.Lent.{Slices, MutSlices, old, new}
 use Rattle.base.specs.Refusal as Refusal
 use Rattle.base.specs.Refusal.{breaks_rules, layout_broken, Tested, passed, require, tested_or, Line, line, refusal_line, tested_line}
@@ -9,10 +8,11 @@ use Rattle.table.specs.Tables.{Tables}
 use Rattle.operation.specs.declared.numbers.OperationNumbers.{OperationNumbers}
 use Rattle.operation.specs.Numbers.{are_listed, scoping_of}
 use Rattle.operation.specs.Rows.{Told}
-use Rattle.common_example.specs.declared.ExampleAnswer.{ExampleAnswer}
+use Rattle.common_example.specs.declared.example.Example.{Example}
+use Rattle.common_example.specs.declared.example.ExampleRefusal.{ExampleRefusal}
 use Rattle.common_example.specs.declared.sides.ScopedPattern.{ScopedPattern}
 use Rattle.common_example.specs.Operations.{PatternSide, side_checked, ExampleOutcome, refused, example_from, ExampleResult, turned_back_lem, no_example, found, example_answer, nodes_after, children_after}
-use Rattle.common_example.specs.Common.{example_result, tested_result, pattern_side, Gives}
+use Rattle.common_example.specs.Common.{example_refused, pattern_side, Gives}
 use Rattle.c_calls.specs.declared.examples.HostSide.{HostSide}
 use Rattle.c_calls.specs.Given.{byte_scope_of, scope_of, pattern_numbers, tested_first, given_first}
 
@@ -72,16 +72,16 @@ pub record ExampleFirst (T : Tables) (first second : HostSide) (r : ℕ) : Type 
   pub small : r ≤ 7
 
 -- the first side's refusals, then 2;
-pub record SecondRefused (T : Tables) (s : PatternSide) (r : ExampleAnswer) : Type 0 where
-  pub answer : some (example_result r) ≡ tested_result (tested_or Refusal.refused (side_checked T s) (Refusal.refused breaks_rules))
+pub record SecondRefused (T : Tables) (s : PatternSide) (r : ExampleRefusal) : Type 0 where
+  pub answer : Refusal.refused (example_refused r) ≡ tested_or Refusal.refused (side_checked T s) (Refusal.refused breaks_rules)
 
-abbrev pub SecondRefusedIn : Tables → ScopedPattern → Slices → ExampleAnswer → Type 0
+abbrev pub SecondRefusedIn : Tables → ScopedPattern → Slices → ExampleRefusal → Type 0
 SecondRefusedIn T p values r = SecondRefused T (pattern_side p values.entry.now) r
 
 -- the example, with what the conversion of the second side's marks says between the two sides' checks.
 abbrev pub marked_outcome : Tables → PatternSide → Tested → PatternSide → ExampleOutcome
 marked_outcome T s₁ made s₂ = tested_or refused (side_checked T s₁) (tested_or refused made (tested_or refused (side_checked T s₂) (example_from T s₁ s₂)))
 
-abbrev pub MarkedIn : Tables → ScopedPattern → Slices → Tested → ScopedPattern → Slices → MutSlices → MutSlices → ExampleAnswer → Type 0
+abbrev pub MarkedIn : Tables → ScopedPattern → Slices → Tested → ScopedPattern → Slices → MutSlices → MutSlices → Result (Option Example) ExampleRefusal → Type 0
 MarkedIn T p values₁ made q values₂ nodes children r =
     Gives T (marked_outcome T (pattern_side p values₁.entry.now) made (pattern_side q values₂.entry.now)) (old nodes) (old children) (new nodes) (new children) r

@@ -4,13 +4,16 @@ ghost use Rattle.table.specs.Lent.{lent};
 ghost use Rattle.std.specs.Prelude.{◌≡◌};
 ghost use Rattle.scope.specs.Bytes.{conversion_of};
 ghost use Rattle.operation.specs.Rows.{row_line};
+ghost use Rattle.base.specs.Refusal.{refusal_line};
+ghost use Rattle.common_example.specs.Answer.{side_refused};
 ghost use Rattle.common_example.specs.Common.{example_result};
 ghost use Rattle.c_calls.specs.Examples.{example_line, OfHost, ExampleFirst, SecondRefusedIn, MarkedIn, given_side, ExampleCalledIn};
 
 use crate::answer::refuse;
 use crate::given::{given_scope, pattern_numbers, refused_first, scope_of};
-use common_example::sides::ScopedPattern;
-use common_example::{Checked, ExampleAnswer, common_example, refused_side};
+use common_example::example::{Example, ExampleRefusal};
+use common_example::sides::{ScopedPattern, SideRefusal};
+use common_example::{common_example, refused_side};
 use operation::inner::tell;
 use operation::numbers::{OperationNumbers, are_listed, scoping_of};
 use operation::row::{Row, row_from};
@@ -19,23 +22,31 @@ use scope::{MarkOutside, Scope};
 use table::tables::Tables;
 use table::{TableRefusal, refusal_number};
 
-fn example_row(answer: ExampleAnswer) -> Row
+fn side_row(refused: SideRefusal) -> Row
+    ensures { row_line result ≡ refusal_line (side_refused refused) }
+{
+    match refused {
+        SideRefusal::TableRefused(refused) => row_from(refusal_number(refused) as u64, 0, 0, 0),
+        SideRefusal::RootOutside => row_from(5, 0, 0, 0),
+        SideRefusal::ListTooShort => row_from(20, 0, 0, 0),
+        SideRefusal::PatternNotSimple => row_from(21, 0, 0, 0),
+        SideRefusal::NotAValue => row_from(22, 0, 0, 0),
+        SideRefusal::NameWithoutValue => row_from(23, 0, 0, 0),
+    }
+}
+
+fn example_row(answer: Result<Option<Example>, ExampleRefusal>) -> Row
     ensures { row_line result ≡ example_line (example_result answer) }
 {
     match answer {
-        ExampleAnswer::Found {
+        Ok(Some(Example {
             node,
             nodes,
             children,
-        } => row_from(0, node as u64, nodes as u64, children as u64),
-        ExampleAnswer::NoValue => row_from(100, 0, 0, 0),
-        ExampleAnswer::TableRefused(refused) => row_from(refusal_number(refused) as u64, 0, 0, 0),
-        ExampleAnswer::RootOutside => row_from(5, 0, 0, 0),
-        ExampleAnswer::ListTooShort => row_from(20, 0, 0, 0),
-        ExampleAnswer::PatternNotSimple => row_from(21, 0, 0, 0),
-        ExampleAnswer::NotAValue => row_from(22, 0, 0, 0),
-        ExampleAnswer::NameWithoutValue => row_from(23, 0, 0, 0),
-        ExampleAnswer::ValueTooLarge => row_from(36, 0, 0, 0),
+        })) => row_from(0, node as u64, nodes as u64, children as u64),
+        Ok(None) => row_from(100, 0, 0, 0),
+        Err(ExampleRefusal::SideRefused(refused)) => side_row(refused),
+        Err(ExampleRefusal::ValueTooLarge) => row_from(36, 0, 0, 0),
     }
 }
 
@@ -78,13 +89,12 @@ fn first_refused(tables: &Tables<'_>, first: HostSide, second: HostSide) -> u32
 }
 
 // Of a second side whose marks are refused: what the first side is refused for, then 2.
-fn second_refused(tables: &Tables<'_>, first: ScopedPattern, values1: &[u32]) -> ExampleAnswer
+fn second_refused(tables: &Tables<'_>, first: ScopedPattern, values1: &[u32]) -> ExampleRefusal
     ensures { SecondRefusedIn (contents tables.now) first values1 result }
 {
-    let checked = refused_side(tables, first, values1);
-    match checked {
-        Checked::Refused(answer) => answer,
-        Checked::Passed => ExampleAnswer::TableRefused(TableRefusal::BreaksRules),
+    match refused_side(tables, first, values1) {
+        Err(refused) => refused,
+        Ok(()) => ExampleRefusal::SideRefused(SideRefusal::TableRefused(TableRefusal::BreaksRules)),
     }
 }
 
@@ -98,7 +108,7 @@ fn example_given(
     values2: &[u32],
     example_nodes: &mut [u32],
     example_children: &mut [u32],
-) -> ExampleAnswer
+) -> Result<Option<Example>, ExampleRefusal>
     ensures { let T = contents tables.now in
         MarkedIn T first values1 (conversion_of made) second values2 example_nodes example_children result }
 {
@@ -115,7 +125,7 @@ fn example_given(
     }
     clear(example_nodes);
     clear(example_children);
-    second_refused(tables, first, values1)
+    Err(second_refused(tables, first, values1))
 }
 
 // Gives a value that both patterns match, or none. Its nodes go on from the tables', its child entries from their child list.

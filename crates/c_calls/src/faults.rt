@@ -10,18 +10,18 @@ use operation::inner::tell;
 use operation::row::{Row, row_from};
 use table::refusal_number;
 use table::tables::Tables;
-use table_fault::{FaultAnswer, table_fault};
+use table_fault::{BrokenRule, table_fault};
 
-fn fault_row(answer: FaultAnswer) -> Row
+fn fault_row(answer: Option<BrokenRule>) -> Row
     ensures { row_line result ≡ fault_line (fault_told answer) }
 {
     match answer {
-        FaultAnswer::RulesKept => row_from(0, 0, 0, 0),
-        FaultAnswer::Broken {
+        None => row_from(0, 0, 0, 0),
+        Some(BrokenRule {
             refused,
             rule,
             place,
-        } => row_from(refusal_number(refused) as u64, rule as u64, place as u64, 0),
+        }) => row_from(refusal_number(refused) as u64, rule as u64, place as u64, 0),
     }
 }
 

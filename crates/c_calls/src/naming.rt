@@ -5,19 +5,19 @@ ghost use Rattle.operation.specs.Rows.{row_line};
 ghost use Rattle.name_table.specs.Answer.{name_line};
 ghost use Rattle.c_calls.specs.NameCall.{NameCalledIn};
 
-use name_table::{NameAnswer, add_name};
+use name_table::{NameAnswer, NameRefusal, add_name};
 use operation::inner::tell;
 use operation::row::{Row, row_from};
 use table::refusal_number;
 
-fn name_row(answer: NameAnswer) -> Row
+fn name_row(answer: Result<NameAnswer, NameRefusal>) -> Row
     ensures { row_line result ≡ name_line answer }
 {
     match answer {
-        NameAnswer::Existing { name } => row_from(0, name as u64, 0, 0),
-        NameAnswer::Added { name } => row_from(0, name as u64, 1, 0),
-        NameAnswer::TableRefused(refused) => row_from(refusal_number(refused) as u64, 0, 0, 0),
-        NameAnswer::NoPlace => row_from(33, 0, 0, 0),
+        Ok(NameAnswer::Existing { name }) => row_from(0, name as u64, 0, 0),
+        Ok(NameAnswer::Added { name }) => row_from(0, name as u64, 1, 0),
+        Err(NameRefusal::TableRefused(refused)) => row_from(refusal_number(refused) as u64, 0, 0, 0),
+        Err(NameRefusal::NoPlace) => row_from(33, 0, 0, 0),
     }
 }
 

@@ -4,6 +4,7 @@ ghost use Rattle.common_example.specs.code.Deciding.{DeepAsks, DeepDecided, Deci
 use crate::classes::{HEAD_WORDS, LINK_WORDS, PLACES};
 use crate::levels::{settle, size_at};
 
+// Three cases with no value beside them, so neither Option nor Result.
 #[derive(Clone, Copy)]
 pub(crate) enum Verdict {
     Fits,

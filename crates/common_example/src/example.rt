@@ -1,21 +1,36 @@
 // The value of a class as the example: its words and then zeros, or all zeros.
+ghost use Rattle.std.specs.Prelude.{◌≡◌};
 ghost use Rattle.common_example.specs.code.Example.{FoundAsks, FoundWritten, ExampleAsks, ExampleWritten};
 
 use crate::classes::{HEAD_WORDS, LINK_WORDS, PLACES};
 use crate::deciding::{Verdict, decide};
 use crate::levels::{settle, size_at};
+use crate::sides::SideRefusal;
 use crate::writing::write_place;
 use planner::buffer::clear;
 
+// The node of the value, and how many nodes and child entries it has.
 #[derive(Clone, Copy)]
-pub(crate) enum Given {
-    Found {
-        node: u32,
-        nodes: u32,
-        children: u32,
-    },
-    TooLarge,
-    NoValue,
+pub struct Example {
+    pub node: u32,
+    pub nodes: u32,
+    pub children: u32,
+}
+
+#[derive(Clone, Copy)]
+pub enum ExampleRefusal {
+    SideRefused(SideRefusal),
+    ValueTooLarge,
+}
+
+impl From<SideRefusal> for ExampleRefusal {
+    ghost use Rattle.common_example.specs.declared.example.ExampleRefusal.TheVariants.{SideRefused};
+
+    ghost from_gives = { λ refused r. r ≡ SideRefused refused };
+
+    fn from(refused: SideRefusal) -> ExampleRefusal {
+        ExampleRefusal::SideRefused(refused)
+    }
 }
 
 // A value that has space, behind the tables' nodes and `entries` child entries.
@@ -29,7 +44,7 @@ fn write_found(
     entries: u32,
     out: &mut [u32],
     children: &mut [u32],
-) -> Given
+) -> Example
     requires { FoundAsks nodes.now heads.now links.now classes.now sizes.now place entries out.old children.old }
     ensures { FoundWritten nodes heads links classes place entries out children result }
 {
@@ -38,7 +53,7 @@ fn write_found(
         nodes, heads, links, classes, sizes, place, 32, before, entries, 0, 0, out, children,
     );
     let size = size_at(sizes, place);
-    Given::Found {
+    Example {
         node: before + size,
         nodes: size,
         children: size - 1,
@@ -54,7 +69,7 @@ pub(crate) fn write_example(
     entries: u32,
     out: &mut [u32],
     children: &mut [u32],
-) -> Given
+) -> Result<Option<Example>, ExampleRefusal>
     requires { ExampleAsks nodes.now heads.now links.now classes.now place entries }
     ensures { ExampleWritten nodes heads links classes place entries out children result }
 {
@@ -74,10 +89,10 @@ pub(crate) fn write_example(
         children.len(),
     );
     match verdict {
-        Verdict::Fits => write_found(
+        Verdict::Fits => Ok(Some(write_found(
             nodes, heads, links, classes, &sizes, place, entries, out, children,
-        ),
-        Verdict::TooLarge => Given::TooLarge,
-        Verdict::NoValue => Given::NoValue,
+        ))),
+        Verdict::TooLarge => Err(ExampleRefusal::ValueTooLarge),
+        Verdict::NoValue => Ok(None),
     }
 }

@@ -4,24 +4,21 @@
 ghost use Rattle.table.specs.Contents.{contents};
 ghost use Rattle.table.specs.Lent.{given, lent};
 ghost use Rattle.std.specs.Prelude.{◌≡◌};
-ghost use Rattle.common_example.specs.Answer.{side_tested};
-ghost use Rattle.common_example.specs.Common.{example_result, pattern_side, CommonIn, checked_result, tested_result, SideCheckedIn};
-ghost use Rattle.common_example.specs.code.Example.{given_result};
+ghost use Rattle.common_example.specs.Common.{pattern_side, CommonIn, SideCheckedIn};
 ghost use Rattle.common_example.specs.code.Common.{SidesCheckedIn, WriteAsks, WrittenIn, GiveAsks, GivenIn, PassedAsks, PassedIn};
 
 use classes::{HEAD_WORDS, LINK_WORDS, PLACES};
-use example::{Given, write_example};
+use example::{Example, ExampleRefusal, write_example};
 use graph::node_places::node_place;
 use planner::buffer::clear;
 use run::inner::names::start_list;
-use sides::{ScopedPattern, SideAnswer, check_side};
-use table::TableRefusal;
+use sides::{ScopedPattern, check_side};
 use table::tables::Tables;
 use unifying::unify_patterns;
 
 mod classes;
 mod deciding;
-mod example;
+pub mod example;
 mod graph;
 mod levels;
 mod roots;
@@ -29,67 +26,16 @@ pub mod sides;
 mod unifying;
 mod writing;
 
-#[derive(Clone, Copy)]
-pub enum ExampleAnswer {
-    Found {
-        node: u32,
-        nodes: u32,
-        children: u32,
-    },
-    NoValue,
-    TableRefused(TableRefusal),
-    RootOutside,
-    ListTooShort,
-    PatternNotSimple,
-    NotAValue,
-    NameWithoutValue,
-    ValueTooLarge,
-}
-
-#[derive(Clone, Copy)]
-pub enum Checked {
-    Passed,
-    Refused(ExampleAnswer),
-}
-
-fn refusal(answer: SideAnswer) -> Checked
-    ensures { checked_result result ≡ tested_result (side_tested answer) }
-{
-    match answer {
-        SideAnswer::Passed => Checked::Passed,
-        SideAnswer::TableRefused(refused) => Checked::Refused(ExampleAnswer::TableRefused(refused)),
-        SideAnswer::RootOutside => Checked::Refused(ExampleAnswer::RootOutside),
-        SideAnswer::ListTooShort => Checked::Refused(ExampleAnswer::ListTooShort),
-        SideAnswer::PatternNotSimple => Checked::Refused(ExampleAnswer::PatternNotSimple),
-        SideAnswer::NotAValue => Checked::Refused(ExampleAnswer::NotAValue),
-        SideAnswer::NameWithoutValue => Checked::Refused(ExampleAnswer::NameWithoutValue),
-    }
-}
-
-fn answer_of(given: Given) -> ExampleAnswer
-    ensures { example_result result ≡ given_result given }
-{
-    match given {
-        Given::Found {
-            node,
-            nodes,
-            children,
-        } => ExampleAnswer::Found {
-            node: node,
-            nodes: nodes,
-            children: children,
-        },
-        Given::TooLarge => ExampleAnswer::ValueTooLarge,
-        Given::NoValue => ExampleAnswer::NoValue,
-    }
-}
-
 // The refusals of one side.
-pub fn refused_side(tables: &Tables<'_>, pattern: ScopedPattern, values: &[u32]) -> Checked
+pub fn refused_side(
+    tables: &Tables<'_>,
+    pattern: ScopedPattern,
+    values: &[u32],
+) -> Result<(), ExampleRefusal>
     ensures { SideCheckedIn (contents tables.now) pattern values result }
 {
-    let answer = check_side(tables, pattern, values);
-    refusal(answer)
+    check_side(tables, pattern, values)?;
+    Ok(())
 }
 
 // The first side's refusals, then the second's.
@@ -99,13 +45,10 @@ fn check_sides(
     values1: &[u32],
     second: ScopedPattern,
     values2: &[u32],
-) -> Checked
+) -> Result<(), ExampleRefusal>
     ensures { SidesCheckedIn (contents tables.now) first values1 second values2 result }
 {
-    let one = refused_side(tables, first, values1);
-    if let Checked::Refused(answer) = one {
-        return Checked::Refused(answer);
-    }
+    refused_side(tables, first, values1)?;
     refused_side(tables, second, values2)
 }
 
@@ -119,13 +62,13 @@ fn write_joined(
     classes: &[u32; PLACES],
     example_nodes: &mut [u32],
     example_children: &mut [u32],
-) -> ExampleAnswer
+) -> Result<Option<Example>, ExampleRefusal>
     requires { WriteAsks (contents tables.now) held1.now root1 heads.now links.now classes.now }
     ensures { let T = contents tables.now in WrittenIn T held1 root1 heads links classes example_nodes example_children result }
 {
     let place = node_place(tables, held1, root1, 0);
     let entries = tables.children.len() as u32;
-    let given = write_example(
+    write_example(
         tables.nodes,
         heads,
         links,
@@ -134,8 +77,7 @@ fn write_joined(
         entries,
         example_nodes,
         example_children,
-    );
-    answer_of(given)
+    )
 }
 
 // `held1` and `held2` have for each name number the node of its value on that side, or 0.
@@ -147,7 +89,7 @@ fn give_example(
     root2: u32,
     example_nodes: &mut [u32],
     example_children: &mut [u32],
-) -> ExampleAnswer
+) -> Result<Option<Example>, ExampleRefusal>
     requires { GiveAsks (contents tables.now) held1.now held2.now root1 root2 }
     ensures { let T = contents tables.now in GivenIn T held1 held2 root1 root2 example_nodes example_children result }
 {
@@ -167,7 +109,7 @@ fn give_example(
     if !unified {
         clear(example_nodes);
         clear(example_children);
-        return ExampleAnswer::NoValue;
+        return Ok(None);
     }
     write_joined(
         tables,
@@ -190,7 +132,7 @@ fn example_of(
     values2: &[u32],
     example_nodes: &mut [u32],
     example_children: &mut [u32],
-) -> ExampleAnswer
+) -> Result<Option<Example>, ExampleRefusal>
     requires { PassedAsks (contents tables.now) (pattern_side first values1.now) (pattern_side second values2.now) }
     ensures { let T = contents tables.now in PassedIn T first values1 second values2 example_nodes example_children result }
 {
@@ -220,14 +162,14 @@ pub fn common_example(
     values2: &[u32],
     example_nodes: &mut [u32],
     example_children: &mut [u32],
-) -> ExampleAnswer
+) -> Result<Option<Example>, ExampleRefusal>
     ensures { let T = contents tables.now in CommonIn T first values1 second values2 example_nodes example_children result }
 {
     let checked = check_sides(tables, first, values1, second, values2);
-    if let Checked::Refused(answer) = checked {
+    if let Err(refused) = checked {
         clear(example_nodes);
         clear(example_children);
-        return answer;
+        return Err(refused);
     }
     example_of(
         tables,

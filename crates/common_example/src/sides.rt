@@ -25,14 +25,23 @@ pub struct ScopedPattern {
 }
 
 #[derive(Clone, Copy)]
-pub enum SideAnswer {
-    Passed,
+pub enum SideRefusal {
     TableRefused(TableRefusal),
     RootOutside,
     ListTooShort,
     PatternNotSimple,
     NotAValue,
     NameWithoutValue,
+}
+
+impl From<TableRefusal> for SideRefusal {
+    ghost use Rattle.common_example.specs.declared.sides.SideRefusal.TheVariants.{TableRefused};
+
+    ghost from_gives = { λ refused r. r ≡ TableRefused refused };
+
+    fn from(refused: TableRefusal) -> SideRefusal {
+        SideRefusal::TableRefused(refused)
+    }
 }
 
 // Is every listed node a value?
@@ -51,17 +60,17 @@ fn check_values(
     scoping: ScopingMode,
     pattern: u32,
     values: &[u32],
-) -> SideAnswer
+) -> Result<(), SideRefusal>
     requires { KnownAsks (contents tables.now) scope pattern values.now }
     ensures { ValuesAnswered (contents tables.now) scope scoping pattern values.now result }
 {
     if !all_listed(tables, pattern, values) {
-        return SideAnswer::NotAValue;
+        return Err(SideRefusal::NotAValue);
     }
     if !known_listed(tables, scope, scoping, pattern, values) {
-        return SideAnswer::NameWithoutValue;
+        return Err(SideRefusal::NameWithoutValue);
     }
-    SideAnswer::Passed
+    Ok(())
 }
 
 // Of a good table, with the root in it and a list that is long enough.
@@ -71,12 +80,12 @@ fn check_inside(
     scoping: ScopingMode,
     pattern: u32,
     values: &[u32],
-) -> SideAnswer
+) -> Result<(), SideRefusal>
     requires { InsideAsks (contents tables.now) scope pattern values.now }
     ensures { InsideAnswered (contents tables.now) scope scoping pattern values.now result }
 {
     if !is_simple(tables, pattern) {
-        return SideAnswer::PatternNotSimple;
+        return Err(SideRefusal::PatternNotSimple);
     }
     check_values(tables, scope, scoping, pattern, values)
 }
@@ -88,27 +97,28 @@ fn check_root(
     scoping: ScopingMode,
     pattern: u32,
     values: &[u32],
-) -> SideAnswer
+) -> Result<(), SideRefusal>
     requires { RootAsks (contents tables.now) scope }
     ensures { RootAnswered (contents tables.now) scope scoping pattern values.now result }
 {
     if !is_node(tables.nodes, pattern) {
-        return SideAnswer::RootOutside;
+        return Err(SideRefusal::RootOutside);
     }
     if values.len() < tables.names.len() / 2 {
-        return SideAnswer::ListTooShort;
+        return Err(SideRefusal::ListTooShort);
     }
     check_inside(tables, scope, scoping, pattern, values)
 }
 
-pub(crate) fn check_side(tables: &Tables<'_>, pattern: ScopedPattern, values: &[u32]) -> SideAnswer
+pub(crate) fn check_side(
+    tables: &Tables<'_>,
+    pattern: ScopedPattern,
+    values: &[u32],
+) -> Result<(), SideRefusal>
     ensures { SideAnswered (contents tables.now) (pattern_side pattern values.now) result }
 {
     let scope = pattern.scope;
     let scoping = pattern.scoping;
-    let checked = check(tables, scope);
-    if let Err(refused) = checked {
-        return SideAnswer::TableRefused(refused);
-    }
+    check(tables, scope)?;
     check_root(tables, scope, scoping, pattern.root, values)
 }

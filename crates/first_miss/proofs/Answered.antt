@@ -12,20 +12,15 @@ use Rattle.planner.specs.Plan.{plan}
 use Rattle.value.specs.Value.{value_of}
 use Rattle.matching.specs.Matching.{Env, start}
 use Rattle.matching.specs.code.Post.{env_of}
-use Rattle.run.specs.declared.RunAnswer.{RunAnswer}
-use Rattle.run.specs.declared.inner.refusals.RunCheck.{RunCheck}
-use Rattle.run.specs.declared.inner.refusals.RunCheck.TheVariants as Check
+use Rattle.std.proofs.Common.{Some, None, Result, Ok, Err}
+use Rattle.run.specs.declared.RunRefusal.{RunRefusal}
 use Rattle.run.specs.Operations.{listed, RunOutcome}
 use Rattle.run.specs.code.Post.{RunAsks, CheckTold}
 use Rattle.run.specs.code.NamesPost.{ListAsks, StartOf}
 use Rattle.run.proofs.Running.{run_table, value_ok, start_ok, start_env, promised}
 use Rattle.run.proofs.Refusing.{run_passed}
 use Rattle.first_miss.specs.declared.Miss.{Miss}
-use Rattle.first_miss.specs.declared.MissAnswer.TheVariants.{Match, NoMatch, Refused}
-use Rattle.first_miss.specs.declared.walking.Walked.{Walked}
-use Rattle.first_miss.specs.declared.walking.Walked.TheVariants.{Matched, Missed}
 use Rattle.first_miss.specs.Miss.{fault, forget}
-use Rattle.first_miss.specs.Answer.{refused_by}
 use Rattle.first_miss.specs.Operations.{key_at, carried_result, after_checks, miss_found, miss_result, MissTold}
 use Rattle.first_miss.specs.code.Post.{WalkAsks, outcome_in, Came, walk_nodes}
 use Rattle.first_miss.proofs.trees.Forget.{forgets}
@@ -45,13 +40,11 @@ module _ {T : Tables} {s : Scope} {mode : ScopingMode} {pattern value : ℕ} {va
   pub result_is : miss_result T s mode pattern value values ≡ carried_result (miss_found T s mode pattern value values)
   result_is = ap (λ (o : RunOutcome). after_checks o (carried_result (miss_found T s mode pattern value values))) (run_passed a)
 
-module _ {T : Tables} {s : Scope} {mode : ScopingMode} {pattern value : ℕ} {values : List ℕ} {c : RunCheck} (told : CheckTold T s mode pattern value values c) where
-  pub miss_refused : {a : RunAnswer} → c ≡ Check.Refused a → MissTold T s mode pattern value values (Refused a)
-  miss_refused {a} e =
-      let t = told.refuses a e in
-      record { answer = ap refused_by t.told ∙ sym (ap (λ (o : RunOutcome). after_checks o (carried_result (miss_found T s mode pattern value values))) t.is) }
+module _ {T : Tables} {s : Scope} {mode : ScopingMode} {pattern value : ℕ} {values : List ℕ} {c : Result Unit RunRefusal} (told : CheckTold T s mode pattern value values c) where
+  pub miss_refused : {a : RunRefusal} → c ≡ Err a → MissTold T s mode pattern value values (Err a)
+  miss_refused {a} e = record { answer = sym (ap (λ (o : RunOutcome). after_checks o (carried_result (miss_found T s mode pattern value values))) (told.refuses a e)) }
 
-  module _ (passed : c ≡ Check.Passed) where
+  module _ (passed : c ≡ Ok tt) where
     asks : RunAsks T s mode pattern value values
     asks = told.passes passed
 
@@ -62,12 +55,12 @@ module _ {T : Tables} {s : Scope} {mode : ScopingMode} {pattern value : ℕ} {va
       pub ask_walk : WalkAsks T pattern value list
       ask_walk = record { pair = record { table = run_table asks; node = asks.pattern_node; is_simple = asks.is_simple; value_ok = value_ok asks }; list_ok = start_ok asks of }
 
-      module _ {list' : List ℕ} {w : Walked} (came : Came T (walk_nodes T pattern value (env_of T list)) list' w) where
+      module _ {list' : List ℕ} {w : Result Unit Miss} (came : Came T (walk_nodes T pattern value (env_of T list)) list' w) where
         result_by : miss_result T s mode pattern value values ≡ carried_result (outcome_in T list' w)
         result_by = result_is asks ∙ ap carried_result (found_walk asks ∙ (ap (λ (env : Env). walk_nodes T pattern value env) (sym (start_env asks of)) ∙ came.is))
 
-        pub miss_matched : w ≡ Matched → MissTold T s mode pattern value values Match
-        miss_matched e = record { answer = sym (result_by ∙ ap (λ (x : Walked). carried_result (outcome_in T list' x)) e) }
+        pub miss_matched : w ≡ Ok tt → MissTold T s mode pattern value values (Ok None)
+        miss_matched e = record { answer = sym (result_by ∙ ap (λ (x : Result Unit Miss). carried_result (outcome_in T list' x)) e) }
 
-        pub miss_missed : {m : Miss} → w ≡ Missed m → MissTold T s mode pattern value values (NoMatch m)
-        miss_missed e = record { answer = sym (result_by ∙ ap (λ (x : Walked). carried_result (outcome_in T list' x)) e) }
+        pub miss_missed : {m : Miss} → w ≡ Err m → MissTold T s mode pattern value values (Ok (Some m))
+        miss_missed e = record { answer = sym (result_by ∙ ap (λ (x : Result Unit Miss). carried_result (outcome_in T list' x)) e) }

@@ -1,5 +1,5 @@
 -- The first miss of a run over tables: what it answers. It writes nothing, so that there is no 6.
-use Rattle.std.specs.Prelude.{ℕ, ◌+◌, ◌*◌, ◌≡◌, List}
+use Rattle.std.specs.Prelude.{ℕ, ◌+◌, ◌*◌, ◌≡◌, Option, Result, List}
 use Rattle.base.specs.Lent.{Slices}
 use Rattle.scope.specs.declared.Scope.{Scope}
 use Rattle.scope.specs.declared.ScopingMode.{ScopingMode}
@@ -12,7 +12,7 @@ use Rattle.matching.specs.Matching.{start}
 use Rattle.run.specs.Operations.{listed, RunOutcome, refused, carried_out, run_outcome}
 use Rattle.first_miss.specs.declared.Why.TheVariants.{NameDiffers}
 use Rattle.first_miss.specs.declared.Miss.{Miss}
-use Rattle.first_miss.specs.declared.MissAnswer.{MissAnswer}
+use Rattle.run.specs.declared.RunRefusal.{RunRefusal}
 use Rattle.first_miss.specs.Miss.{MissOutcome, matched, missed, fault, first_miss}
 use Rattle.first_miss.specs.Answer.{MissResult, turned_back_lem, a_match, no_match_lem, miss_result_of}
 
@@ -42,9 +42,9 @@ module _ (T : Tables) (s : Scope) (mode : ScopingMode) (pattern value : ℕ) (va
   abbrev pub miss_result : MissResult
   miss_result = after_checks (run_outcome T s mode pattern value values) (carried_result miss_found)
 
-  pub record MissTold (r : MissAnswer) : Type 0 where
+  pub record MissTold (r : Result (Option Miss) RunRefusal) : Type 0 where
     pub answer : miss_result_of r ≡ miss_result
 
 -- the same of a list that is lent
-abbrev pub MissToldIn : Slices → Tables → Scope → ScopingMode → ℕ → ℕ → MissAnswer → Type 0
+abbrev pub MissToldIn : Slices → Tables → Scope → ScopingMode → ℕ → ℕ → Result (Option Miss) RunRefusal → Type 0
 MissToldIn values T s mode pattern value r = MissTold T s mode pattern value values.entry.now r

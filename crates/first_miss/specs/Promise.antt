@@ -16,7 +16,7 @@ use Rattle.run.specs.Answer.{RunResult}
 use Rattle.run.specs.Operations.{run_outcome, run_answer}
 use Rattle.first_miss.specs.declared.Miss.{Miss}
 use Rattle.first_miss.specs.Miss.{forget, first_miss}
-use Rattle.first_miss.specs.Answer.{MissResult, turned_back_lem, a_match, no_match_lem, of_run}
+use Rattle.first_miss.specs.Answer.{MissResult, turned_back_lem, a_match, no_match_lem}
 use Rattle.first_miss.specs.Operations.{miss_result}
 
 -- the answer, without the miss
@@ -24,7 +24,6 @@ abbrev pub run_result : MissResult → RunResult
 run_result (turned_back_lem r) = Run.turned_back_lem r
 run_result a_match = Run.a_match
 run_result (no_match_lem m) = Run.no_match_lem
-run_result (of_run r) = r
 
 module _ (T : Tables) (s : Scope) (mode : ScopingMode) (pattern value : ℕ) (values : List ℕ) where
   -- the nodes stand in the value and in the pattern, keys included

@@ -5,12 +5,12 @@ ghost use Rattle.table.specs.Contents.{contents};
 ghost use Rattle.table.specs.Lent.{lent};
 ghost use Rattle.first_miss.specs.Operations.{MissToldIn};
 
-use run::RunAnswer;
+use run::RunRefusal;
 use run::inner::names::start_list;
-use run::inner::refusals::{RunCheck, check_run};
+use run::inner::refusals::check_run;
 use scope::{Scope, ScopingMode};
 use table::tables::Tables;
-use walking::{Walked, walk};
+use walking::walk;
 
 mod keys;
 mod walking;
@@ -34,15 +34,7 @@ pub struct Miss {
     pub pattern: u32,
 }
 
-// Refused as a run is; never with 6.
-#[derive(Clone, Copy)]
-pub enum MissAnswer {
-    Match,
-    NoMatch(Miss),
-    Refused(RunAnswer),
-}
-
-// Where the run of the pattern on the value misses first. `values` has for each name number the node of its value, or 0.
+// Where the run of the pattern on the value misses first, if it does; refused as a run is, but never with 6. `values` has for each name number the node of its value, or 0.
 pub fn first_miss(
     tables: &Tables<'_>,
     scope: Scope,
@@ -50,17 +42,13 @@ pub fn first_miss(
     pattern: u32,
     value: u32,
     values: &[u32],
-) -> MissAnswer
+) -> Result<Option<Miss>, RunRefusal>
     ensures { MissToldIn values (contents tables.now) scope scoping pattern value result }
 {
-    let checked = check_run(tables, scope, scoping, pattern, value, values);
-    if let RunCheck::Refused(answer) = checked {
-        return MissAnswer::Refused(answer);
-    }
+    check_run(tables, scope, scoping, pattern, value, values)?;
     let mut list = start_list(tables.names, scope, scoping, values);
-    let walked = walk(tables, &mut list, pattern, value);
-    match walked {
-        Walked::Matched => MissAnswer::Match,
-        Walked::Missed(miss) => MissAnswer::NoMatch(miss),
+    match walk(tables, &mut list, pattern, value) {
+        Ok(()) => Ok(None),
+        Err(miss) => Ok(Some(miss)),
     }
 }

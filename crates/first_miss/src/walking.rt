@@ -1,4 +1,4 @@
-// The run again, as a walk over the pattern: a name that has no value is set, one that has is compared.
+// The run again, as a walk over the pattern: a name that has no value is set, one that has is compared. A part matches, or its first miss is told.
 ghost use Rattle.table.specs.Contents.{contents};
 ghost use Rattle.table.specs.Lent.{given, lent};
 ghost use Rattle.std.specs.Prelude.{◌≡◌};
@@ -13,22 +13,15 @@ use table::tables::Tables;
 use value::inner::equality::same_value;
 use value::inner::fields::value_under;
 
-// A part that matches, or its first miss.
-#[derive(Clone, Copy)]
-pub enum Walked {
-    Matched,
-    Missed(Miss),
-}
-
 // A literal of the pattern and a value.
-fn walk_literal(tables: &Tables<'_>, a: u32, b: u32) -> Walked
+fn walk_literal(tables: &Tables<'_>, a: u32, b: u32) -> Result<(), Miss>
     requires { LiteralAsks (contents tables.now) a b }
     ensures { result ≡ literal_walked (contents tables.now) a b }
 {
     if same_value(tables, a, b) {
-        return Walked::Matched;
+        return Ok(());
     }
-    Walked::Missed(Miss {
+    Err(Miss {
         why: Why::LiteralDiffers,
         value: b,
         pattern: a,
@@ -36,24 +29,24 @@ fn walk_literal(tables: &Tables<'_>, a: u32, b: u32) -> Walked
 }
 
 // A name of the pattern and a value.
-fn walk_name(tables: &Tables<'_>, list: &mut [u32; 128], a: u32, b: u32) -> Walked
+fn walk_name(tables: &Tables<'_>, list: &mut [u32; 128], a: u32, b: u32) -> Result<(), Miss>
     requires { NameAsks (contents tables.now) a b list.old }
     ensures { let T = contents tables.now in CameIn list T (walk_nodes T a b) result }
 {
     let name = first_of(tables.nodes, a);
     if is_wildcard(tables.names, tables.text, name) {
-        return Walked::Matched;
+        return Ok(());
     }
     let place = name as usize - 1;
     let held = list[place];
     if held == 0 {
         list[place] = b;
-        return Walked::Matched;
+        return Ok(());
     }
     if same_value(tables, held, b) {
-        return Walked::Matched;
+        return Ok(());
     }
-    Walked::Missed(Miss {
+    Err(Miss {
         why: Why::NameDiffers,
         value: b,
         pattern: a,
@@ -61,33 +54,33 @@ fn walk_name(tables: &Tables<'_>, list: &mut [u32; 128], a: u32, b: u32) -> Walk
 }
 
 // Is a value an array as long as the pattern's?
-fn walk_array(nodes: &[u32], a: u32, b: u32) -> Walked
+fn walk_array(nodes: &[u32], a: u32, b: u32) -> Result<(), Miss>
     ensures { result ≡ array_walked nodes.now a b }
 {
     if kind_of(nodes, b) != node_kind::ARRAY {
-        return Walked::Missed(Miss {
+        return Err(Miss {
             why: Why::NoArray,
             value: b,
             pattern: a,
         });
     }
     if count_of(nodes, b) != count_of(nodes, a) {
-        return Walked::Missed(Miss {
+        return Err(Miss {
             why: Why::OtherLength,
             value: b,
             pattern: a,
         });
     }
-    Walked::Matched
+    Ok(())
 }
 
 // Is a value an object of the pattern's keys?
-fn walk_object(tables: &Tables<'_>, a: u32, b: u32) -> Walked
+fn walk_object(tables: &Tables<'_>, a: u32, b: u32) -> Result<(), Miss>
     requires { ObjectAsks (contents tables.now) a b }
     ensures { ObjectTold (contents tables.now) a b result }
 {
     if kind_of(tables.nodes, b) != node_kind::OBJECT {
-        return Walked::Missed(Miss {
+        return Err(Miss {
             why: Why::NoObject,
             value: b,
             pattern: a,
@@ -95,7 +88,7 @@ fn walk_object(tables: &Tables<'_>, a: u32, b: u32) -> Walked
     }
     let missing = missing_key(tables, a, b);
     if missing != 0 {
-        return Walked::Missed(Miss {
+        return Err(Miss {
             why: Why::KeyMissing,
             value: b,
             pattern: missing,
@@ -103,17 +96,17 @@ fn walk_object(tables: &Tables<'_>, a: u32, b: u32) -> Walked
     }
     let other = other_key(tables, b, a);
     if other != 0 {
-        return Walked::Missed(Miss {
+        return Err(Miss {
             why: Why::KeyTooMany,
             value: other,
             pattern: a,
         });
     }
-    Walked::Matched
+    Ok(())
 }
 
 #[cycle(walk_walk_fields_walk_items)]
-pub(crate) fn walk(tables: &Tables<'_>, list: &mut [u32; 128], a: u32, b: u32) -> Walked
+pub(crate) fn walk(tables: &Tables<'_>, list: &mut [u32; 128], a: u32, b: u32) -> Result<(), Miss>
     requires { WalkAsks (contents tables.now) a b list.old }
     ensures { let T = contents tables.now in CameIn list T (walk_nodes T a b) result }
 {
@@ -125,22 +118,16 @@ pub(crate) fn walk(tables: &Tables<'_>, list: &mut [u32; 128], a: u32, b: u32) -
         return walk_name(tables, list, a, b);
     }
     if kind == node_kind::ARRAY {
-        let array = walk_array(tables.nodes, a, b);
-        if let Walked::Missed(miss) = array {
-            return Walked::Missed(miss);
-        }
+        walk_array(tables.nodes, a, b)?;
         return walk_items(tables, list, a, b);
     }
-    let object = walk_object(tables, a, b);
-    if let Walked::Missed(miss) = object {
-        return Walked::Missed(miss);
-    }
+    walk_object(tables, a, b)?;
     walk_fields(tables, list, a, b)
 }
 
 // The items of two arrays of one length.
 #[cycle(walk_walk_fields_walk_items)]
-fn walk_items(tables: &Tables<'_>, list: &mut [u32; 128], a: u32, b: u32) -> Walked
+fn walk_items(tables: &Tables<'_>, list: &mut [u32; 128], a: u32, b: u32) -> Result<(), Miss>
     requires { ItemsAsks (contents tables.now) a b list.old }
     ensures { let T = contents tables.now in CameIn list T (walk_listed T a b) result }
 {
@@ -150,17 +137,14 @@ fn walk_items(tables: &Tables<'_>, list: &mut [u32; 128], a: u32, b: u32) -> Wal
     for i in 0..count {
         let item = child_at(tables.children, at + i);
         let part = child_at(tables.children, from + i);
-        let walked = walk(tables, list, item, part);
-        if let Walked::Missed(miss) = walked {
-            return Walked::Missed(miss);
-        }
+        walk(tables, list, item, part)?;
     }
-    Walked::Matched
+    Ok(())
 }
 
 // The fields of two objects of the same keys, as the pattern has them.
 #[cycle(walk_walk_fields_walk_items)]
-fn walk_fields(tables: &Tables<'_>, list: &mut [u32; 128], a: u32, b: u32) -> Walked
+fn walk_fields(tables: &Tables<'_>, list: &mut [u32; 128], a: u32, b: u32) -> Result<(), Miss>
     requires { FieldsAsks (contents tables.now) a b list.old }
     ensures { let T = contents tables.now in CameIn list T (walk_under T a b) result }
 {
@@ -171,10 +155,7 @@ fn walk_fields(tables: &Tables<'_>, list: &mut [u32; 128], a: u32, b: u32) -> Wa
         let key = child_at(tables.children, place);
         let value = child_at(tables.children, place + 1);
         let part = value_under(tables, b, i, key);
-        let walked = walk(tables, list, value, part);
-        if let Walked::Missed(miss) = walked {
-            return Walked::Missed(miss);
-        }
+        walk(tables, list, value, part)?;
     }
-    Walked::Matched
+    Ok(())
 }

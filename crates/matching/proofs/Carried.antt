@@ -19,10 +19,11 @@ use Rattle.planner.proofs.laws.Binders.{lay_plan_of}
 use Rattle.planner.proofs.laws.Sizes.{lay_few_of}
 use Rattle.planner.proofs.fields.Objects.{node_of_lem}
 use Rattle.value.specs.Value.{value_of}
+use Rattle.std.proofs.Common.{Some, None}
 use Rattle.matching.specs.Matching.{MatchOutcome, run}
 use Rattle.matching.specs.Reading.{standing}
 use Rattle.matching.specs.code.Linking.{LinkAsks, Linked}
-use Rattle.matching.specs.code.Post.{node_at, env_of, run_at, StandsAt, EntryAsks, Came, PlanIn, PatternAsks, is_match, list_after, PatternCame}
+use Rattle.matching.specs.code.Post.{node_at, env_of, run_at, StandsAt, EntryAsks, Came, PlanIn, PatternAsks, names_after, PatternCame}
 use Rattle.matching.proofs.Lists.{whole_list}
 use Rattle.matching.proofs.Standing.{stands_node, stands_run}
 use Rattle.matching.proofs.reading.PlanTold.{plan_told}
@@ -86,15 +87,15 @@ module _ {T : Tables} {scratch : List ℕ} {count value : ℕ} {list : List ℕ}
     came_as : (u : ℕ → Bool) (root : ℕ) → PlanIn T u root scratch count → Came T (run (plan u (expr T root) []) (value_of (expr T value)) (env_of T list)) after r
     came_as u root p = subst (λ (o : MatchOutcome). Came T o after r) (runs_plan T a.table u root p value list) c
 
-    pub pattern_matched : r ≡ true → PatternCame T scratch count value list (record { matched = true; list = after })
+    pub pattern_matched : r ≡ true → PatternCame T scratch count value list (Some after)
     pattern_matched t = record {
       each = λ u root p.
           let d = came_as u root p in
           let e = d.hit t in
-          record { told = sym (ap is_match e); names = whole_list a.table d.list_ok ∙ sym (ap (λ (o : MatchOutcome). list_after o list) e) };
+          ap Some (whole_list a.table d.list_ok) ∙ sym (ap names_after e);
     }
 
-    pub pattern_missed : r ≡ false → PatternCame T scratch count value list (record { matched = false; list = list })
+    pub pattern_missed : r ≡ false → PatternCame T scratch count value list None
     pattern_missed t = record {
-      each = λ u root p. let e = (came_as u root p).miss t in record { told = sym (ap is_match e); names = sym (ap (λ (o : MatchOutcome). list_after o list) e) };
+      each = λ u root p. sym (ap names_after ((came_as u root p).miss t));
     }

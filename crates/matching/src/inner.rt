@@ -162,21 +162,14 @@ fn match_fields(
     true
 }
 
-// What a pattern came to, and the values of the names after it; of a miss those at the start.
-#[derive(Clone, Copy)]
-pub struct Matched {
-    pub matched: bool,
-    pub list: [u32; 128],
-}
-
-// The first `count` entries of the scratch, carried out from the first one on.
+// The first `count` entries of the scratch, carried out from the first one on: after a match the values of the names.
 pub fn match_pattern(
     tables: &Tables<'_>,
     scratch: &[u32; PATTERN_WORDS],
     count: usize,
     value: u32,
     start: [u32; 128],
-) -> Matched
+) -> Option<[u32; 128]>
     requires { PatternAsks (contents tables.now) scratch.now count value start }
     ensures { PatternCame (contents tables.now) scratch.now count value start result }
 {
@@ -184,15 +177,8 @@ pub fn match_pattern(
     let starts = linked.starts;
     let links = linked.entries;
     let mut list = start;
-    let matched = match_entry(tables, scratch, &starts, &links, 0, value, 32, &mut list);
-    if matched {
-        return Matched {
-            matched: true,
-            list,
-        };
+    if match_entry(tables, scratch, &starts, &links, 0, value, 32, &mut list) {
+        return Some(list);
     }
-    Matched {
-        matched: false,
-        list: start,
-    }
+    None
 }

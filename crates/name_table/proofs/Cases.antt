@@ -13,6 +13,8 @@ use Rattle.base.specs.Refusal.{over_limit, Tested, passed, refused, require, req
 use Rattle.scope.specs.declared.Scope.{Scope}
 use Rattle.scope.specs.Scope.{new_scope}
 use Rattle.std.proofs.Common.{Result, Ok, Err}
+use Rattle.std.specs.Result.{IsErrAnd}
+use Rattle.std.proofs.lemmas.Result.{err_from_is_err_and}
 use Rattle.table.specs.declared.TableRefusal.{TableRefusal}
 use Rattle.table.specs.declared.TableRefusal.TheVariants.{OverLimit, BreaksRules}
 use Rattle.table.specs.Tables.{Tables, tables, record_word, name_bytes}
@@ -23,6 +25,8 @@ use Rattle.table.proofs.trees.Words.{part_whole}
 use Rattle.table.proofs.tests.Bools.{and_true, told_no, told_yes, never}
 use Rattle.name_table.specs.declared.NameAnswer.{NameAnswer}
 use Rattle.name_table.specs.declared.NameAnswer.TheVariants as Name
+use Rattle.name_table.specs.declared.NameRefusal.{NameRefusal}
+use Rattle.name_table.specs.declared.NameRefusal.TheVariants as No
 use Rattle.name_table.specs.Adding.{in_use, in_use_within_limits, has_names, checked_in_use, allowed, number_from, added, at_end, add_outcome}
 use Rattle.name_table.specs.Adding as Adding
 use Rattle.name_table.specs.Answer.{NameAdded}
@@ -139,20 +143,20 @@ module _ {names text bytes : List ℕ} {used x : ℕ} (go : Seeking names text b
 
 -- a name at the end
 module _ (names : List ℕ) (used start size : ℕ) where
-  pub put_many : 127 < used → NameAdded (at_end names used) used start size names names Name.NoPlace
+  pub put_many : 127 < used → NameAdded (at_end names used) used start size names names (Err No.NoPlace)
   unfolding at_end
   put_many many = go (ltb used (length names / 2))
     where
-      go : (b : Bool) → NameAdded (require_or Adding.refused (b && ltb used 128) no_place (added (used + 1))) used start size names names Name.NoPlace
+      go : (b : Bool) → NameAdded (require_or Adding.refused (b && ltb used 128) no_place (added (used + 1))) used start size names names (Err No.NoPlace)
       go true = rw (le-ltb used 128 (omega arith)) (record { answer = refl; names = refl })
       go false = record { answer = refl; names = refl }
 
-  pub put_none : length names ≤ used * 2 + 1 → NameAdded (at_end names used) used start size names names Name.NoPlace
+  pub put_none : length names ≤ used * 2 + 1 → NameAdded (at_end names used) used start size names names (Err No.NoPlace)
   unfolding at_end
   put_none short = rw (le-ltb used (length names / 2) (omega arith)) (record { answer = refl; names = refl })
 
   pub put_there : used ≤ 127 → used * 2 + 1 < length names
-      → NameAdded (at_end names used) used start size names (set (set names (used * 2) start) (used * 2 + 1) size) (Name.Added (used + 1))
+      → NameAdded (at_end names used) used start size names (set (set names (used * 2) start) (used * 2 + 1) size) (Ok (Name.Added (used + 1)))
   unfolding at_end
   put_there few room =
       let a = lt-ltb used (length names / 2) (omega arith) in
@@ -163,9 +167,12 @@ module _ (names : List ℕ) (used start size : ℕ) where
 
 -- the whole call
 module _ (nodes ch nums names strings text : List ℕ) (used start size : ℕ) {checking : Result Unit TableRefusal} (told : tested_of checking ≡ checked_in_use (tables nodes ch nums names strings text) used) where
-  pub add_table : {a : TableRefusal} → checking ≡ Err a → NameAdded (add_outcome (tables nodes ch nums names strings text) used start size) used start size names names (Name.TableRefused a)
+  pub add_table : {a : TableRefusal} {r : Result NameAnswer NameRefusal} → checking ≡ Err a → IsErrAnd r (λ e. e ≡ No.TableRefused a)
+      → NameAdded (add_outcome (tables nodes ch nums names strings text) used start size) used start size names names r
   unfolding add_outcome
-  add_table is = rw (← told, is) (record { answer = refl; names = refl })
+  add_table {r = r} is gives =
+      let g = err_from_is_err_and r gives in
+      rw (← told, is, g.1, g.2) (record { answer = refl; names = refl })
 
   module _ (sound : checking ≡ Ok tt) where
     passes : checked_in_use (tables nodes ch nums names strings text) used ≡ passed
@@ -180,7 +187,7 @@ module _ (nodes ch nums names strings text : List ℕ) (used start size : ℕ) {
         go false p = let h : refused over_limit ≡ passed = simp (p, and-false) at passes in never (cc)
 
     module _ {good : Bool} (may : good ≡ allowed text start size) where
-      pub add_barred : not good ≡ true → NameAdded (add_outcome (tables nodes ch nums names strings text) used start size) used start size names names (Name.TableRefused BreaksRules)
+      pub add_barred : not good ≡ true → NameAdded (add_outcome (tables nodes ch nums names strings text) used start size) used start size names names (Err (No.TableRefused BreaksRules))
       unfolding add_outcome
       add_barred t = rw (passes, told_no may t) (record { answer = refl; names = refl })
 
@@ -196,11 +203,11 @@ module _ (nodes ch nums names strings text : List ℕ) (used start size : ℕ) {
           found : x ≡ number_from names text (part text start size) 1 used
           found = seen ∙ ap (λ (bytes : List ℕ). number_from names text bytes 1 used) (part_whole text start size)
 
-          pub add_existing : (x ≡ 0 → ⊥) → NameAdded (add_outcome (tables nodes ch nums names strings text) used start size) used start size names names (Name.Existing x)
+          pub add_existing : (x ≡ 0 → ⊥) → NameAdded (add_outcome (tables nodes ch nums names strings text) used start size) used start size names names (Ok (Name.Existing x))
           unfolding add_outcome
           add_existing some = rw (passes, told_yes may t, ← found, ne_eqb x 0 some) (record { answer = refl; names = refl })
 
-          pub add_new : {after : List ℕ} {r : NameAnswer} → x ≡ 0 → NameAdded (at_end names used) used start size names after r
+          pub add_new : {after : List ℕ} {r : Result NameAnswer NameRefusal} → x ≡ 0 → NameAdded (at_end names used) used start size names after r
               → NameAdded (add_outcome (tables nodes ch nums names strings text) used start size) used start size names after r
           unfolding add_outcome
           add_new none done = rw (passes, told_yes may t, ← found, none) done

@@ -27,6 +27,9 @@ use Rattle.table.proofs.trees.Facts as Facts
 use Rattle.name_table.specs.Adding.{places, with_names, in_use, in_use_within_limits, has_names, checked_in_use, allowed, number_from, number_with_bytes, has_place, AddOutcome, refused, existing, added, at_end, add_outcome, names_after, used_after}
 use Rattle.name_table.specs.declared.NameAnswer.{NameAnswer}
 use Rattle.name_table.specs.declared.NameAnswer.TheVariants as Name
+use Rattle.name_table.specs.declared.NameRefusal.{NameRefusal}
+use Rattle.name_table.specs.declared.NameRefusal.TheVariants as No
+use Rattle.std.proofs.Common.{Result, Ok, Err}
 use Rattle.name_table.specs.Answer.{name_line, AddAnswerLaws}
 use Rattle.name_table.specs.Laws.{Has, tables_then, used_then, NameLaws}
 use Rattle.name_table.proofs.Cases.{table_check}
@@ -336,20 +339,20 @@ name_laws T used start size = record {
 }
 
 -- an answer from its line
-abbrev table_in : ℕ → NameAnswer
-table_in number = Name.TableRefused (cond (eqb number 1) OverLimit (cond (eqb number 2) BreaksRules (cond (eqb number 3) TooDeep EqualNames)))
+abbrev table_in : ℕ → NameRefusal
+table_in number = No.TableRefused (cond (eqb number 1) OverLimit (cond (eqb number 2) BreaksRules (cond (eqb number 3) TooDeep EqualNames)))
 
-abbrev answer_in : Line → NameAnswer
-answer_in l = cond (eqb l.number 0) (cond (eqb l.third 0) (Name.Existing l.second) (Name.Added l.second)) (cond (eqb l.number 33) Name.NoPlace (table_in l.number))
+abbrev answer_in : Line → Result NameAnswer NameRefusal
+answer_in l = cond (eqb l.number 0) (Ok (cond (eqb l.third 0) (Name.Existing l.second) (Name.Added l.second))) (Err (cond (eqb l.number 33) No.NoPlace (table_in l.number)))
 
-back : (r : NameAnswer) → answer_in (name_line r) ≡ r
-back (Name.Existing x) = refl
-back (Name.Added x) = refl
-back (Name.TableRefused OverLimit) = refl
-back (Name.TableRefused BreaksRules) = refl
-back (Name.TableRefused TooDeep) = refl
-back (Name.TableRefused EqualNames) = refl
-back Name.NoPlace = refl
+back : (r : Result NameAnswer NameRefusal) → answer_in (name_line r) ≡ r
+back (Ok (Name.Existing x)) = refl
+back (Ok (Name.Added x)) = refl
+back (Err (No.TableRefused OverLimit)) = refl
+back (Err (No.TableRefused BreaksRules)) = refl
+back (Err (No.TableRefused TooDeep)) = refl
+back (Err (No.TableRefused EqualNames)) = refl
+back (Err No.NoPlace) = refl
 
 pub answer_laws : AddAnswerLaws
 answer_laws = record { settled = λ r q e. sym (back r) ∙ (ap answer_in e ∙ back q) }

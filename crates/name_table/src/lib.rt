@@ -15,13 +15,28 @@ use table::reading::{name_bytes, same_bytes};
 use table::tables::Tables;
 use table::{TableRefusal, check};
 
-// A name that the table rules don't allow is refused as BreaksRules.
+// The number of the name with these bytes: it stood in the table, or was added.
 #[derive(Clone, Copy)]
 pub enum NameAnswer {
     Existing { name: u32 },
     Added { name: u32 },
+}
+
+// A name that the table rules don't allow is refused as BreaksRules.
+#[derive(Clone, Copy)]
+pub enum NameRefusal {
     TableRefused(TableRefusal),
     NoPlace,
+}
+
+impl From<TableRefusal> for NameRefusal {
+    ghost use Rattle.name_table.specs.declared.NameRefusal.TheVariants.{TableRefused};
+
+    ghost from_gives = { λ refused r. r ≡ TableRefused refused };
+
+    fn from(refused: TableRefusal) -> NameRefusal {
+        NameRefusal::TableRefused(refused)
+    }
 }
 
 // Is the name table whole pairs, with a place for each name in use?
@@ -80,20 +95,20 @@ fn number_of(names: &[u32], text: &[u8], used: u32, bytes: &[u8]) -> u32
 }
 
 // Puts a name into the first free place, if there is one and it is no 129th name.
-fn put_name(names: &mut [u32], used: u32, start: u32, size: u32) -> NameAnswer
+fn put_name(names: &mut [u32], used: u32, start: u32, size: u32) -> Result<NameAnswer, NameRefusal>
     ensures { NameAddedIn names (at_end names.old used) used start size result }
 {
     let at = used as usize * 2;
     let last = at + 1;
     if names.len() <= last {
-        return NameAnswer::NoPlace;
+        return Err(NameRefusal::NoPlace);
     }
     if 127 < used {
-        return NameAnswer::NoPlace;
+        return Err(NameRefusal::NoPlace);
     }
     names[at] = start;
     names[last] = size;
-    NameAnswer::Added { name: used + 1 }
+    Ok(NameAnswer::Added { name: used + 1 })
 }
 
 // Adds the name that stands at a range of the text. The first `used` places of the table hold names, the others are free.
@@ -107,7 +122,7 @@ pub fn add_name<'a>(
     used: u32,
     start: u32,
     size: u32,
-) -> NameAnswer
+) -> Result<NameAnswer, NameRefusal>
     ensures { NameAddedIn names (add_outcome (tables nodes.now children.now numbers.now names.old strings.now text.now) used start size) used start size result }
 {
     let tables = Tables {
@@ -118,18 +133,15 @@ pub fn add_name<'a>(
         strings,
         text,
     };
-    let checked = check_in_use(&tables, used);
-    if let Err(refused) = checked {
-        return NameAnswer::TableRefused(refused);
-    }
+    check_in_use(&tables, used)?;
     if !is_allowed(text, start, size) {
-        return NameAnswer::TableRefused(TableRefusal::BreaksRules);
+        return Err(NameRefusal::TableRefused(TableRefusal::BreaksRules));
     }
     let from = start as usize;
     let end = from + size as usize;
     let name = number_of(names, text, used, &text[from..end]);
     if name != 0 {
-        return NameAnswer::Existing { name };
+        return Ok(NameAnswer::Existing { name });
     }
     put_name(names, used, start, size)
 }

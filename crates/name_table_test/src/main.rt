@@ -1,7 +1,7 @@
 // Adds names and prints, for each case, the refusal or 0, the name's number, 1 where it was added, and the name table afterwards; then adds names until there is no place.
 #![tactic(auto)]
 
-use name_table::{NameAnswer, add_name};
+use name_table::{NameAnswer, NameRefusal, add_name};
 use std::{array, io};
 use table::refusal_number;
 
@@ -54,12 +54,12 @@ fn print_answer(rt: &impl Print, number: u32, name: u32, added: u32) -> io::Resu
     print!(rt; " {number} {name} {added}")
 }
 
-fn print_outcome(rt: &impl Print, answer: NameAnswer) -> io::Result<()> {
+fn print_outcome(rt: &impl Print, answer: Result<NameAnswer, NameRefusal>) -> io::Result<()> {
     match answer {
-        NameAnswer::Existing { name } => print_answer(rt, 0, name, 0),
-        NameAnswer::Added { name } => print_answer(rt, 0, name, 1),
-        NameAnswer::TableRefused(refused) => print_answer(rt, refusal_number(refused), 0, 0),
-        NameAnswer::NoPlace => print_answer(rt, 33, 0, 0),
+        Ok(NameAnswer::Existing { name }) => print_answer(rt, 0, name, 0),
+        Ok(NameAnswer::Added { name }) => print_answer(rt, 0, name, 1),
+        Err(NameRefusal::TableRefused(refused)) => print_answer(rt, refusal_number(refused), 0, 0),
+        Err(NameRefusal::NoPlace) => print_answer(rt, 33, 0, 0),
     }
 }
 
@@ -101,7 +101,7 @@ fn add_byte(
     if 125 < i {
         print_outcome(rt, answer)?;
     }
-    if let NameAnswer::Added { name } = answer {
+    if let Ok(NameAnswer::Added { name }) = answer {
         return Ok(name);
     }
     Ok(used)

@@ -1,10 +1,10 @@
 // An answer's four numbers.
-ghost use Rattle.std.specs.Prelude.{◌≡◌};
+ghost use Rattle.std.specs.Prelude.{◌≡◌, Err};
 ghost use Rattle.base.specs.Refusal.{line};
 ghost use Rattle.planner.specs.Answer.{line_of};
 ghost use Rattle.operation.specs.Rows.{row_line};
 
-use planner::PlanAnswer;
+use planner::{Plan, PlanRefusal};
 use table::refusal_number;
 
 // 0, form, side and entries; or a refusal's number, place and two counts.
@@ -27,37 +27,42 @@ pub fn row_from(number: u64, second: u64, third: u64, fourth: u64) -> Row
     }
 }
 
-// Of a planning call.
-pub fn row_of(answer: PlanAnswer) -> Row
-    ensures { row_line result ≡ line_of answer }
+// Of a refusal.
+fn refusal_row(refusal: PlanRefusal) -> Row
+    ensures { row_line result ≡ line_of (Err refusal) }
 {
-    match answer {
-        PlanAnswer::Planned {
-            form,
-            side,
-            entries,
-        } => row_from(0, form as u64, side as u64, entries as u64),
-        PlanAnswer::TableRefused(refused) => row_from(refusal_number(refused) as u64, 0, 0, 0),
-        PlanAnswer::RootOutside => row_from(5, 0, 0, 0),
-        PlanAnswer::PlanTooLarge { needed } => row_from(6, 0, needed as u64, 0),
-        PlanAnswer::ColonEqualsRequiresBindableLeft { left } => row_from(11, left as u64, 0, 0),
-        PlanAnswer::ArraySizeMismatch { left, size, other } => {
+    match refusal {
+        PlanRefusal::TableRefused(refused) => row_from(refusal_number(refused) as u64, 0, 0, 0),
+        PlanRefusal::RootOutside => row_from(5, 0, 0, 0),
+        PlanRefusal::PlanTooLarge { needed } => row_from(6, 0, needed as u64, 0),
+        PlanRefusal::ColonEqualsRequiresBindableLeft { left } => row_from(11, left as u64, 0, 0),
+        PlanRefusal::ArraySizeMismatch { left, size, other } => {
             row_from(12, left as u64, size as u64, other as u64)
         }
-        PlanAnswer::ArrayLengthMismatch {
+        PlanRefusal::ArrayLengthMismatch {
             value,
             expected,
             actual,
         } => row_from(13, value as u64, expected as u64, actual as u64),
-        PlanAnswer::ObjectLiteralKeysMismatch { value, pattern } => {
+        PlanRefusal::ObjectLiteralKeysMismatch { value, pattern } => {
             row_from(14, value as u64, pattern as u64, 0)
         }
-        PlanAnswer::ObjectFieldCountMismatch { left, keys, fields } => {
+        PlanRefusal::ObjectFieldCountMismatch { left, keys, fields } => {
             row_from(15, left as u64, keys as u64, fields as u64)
         }
-        PlanAnswer::ObjectKeyNotFound { key } => row_from(16, key as u64, 0, 0),
-        PlanAnswer::VariableAlreadyDefined { name } => row_from(17, name as u64, 0, 0),
-        PlanAnswer::IncompatibleDestructuringPatterns { side } => row_from(18, side as u64, 0, 0),
-        PlanAnswer::ReservedName { name } => row_from(31, name as u64, 0, 0),
+        PlanRefusal::ObjectKeyNotFound { key } => row_from(16, key as u64, 0, 0),
+        PlanRefusal::VariableAlreadyDefined { name } => row_from(17, name as u64, 0, 0),
+        PlanRefusal::IncompatibleDestructuringPatterns { side } => row_from(18, side as u64, 0, 0),
+        PlanRefusal::ReservedName { name } => row_from(31, name as u64, 0, 0),
+    }
+}
+
+// Of a planning call.
+pub fn row_of(answer: Result<Plan, PlanRefusal>) -> Row
+    ensures { row_line result ≡ line_of answer }
+{
+    match answer {
+        Ok(plan) => row_from(0, plan.form as u64, plan.side as u64, plan.entries as u64),
+        Err(refusal) => refusal_row(refusal),
     }
 }

@@ -32,8 +32,8 @@ use Rattle.planner.proofs.buffer.Copies.{wrote_read}
 use Rattle.planner.proofs.buffer.Filling.{length_tabulate, get_d_tabulate}
 use Rattle.planner.proofs.laws.Operations.{sound_well, root_node}
 use Rattle.matching.proofs.EntryLists.{AllE, all_append, all_at, AllOrder, all_none, all_add, all_order, blank, scratch_laid, scratch_kind, scratch_node}
-use Rattle.report.specs.declared.ReportAnswer.{ReportAnswer}
-use Rattle.report.specs.declared.ReportAnswer.TheVariants.{Reported, TableRefused, RootOutside, ListTooShort}
+use Rattle.report.specs.declared.ReportRefusal.{ReportRefusal}
+use Rattle.report.specs.declared.ReportRefusal.TheVariants.{TableRefused, RootOutside, ListTooShort}
 use Rattle.report.specs.Answer.{report_line}
 use Rattle.report.specs.Report.{names_reported, reported, ReportOutcome, refused, filled, require, report_outcome, report_answer, report_list, ReportedBy}
 use Rattle.report.specs.code.Post.{report_words, met_mark, EntryBound, marked_by, BoundAsks, BoundMarked, ReportAsks, PlannedMarked, ReportMarked}
@@ -264,7 +264,7 @@ module _ (T : Tables) (s : Scope) (mode : ScopingMode) (pattern : ℕ) {before :
 
 -- the refusals
 module _ (T : Tables) (s : Scope) (mode : ScopingMode) (pattern : ℕ) (before : List ℕ) {c : Result Unit TableRefusal} (is : TableAnswered T s c) where
-  reports : {after : List ℕ} (o : ReportOutcome) {r : ReportAnswer} → report_outcome T s pattern before ≡ o → report_line r ≡ report_answer o → after ≡ report_list o T s mode pattern before → ReportedBy T s mode pattern before after r
+  reports : {after : List ℕ} (o : ReportOutcome) {r : Result Unit ReportRefusal} → report_outcome T s pattern before ≡ o → report_line r ≡ report_answer o → after ≡ report_list o T s mode pattern before → ReportedBy T s mode pattern before after r
   reports o e l f = record { answer = l ∙ sym (ap report_answer e); list = f ∙ sym (ap (λ (x : ReportOutcome). report_list x T s mode pattern before) e) }
 
   abbrev sound : ReportOutcome
@@ -273,23 +273,23 @@ module _ (T : Tables) (s : Scope) (mode : ScopingMode) (pattern : ℕ) (before :
   by_check : {d : Result Unit TableRefusal} → c ≡ d → report_outcome T s pattern before ≡ tested_or refused (tested_of d) sound
   by_check p = ap (λ (t : Tested). tested_or refused t sound) (sym is.answer ∙ ap tested_of p)
 
-  pub report_table : {d : TableRefusal} {after : List ℕ} → c ≡ Err d → after ≡ replicate (length before) 0 → ReportedBy T s mode pattern before after (TableRefused d)
+  pub report_table : {d : TableRefusal} {after : List ℕ} → c ≡ Err d → after ≡ replicate (length before) 0 → ReportedBy T s mode pattern before after (Err (TableRefused d))
   report_table {d} p z = reports (refused (table_refused d)) (by_check p) refl z
 
   module _ (told-sound : c ≡ Ok tt) {inside : Bool} (told : inside ≡ is_node T pattern) where
     passed : report_outcome T s pattern before ≡ sound
     passed = by_check told-sound
 
-    pub report_root : {after : List ℕ} → not inside ≡ true → after ≡ replicate (length before) 0 → ReportedBy T s mode pattern before after RootOutside
+    pub report_root : {after : List ℕ} → not inside ≡ true → after ≡ replicate (length before) 0 → ReportedBy T s mode pattern before after (Err RootOutside)
     report_root t z = let e = told_no told t in reports (refused root_outside) (passed ∙ rw e) refl z
 
     module _ (in_table : not inside ≡ false) where
-      pub report_short : {after : List ℕ} → length before < length T.names / 2 → after ≡ replicate (length before) 0 → ReportedBy T s mode pattern before after ListTooShort
+      pub report_short : {after : List ℕ} → length before < length T.names / 2 → after ≡ replicate (length before) 0 → ReportedBy T s mode pattern before after (Err ListTooShort)
       report_short lt z = let e = told_yes told in_table in let f = lt-leb (name_count T) (length before) lt in reports (refused list_too_short) (passed ∙ rw (e, f)) refl z
 
       module _ (long : length T.names / 2 ≤ length before) where
         pub ask_report : ReportAsks T pattern before
         ask_report = record { good = record { table = sound_well T s is told-sound; node = root_node T pattern told in_table }; long = long }
 
-        pub report_done : {after : List ℕ} → ReportMarked T s mode pattern before after → ReportedBy T s mode pattern before after Reported
+        pub report_done : {after : List ℕ} → ReportMarked T s mode pattern before after → ReportedBy T s mode pattern before after (Ok tt)
         report_done m = let e = told_yes told in_table in let f = le-leb (name_count T) (length before) long in reports filled (passed ∙ rw (e, f)) refl m.list

@@ -1,5 +1,5 @@
 -- The names report of a pattern: for each name 1 bound in the plan; 2 not bound there but met through arrays and object values, or a computed key there; else 0.
-use Rattle.std.specs.Prelude.{ℕ, ◌+◌, ◌≡◌, Bool, cond, false, List, ◌∷◌, [], ◌++◌, leb, length, replicate}
+use Rattle.std.specs.Prelude.{ℕ, ◌+◌, ◌≡◌, Bool, cond, false, Result, List, ◌∷◌, [], ◌++◌, leb, length, replicate}
 use Rattle.scope.specs.declared.Scope.{Scope}
 use Rattle.scope.specs.declared.ScopingMode.{ScopingMode}
 use Rattle.table.specs.Tables.{Tables, first_word_of, name_count}
@@ -12,7 +12,7 @@ use Rattle.table.specs.Check.{checked_or}
 use Rattle.planner.specs.Layout.{top, entries, bound_names}
 use Rattle.planner.specs.Names.{names_in}
 use Rattle.planner.specs.Operations.{plan_of}
-use Rattle.report.specs.declared.ReportAnswer.{ReportAnswer}
+use Rattle.report.specs.declared.ReportRefusal.{ReportRefusal}
 use Rattle.report.specs.Answer.{report_line}
 use Rattle.report.specs.ComputedKeys.{names_as_keys}
 
@@ -51,10 +51,10 @@ abbrev pub report_list : ReportOutcome → Tables → Scope → ScopingMode → 
 report_list (refused a) T s mode root list = replicate (length list) 0
 report_list filled T s mode root list = tabulate (λ i. reported T s mode root (i + 1)) 0 (length list)
 
-pub record ReportedBy (T : Tables) (s : Scope) (mode : ScopingMode) (root : ℕ) (before after : List ℕ) (r : ReportAnswer) : Type 0 where
+pub record ReportedBy (T : Tables) (s : Scope) (mode : ScopingMode) (root : ℕ) (before after : List ℕ) (r : Result Unit ReportRefusal) : Type 0 where
   pub answer : report_line r ≡ report_answer (report_outcome T s root before)
   pub list : after ≡ report_list (report_outcome T s root before) T s mode root before
 
 -- the same of a `&mut` list, at entry and at exit
-abbrev pub ReportedIn : MutSlices → Tables → Scope → ScopingMode → ℕ → ReportAnswer → Type 0
+abbrev pub ReportedIn : MutSlices → Tables → Scope → ScopingMode → ℕ → Result Unit ReportRefusal → Type 0
 ReportedIn list T s mode root r = ReportedBy T s mode root (old list) (new list) r

@@ -21,8 +21,7 @@ pub mod inner;
 mod keys;
 
 #[derive(Clone, Copy)]
-pub enum ReportAnswer {
-    Reported,
+pub enum ReportRefusal {
     TableRefused(TableRefusal),
     RootOutside,
     ListTooShort,
@@ -100,22 +99,22 @@ pub fn names_report(
     scoping: ScopingMode,
     pattern: u32,
     list: &mut [u32],
-) -> ReportAnswer
+) -> Result<(), ReportRefusal>
     ensures { ReportedIn list (contents tables.now) scope scoping pattern result }
 {
     let checked = check(tables, scope);
     if let Err(refused) = checked {
         clear(list);
-        return ReportAnswer::TableRefused(refused);
+        return Err(ReportRefusal::TableRefused(refused));
     }
     if !is_node(tables.nodes, pattern) {
         clear(list);
-        return ReportAnswer::RootOutside;
+        return Err(ReportRefusal::RootOutside);
     }
     if list.len() < tables.names.len() / 2 {
         clear(list);
-        return ReportAnswer::ListTooShort;
+        return Err(ReportRefusal::ListTooShort);
     }
     report_names(tables, scope, scoping, pattern, list);
-    ReportAnswer::Reported
+    Ok(())
 }

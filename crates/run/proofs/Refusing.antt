@@ -17,7 +17,7 @@ use Rattle.table.specs.declared.TableRefusal.{TableRefusal}
 use Rattle.table.specs.Tables.{Tables, name_count, is_node}
 use Rattle.table.specs.Decode.{expr}
 use Rattle.table.specs.Rules.{within_limits, follows_rules, shallow, names_differ}
-use Rattle.table.specs.Check.{checked, table_refused, TableAnswered, tested_of}
+use Rattle.table.specs.Check.{checked, TableAnswered, tested_of}
 use Rattle.table.specs.code.Sound.{WellFormed}
 use Rattle.table.proofs.tests.Bools.{and_true, told_no, told_yes}
 use Rattle.table.proofs.trees.Facts.{sound_table}
@@ -28,10 +28,9 @@ use Rattle.planner.specs.Simple.{simple}
 use Rattle.planner.proofs.laws.Operations.{check_passes, root_node}
 use Rattle.value.specs.Value.{is_value}
 use Rattle.run.specs.declared.RunAnswer.{RunAnswer}
-use Rattle.run.specs.declared.RunAnswer.TheVariants.{TableRefused, RootOutside, ListTooShort, PatternNotSimple, NotAValue, NameWithoutValue}
-use Rattle.run.specs.declared.inner.refusals.RunCheck.{RunCheck}
-use Rattle.run.specs.declared.inner.refusals.RunCheck.TheVariants.{Passed, Refused}
-use Rattle.run.specs.Answer.{turned_back_lem, result_of}
+use Rattle.run.specs.declared.RunRefusal.{RunRefusal}
+use Rattle.run.specs.declared.RunRefusal.TheVariants.{TableRefused, RootOutside, ListTooShort, PatternNotSimple, NotAValue, NameWithoutValue}
+use Rattle.run.specs.Answer.{run_refusal}
 use Rattle.run.specs.Operations.{values_listed, known_listed, RunOutcome, refused, carried_out, require, table_first, ran, run_checked, run_outcome, run_answer, plan_after, planned_name, values_after, Ran}
 use Rattle.run.specs.code.Post.{RunAsks, CheckedAsks, CheckTold}
 use Rattle.run.specs.code.NamesPost.{KnownAsks}
@@ -39,13 +38,13 @@ use Rattle.run.specs.code.ChecksPost.{AllAsks}
 use Rattle.run.proofs.Checking.{node_of_test, test_of_node}
 
 module _ (T : Tables) (s : Scope) (mode : ScopingMode) (pattern value : ℕ) (values : List ℕ) where
-  turns : (x : Refusal) (answer : RunAnswer) → run_outcome T s mode pattern value values ≡ refused x → result_of answer ≡ turned_back_lem x → CheckTold T s mode pattern value values (Refused answer)
-  turns x answer e l = record {
+  turns : (x : RunRefusal) → run_outcome T s mode pattern value values ≡ refused (run_refusal x) → CheckTold T s mode pattern value values (Err x)
+  turns x e = record {
     passes = λ p. absurd (false≢true (cc));
-    refuses = λ a q. let z : answer ≡ a = cc in record { refusal = x; is = e; told = ap result_of (sym z) ∙ l };
+    refuses = λ a q. let z : x ≡ a = cc in e ∙ ap (λ (r : RunRefusal). refused (run_refusal r)) z;
   }
 
-  pass : RunAsks T s mode pattern value values → CheckTold T s mode pattern value values Passed
+  pass : RunAsks T s mode pattern value values → CheckTold T s mode pattern value values (Ok tt)
   pass a = record { passes = λ p. a; refuses = λ b q. absurd (false≢true (cc)) }
 
 -- 1. Of a table that passed the check, with roots in it and a list that is long enough
@@ -75,19 +74,19 @@ module _ (T : Tables) (s : Scope) (mode : ScopingMode) (pattern value : ℕ) (va
       rw (a.sound, p, v, l)
 
   module _ {ok : Bool} (is : ok ≡ simple (expr T pattern)) where
-    pub not_simple : not ok ≡ true → CheckTold T s mode pattern value values (Refused PatternNotSimple)
-    not_simple t = let e = told_no is t in turns T s mode pattern value values pattern_not_simple PatternNotSimple (inside ∙ rw e) refl
+    pub not_simple : not ok ≡ true → CheckTold T s mode pattern value values (Err PatternNotSimple)
+    not_simple t = let e = told_no is t in turns T s mode pattern value values PatternNotSimple (inside ∙ rw e)
 
     module _ (one : not ok ≡ false) where
       module _ {all : Bool} (of : all ≡ (is_value (expr T value) && values_listed T values)) where
-        pub no_value : not all ≡ true → CheckTold T s mode pattern value values (Refused NotAValue)
-        no_value t = let e = told_yes is one in let f = told_no of t in turns T s mode pattern value values not_a_value NotAValue (inside ∙ rw (e, f)) refl
+        pub no_value : not all ≡ true → CheckTold T s mode pattern value values (Err NotAValue)
+        no_value t = let e = told_yes is one in let f = told_no of t in turns T s mode pattern value values NotAValue (inside ∙ rw (e, f))
 
         module _ (two : not all ≡ false) {valued : Bool} (by : valued ≡ known_listed T (known s mode) (expr T pattern) values) where
-          pub unlisted : not valued ≡ true → CheckTold T s mode pattern value values (Refused NameWithoutValue)
-          unlisted t = let e = told_yes is one in let f = told_yes of two in let g = told_no by t in turns T s mode pattern value values name_without_value NameWithoutValue (inside ∙ rw (e, f, g)) refl
+          pub unlisted : not valued ≡ true → CheckTold T s mode pattern value values (Err NameWithoutValue)
+          unlisted t = let e = told_yes is one in let f = told_yes of two in let g = told_no by t in turns T s mode pattern value values NameWithoutValue (inside ∙ rw (e, f, g))
 
-          pub all_pass : not valued ≡ false → CheckTold T s mode pattern value values Passed
+          pub all_pass : not valued ≡ false → CheckTold T s mode pattern value values (Ok tt)
           all_pass three =
               let f = and_true (is_value (expr T value)) (values_listed T values) (told_yes of two) in
               pass T s mode pattern value values (record {
@@ -106,28 +105,28 @@ module _ (T : Tables) (s : Scope) (mode : ScopingMode) (pattern value : ℕ) (va
   ends : {d : Result Unit TableRefusal} → c ≡ d → run_outcome T s mode pattern value values ≡ table_first (tested_of d) (run_checked T s mode pattern value values)
   ends p = ap (λ (t : Tested). table_first t (run_checked T s mode pattern value values)) (sym is.answer ∙ ap tested_of p)
 
-  pub table_refused_lem : {d : TableRefusal} → c ≡ Err d → CheckTold T s mode pattern value values (Refused (TableRefused d))
-  table_refused_lem {d} p = turns T s mode pattern value values (table_refused d) (TableRefused d) (ends p) refl
+  pub table_refused_lem : {d : TableRefusal} → c ≡ Err d → CheckTold T s mode pattern value values (Err (TableRefused d))
+  table_refused_lem {d} p = turns T s mode pattern value values (TableRefused d) (ends p)
 
   module _ (sound : c ≡ Ok tt) where
     outcome_is : run_outcome T s mode pattern value values ≡ run_checked T s mode pattern value values
     outcome_is = ends sound
 
     module _ {one : Bool} (told : one ≡ is_node T pattern) where
-      pub pattern_outside : not one ≡ true → CheckTold T s mode pattern value values (Refused RootOutside)
-      pattern_outside t = let e = told_no told t in turns T s mode pattern value values root_outside RootOutside (outcome_is ∙ rw e) refl
+      pub pattern_outside : not one ≡ true → CheckTold T s mode pattern value values (Err RootOutside)
+      pattern_outside t = let e = told_no told t in turns T s mode pattern value values RootOutside (outcome_is ∙ rw e)
 
       module _ (one_inside : not one ≡ false) {two : Bool} (told' : two ≡ is_node T value) where
-        pub value_outside : not two ≡ true → CheckTold T s mode pattern value values (Refused RootOutside)
-        value_outside t = let e = told_yes told one_inside in let f = told_no told' t in turns T s mode pattern value values root_outside RootOutside (outcome_is ∙ rw (e, f)) refl
+        pub value_outside : not two ≡ true → CheckTold T s mode pattern value values (Err RootOutside)
+        value_outside t = let e = told_yes told one_inside in let f = told_no told' t in turns T s mode pattern value values RootOutside (outcome_is ∙ rw (e, f))
 
         module _ (two-inside : not two ≡ false) where
-          pub list_short : length values < length T.names / 2 → CheckTold T s mode pattern value values (Refused ListTooShort)
+          pub list_short : length values < length T.names / 2 → CheckTold T s mode pattern value values (Err ListTooShort)
           list_short lt =
               let e = told_yes told one_inside in
               let f = told_yes told' two-inside in
               let g = lt-leb (name_count T) (length values) lt in
-              turns T s mode pattern value values list_too_short ListTooShort (outcome_is ∙ rw (e, f, g)) refl
+              turns T s mode pattern value values ListTooShort (outcome_is ∙ rw (e, f, g))
 
 pub ask_checked : (T : Tables) (s : Scope) (pattern value : ℕ) (values : List ℕ) {c : Result Unit TableRefusal} → TableAnswered T s c → c ≡ Ok tt → {one : Bool} → one ≡ is_node T pattern → not one ≡ false → {two : Bool} → two ≡ is_node T value → not two ≡ false
     → length T.names / 2 ≤ length values → CheckedAsks T s pattern value values
@@ -142,16 +141,16 @@ module _ {T : Tables} {s : Scope} {mode : ScopingMode} {pattern value : ℕ} {va
       let l = le-leb (name_count T) (length values) a.long in
       rw (a.sound, p, q, l, a.is_simple, a.a_value, a.listed_values_lem, a.known_values)
 
-module _ (T : Tables) (s : Scope) (mode : ScopingMode) (pattern value : ℕ) {values : List ℕ} {c : RunCheck} (told : CheckTold T s mode pattern value values c) where
-  pub checks_pass : c ≡ Passed → RunAsks T s mode pattern value values
+module _ (T : Tables) (s : Scope) (mode : ScopingMode) (pattern value : ℕ) {values : List ℕ} {c : Result Unit RunRefusal} (told : CheckTold T s mode pattern value values c) where
+  pub checks_pass : c ≡ Ok tt → RunAsks T s mode pattern value values
   checks_pass p = told.passes p
 
-  pub run_refused : {a : RunAnswer} {buffer cleared : List ℕ} → c ≡ Refused a → cleared ≡ replicate (length buffer) 0
-      → Ran (planned_name (known s mode) (expr T pattern)) (run_outcome T s mode pattern value values) values buffer values cleared a
+  pub run_refused : {a : RunRefusal} {buffer cleared : List ℕ} → c ≡ Err a → cleared ≡ replicate (length buffer) 0
+      → Ran (planned_name (known s mode) (expr T pattern)) (run_outcome T s mode pattern value values) values buffer values cleared (Err a)
   unfolding run_answer plan_after values_after
-  run_refused {a} p z = let t = told.refuses a p in let e = t.is in rw e (record { answer = t.told; plan = z; list = refl })
+  run_refused {a} p z = let e = told.refuses a p in rw e (record { answer = refl; plan = z; list = refl })
 
-  pub run_carried : {buffer after filled : List ℕ} {a : RunAnswer} → c ≡ Passed
+  pub run_carried : {buffer after filled : List ℕ} {a : Result RunAnswer RunRefusal} → c ≡ Ok tt
       → Ran (planned_name (known s mode) (expr T pattern)) (carried_out (entries (plan_of T s mode pattern) top) (ran T s mode pattern value values)) values buffer after filled a
       → Ran (planned_name (known s mode) (expr T pattern)) (run_outcome T s mode pattern value values) values buffer after filled a
   run_carried p r = rw (run_passed (told.passes p)) r

@@ -1,11 +1,12 @@
 -- A run, from the checks to the list at the end.
+use Rattle.std.proofs.Common.{Result}
 use Prim.Native.Nat.{ℕ, ◌+◌, ◌-◌, ◌*◌, ◌/◌, ◌≤◌, ◌<◌}
 use mathlib.Core.Path.{◌≡◌, refl, sym, ap, subst, ◌∙◌, fun_ext}
 use mathlib.Core.List.{List, []}
 use mathlib.Core.Bool.{Bool, true, false, cond, ◌&&◌, ◌||◌, not, false≢true}
 use mathlib.Core.Option.{none, some}
 use native.Mathlib.Omega.{arith}
-use borrow.Author.Tests.{eqb-true, eqb-false, eq-eqb, ne_eqb, le-leb, lt-leb, leb-true, leb-false, not-true, not-false}
+use borrow.Author.Tests.{eqb-true, eqb-false, eq-eqb, ne_eqb, le-leb, lt-leb, leb-true, leb-false}
 use lib.Dec.{T as True, eqb, leb}
 use lib.ListN.{length, get_or, replicate, length-replicate}
 use lib.Seq.{ext_get_or}
@@ -20,12 +21,13 @@ use Rattle.table.proofs.tests.Bools.{and_true}
 use Rattle.table.proofs.trees.Facts.{sound_table}
 use Rattle.table.proofs.tests.Scan.{all_at}
 use Rattle.base.specs.Refusal.{plan_too_large}
-use Rattle.planner.specs.Plan.{plan, after}
+use Rattle.planner.specs.Plan.{plan}
 use Rattle.planner.specs.Layout.{top, entry_words, entries}
 use Rattle.planner.specs.Entries.{read_entries, Wrote, Closed, word_at}
 use Rattle.planner.specs.Operations.{planned, fits, written, plan_of}
 use Rattle.planner.specs.code.Post.{pattern_words, Laid, PatternAsks, PatternPlanned}
-use Rattle.planner.specs.declared.PlanAnswer.{PlanAnswer}
+use Rattle.planner.specs.declared.Plan.{Plan}
+use Rattle.planner.specs.declared.PlanRefusal.{PlanRefusal}
 use Rattle.planner.specs.Simple.{mentions}
 use Rattle.planner.proofs.buffer.Filling.{length_tabulate, get_d_tabulate}
 use Rattle.planner.proofs.buffer.Copies.{wrote_long, wrote_read, wrote_closed}
@@ -34,16 +36,17 @@ use Rattle.value.specs.Value.{Value, is_value, value_of, value_at, Proper, node_
 use Rattle.value.specs.code.Post.{ValueNode}
 use Rattle.value.proofs.Keys.{true_is, is_true}
 use Rattle.value.proofs.Admitted.{value_proper}
-use Rattle.matching.specs.declared.inner.Matched.{Matched}
+use Rattle.std.proofs.Common.{Option, Some, None, Ok, Err}
 use Rattle.matching.specs.Matching.{Env, MatchOutcome, matched, missed, fault, pick_value, run, start, outcome, Asked, Promise}
 use Rattle.matching.specs.code.Post as Post
-use Rattle.matching.specs.code.Post.{env_of, ListOk, PlanIn, is_match, list_after, Ended, PatternCame}
+use Rattle.matching.specs.code.Post.{env_of, ListOk, PlanIn, names_after, PatternCame}
 use Rattle.matching.proofs.Promise as Promise·
 use Rattle.matching.proofs.EntryLists.{scratch_laid}
 use Rattle.matching.proofs.reading.PlanTold.{run_whole}
 use Rattle.report.proofs.Meeting.{after_met, mentions_met, mentioned_named}
 use Rattle.run.specs.declared.RunAnswer.{RunAnswer}
-use Rattle.run.specs.declared.RunAnswer.TheVariants.{Match, NoMatch, PlanTooLarge}
+use Rattle.run.specs.declared.RunAnswer.TheVariants.{Match, NoMatch}
+use Rattle.run.specs.declared.RunRefusal.TheVariants.{PlanTooLarge}
 use Rattle.run.specs.Answer.{turned_back_lem, a_match, no_match_lem}
 use Rattle.run.specs.Operations.{listed_node, in_table, all_names, is_value_node, listed, values_listed, known_listed, carried_out, ran, carried_result, run_answer, plan_after, set_names, planned_name, values_after, Ran}
 use Rattle.run.specs.code.Post.{RunAsks, MatchValuesAsks, to_bind, ValuesCame}
@@ -273,28 +276,28 @@ module _ {T : Tables} {s : Scope} {mode : ScopingMode} {scratch : List ℕ} {cou
     pub ask_match : Post.PatternAsks T scratch count value list
     ask_match = match_asks a.asks of a.laid
 
-    module _ {r : Matched} (came : PatternCame T scratch count value list r) (binders : List ℕ) where
-      of_root : (root : ℕ) → RunAsks T s mode root value before → PatternPlanned T s mode root 0 (replicate pattern_words 0) binders scratch count → Ended (ran T s mode root value before) list r
-      of_root root b p = subst (λ (o : MatchOutcome). Ended o list r) (ran_here b of) (came.each (is_unbound s mode) root (plan_in b of (scratch_laid p.wrote p.few)))
+    module _ {r : Option (List ℕ)} (came : PatternCame T scratch count value list r) (binders : List ℕ) where
+      of_root : (root : ℕ) → RunAsks T s mode root value before → PatternPlanned T s mode root 0 (replicate pattern_words 0) binders scratch count → r ≡ names_after (ran T s mode root value before)
+      of_root root b p = subst (λ (o : MatchOutcome). r ≡ names_after o) (ran_here b of) (came.each (is_unbound s mode) root (plan_in b of (scratch_laid p.wrote p.few)))
 
-      pub values_missed : not r.matched ≡ true → ValuesCame T s mode scratch count binders value before before NoMatch
-      values_missed t = record { each = λ root b p. by root (ran T s mode root value before) (sym (of_root root b p).told ∙ not-true r.matched t) }
+      pub values_missed : r ≡ None → ValuesCame T s mode scratch count binders value before before NoMatch
+      values_missed t = record { each = λ root b p. by root (ran T s mode root value before) (sym t ∙ of_root root b p) }
         where
-          by : (root : ℕ) (o : MatchOutcome) → is_match o ≡ false → (no_match_lem ≡ carried_result o) × (before ≡ set_names (to_bind (is_unbound s mode) (expr T root)) o before)
-          by root (matched env) e = absurd (false≢true (sym e))
+          by : (root : ℕ) (o : MatchOutcome) → ◌≡◌ {A = Option (List ℕ)} None (names_after o) → (no_match_lem ≡ carried_result o) × (before ≡ set_names (to_bind (is_unbound s mode) (expr T root)) o before)
+          by root (matched env) e = absurd (false≢true (cc))
           by root missed e = (refl, refl)
           by root fault e = (refl, refl)
 
-      pub values_matched : {after : List ℕ} → not r.matched ≡ false → NamesSet (length T.names / 2) binders r.list before after → ValuesCame T s mode scratch count binders value before after Match
-      values_matched {after} t set = record {
-        each = λ root b p. let d = of_root root b p in by root b p (ran T s mode root value before) (sym d.told ∙ not-false r.matched t) d.names;
+      pub values_matched : {held after : List ℕ} → r ≡ Some held → NamesSet (length T.names / 2) binders held before after → ValuesCame T s mode scratch count binders value before after Match
+      values_matched {held} {after} t set = record {
+        each = λ root b p. by root b p (ran T s mode root value before) (sym t ∙ of_root root b p);
       }
         where
-          by : (root : ℕ) → RunAsks T s mode root value before → PatternPlanned T s mode root 0 (replicate pattern_words 0) binders scratch count → (o : MatchOutcome) → is_match o ≡ true → r.list ≡ list_after o list
+          by : (root : ℕ) → RunAsks T s mode root value before → PatternPlanned T s mode root 0 (replicate pattern_words 0) binders scratch count → (o : MatchOutcome) → Some held ≡ names_after o
               → (a_match ≡ carried_result o) × (after ≡ set_names (to_bind (is_unbound s mode) (expr T root)) o before)
-          by root b p (matched env) e l = (refl, names_set_lem b p env l set)
-          by root b p missed e l = absurd (false≢true e)
-          by root b p fault e l = absurd (false≢true e)
+          by root b p (matched env) e = (refl, names_set_lem b p env (cc) set)
+          by root b p missed e = absurd (false≢true (cc))
+          by root b p fault e = absurd (false≢true (cc))
 
 -- the plan and what carrying it out came to
 module _ (T : Tables) (s : Scope) (mode : ScopingMode) (pattern value : ℕ) {values : List ℕ} (a : RunAsks T s mode pattern value values) where
@@ -308,7 +311,7 @@ module _ (T : Tables) (s : Scope) (mode : ScopingMode) (pattern value : ℕ) {va
     size : count ≡ length (entries (plan_of T s mode pattern) top)
     size = let e = p.wrote.end in omega arith
 
-    module _ {buffer mid filled : List ℕ} {end : ℕ} {r : PlanAnswer} (w : Wrote buffer 0 (read_entries scratch 0 count) mid end) (d : Closed 0 end mid filled r) where
+    module _ {buffer mid filled : List ℕ} {end : ℕ} {r : Result Plan PlanRefusal} (w : Wrote buffer 0 (read_entries scratch 0 count) mid end) (d : Closed 0 end mid filled r) where
       in_buffer : filled ≡ written (planned 0 0 (entries (plan_of T s mode pattern) top)) buffer
       in_buffer =
           let f = p.few in
@@ -327,7 +330,7 @@ module _ (T : Tables) (s : Scope) (mode : ScopingMode) (pattern value : ℕ) {va
               let f : filled ≡ replicate (length mid) 0 = rw e at d.buffer in
               ap length f ∙ length-replicate {A = ℕ} (length mid) 0
 
-      pub too_large : length filled / entry_words < count → Ran (planned_name (known s mode) (expr T pattern)) (carried_out (entries (plan_of T s mode pattern) top) (ran T s mode pattern value values)) values buffer values filled (PlanTooLarge count)
+      pub too_large : length filled / entry_words < count → Ran (planned_name (known s mode) (expr T pattern)) (carried_out (entries (plan_of T s mode pattern) top) (ran T s mode pattern value values)) values buffer values filled (Err (PlanTooLarge count))
       unfolding run_answer plan_after values_after
       too_large lt =
           let z = size in
@@ -336,7 +339,7 @@ module _ (T : Tables) (s : Scope) (mode : ScopingMode) (pattern value : ℕ) {va
           record { answer = rw f (ap (λ (n : ℕ). turned_back_lem (plan_too_large n)) z); plan = in_buffer; list = rw f }
 
       pub carried : {after : List ℕ} {answer : RunAnswer} → count ≤ length filled / entry_words → ValuesCame T s mode scratch count binders value values after answer
-          → Ran (planned_name (known s mode) (expr T pattern)) (carried_out (entries (plan_of T s mode pattern) top) (ran T s mode pattern value values)) values buffer after filled answer
+          → Ran (planned_name (known s mode) (expr T pattern)) (carried_out (entries (plan_of T s mode pattern) top) (ran T s mode pattern value values)) values buffer after filled (Ok answer)
       unfolding run_answer plan_after values_after
       carried le came =
           let z = size in

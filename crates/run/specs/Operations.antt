@@ -1,5 +1,5 @@
 -- Run: its refusals in their order; its answer, the plan buffer and the list of value nodes afterwards.
-use Rattle.std.specs.Prelude.{ℕ, ◌+◌, ◌-◌, ◌≡◌, Bool, cond, ◌&&◌, ◌||◌, not, List, [], ◌∷◌, eqb, leb, length, get_or}
+use Rattle.std.specs.Prelude.{ℕ, ◌+◌, ◌-◌, ◌≡◌, Bool, cond, ◌&&◌, ◌||◌, not, Result, List, [], ◌∷◌, eqb, leb, length, get_or}
 use Rattle.std.proofs.Math.Option.{none}
 use Rattle.scope.specs.declared.Scope.{Scope}
 use Rattle.scope.specs.declared.ScopingMode.{ScopingMode}
@@ -18,6 +18,7 @@ use Rattle.value.specs.Value.{is_value, value_of, value_at, node_in}
 use Rattle.matching.specs.Matching.{Env, MatchOutcome, matched, missed, fault, start}
 use Rattle.matching.specs.Reading.{run_entries}
 use Rattle.run.specs.declared.RunAnswer.{RunAnswer}
+use Rattle.run.specs.declared.RunRefusal.{RunRefusal}
 use Rattle.run.specs.Answer.{RunResult, turned_back_lem, a_match, no_match_lem, result_of}
 
 -- The list has at place x - 1 the node of name x's value, or 0.
@@ -112,12 +113,12 @@ values_after to_set (refused a) buffer values = values
 values_after to_set (carried_out es o) buffer values = cond (fits es buffer) (set_names to_set o values) values
 
 -- the answer, the plan buffer and the list at exit
-pub record Ran (names : ℕ → Bool) (o : RunOutcome) (values buffer valuesExit bufferExit : List ℕ) (r : RunAnswer) : Type 0 where
+pub record Ran (names : ℕ → Bool) (o : RunOutcome) (values buffer valuesExit bufferExit : List ℕ) (r : Result RunAnswer RunRefusal) : Type 0 where
   pub answer : result_of r ≡ run_answer o buffer
   pub plan : bufferExit ≡ plan_after o buffer
   pub list : valuesExit ≡ values_after names o buffer values
 
 -- the same of a `&mut` list and a `&mut` buffer, at entry and at exit
-abbrev pub RanIn : MutSlices → MutSlices → Tables → Scope → ScopingMode → ℕ → ℕ → RunAnswer → Type 0
+abbrev pub RanIn : MutSlices → MutSlices → Tables → Scope → ScopingMode → ℕ → ℕ → Result RunAnswer RunRefusal → Type 0
 RanIn values plan T s mode pattern value r =
     Ran (planned_name (known s mode) (expr T pattern)) (run_outcome T s mode pattern value (old values)) (old values) (old plan) (new values) (new plan) r

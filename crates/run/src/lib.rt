@@ -3,11 +3,13 @@
 
 ghost use Rattle.table.specs.Contents.{contents};
 ghost use Rattle.table.specs.Lent.{given, lent};
+ghost use Rattle.std.specs.Prelude.{◌≡◌};
+ghost use Rattle.run.specs.declared.RunRefusal.TheVariants.{TableRefused};
 ghost use Rattle.run.specs.Operations.{RanIn};
 ghost use Rattle.run.specs.code.Post.{RunAsks, MatchValuesAsks, ValuesCameIn, CarriedIn};
 
 use inner::names::{set_names, start_list};
-use inner::refusals::{RunCheck, check_run};
+use inner::refusals::check_run;
 use matching::inner::match_pattern;
 use planner::buffer::{ENTRY_WORDS, PATTERN_WORDS, clear, close, copy_entries};
 use planner::inner::destructuring::plan_pattern;
@@ -21,6 +23,10 @@ pub mod inner;
 pub enum RunAnswer {
     Match,
     NoMatch,
+}
+
+#[derive(Clone, Copy)]
+pub enum RunRefusal {
     TableRefused(TableRefusal),
     RootOutside,
     ListTooShort,
@@ -28,6 +34,14 @@ pub enum RunAnswer {
     NotAValue,
     NameWithoutValue,
     PlanTooLarge { needed: usize },
+}
+
+impl From<TableRefusal> for RunRefusal {
+    ghost from_gives = { λ table run. run ≡ TableRefused table };
+
+    fn from(refused: TableRefusal) -> RunRefusal {
+        RunRefusal::TableRefused(refused)
+    }
 }
 
 // The plan in the scratch, carried out from the values in the list; a match sets the names with a binder.
@@ -45,13 +59,13 @@ fn match_values(
     ensures { let T = contents tables.now in ValuesCameIn values T scope scoping scratch.now count binders.now value result }
 {
     let start = start_list(tables.names, scope, scoping, values);
-    let done = match_pattern(tables, scratch, count, value, start);
-    if !done.matched {
-        return RunAnswer::NoMatch;
+    match match_pattern(tables, scratch, count, value, start) {
+        None => RunAnswer::NoMatch,
+        Some(list) => {
+            set_names(tables.names, binders, &list, values);
+            RunAnswer::Match
+        }
     }
-    let list = done.list;
-    set_names(tables.names, binders, &list, values);
-    RunAnswer::Match
 }
 
 // A run that no check refused: the plan in the buffer, if it has space, then carried out.
@@ -63,7 +77,7 @@ fn carry_out(
     value: u32,
     values: &mut [u32],
     plan: &mut [u32],
-) -> RunAnswer
+) -> Result<RunAnswer, RunRefusal>
     requires { RunAsks (contents tables.now) scope scoping pattern value values.old }
     ensures { CarriedIn values plan (contents tables.now) scope scoping pattern value result }
 {
@@ -82,11 +96,11 @@ fn carry_out(
     copy_entries(plan, 0, &scratch, count);
     close(plan, 0, count);
     if plan.len() / ENTRY_WORDS < count {
-        return RunAnswer::PlanTooLarge { needed: count };
+        return Err(RunRefusal::PlanTooLarge { needed: count });
     }
-    match_values(
+    Ok(match_values(
         tables, scope, scoping, &scratch, count, &binders, value, values,
-    )
+    ))
 }
 
 // Plans the pattern into the buffer and carries the plan out on the value. `values` has for each name number the node of its value, or 0.
@@ -98,13 +112,13 @@ pub fn run(
     value: u32,
     values: &mut [u32],
     plan: &mut [u32],
-) -> RunAnswer
+) -> Result<RunAnswer, RunRefusal>
     ensures { RanIn values plan (contents tables.now) scope scoping pattern value result }
 {
     let checked = check_run(tables, scope, scoping, pattern, value, values);
-    if let RunCheck::Refused(answer) = checked {
+    if let Err(refused) = checked {
         clear(plan);
-        return answer;
+        return Err(refused);
     }
     carry_out(tables, scope, scoping, pattern, value, values, plan)
 }

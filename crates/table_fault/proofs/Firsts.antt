@@ -4,7 +4,7 @@ use mathlib.Core.Path.{◌≡◌, refl, sym, ap, ◌∙◌}
 use mathlib.Core.Logic.{◌⊎◌, inl, inr}
 use mathlib.Core.Bool.{Bool, true, false, cond, ◌&&◌}
 use mathlib.Core.List.{List, [], ◌∷◌, ◌++◌}
-use mathlib.Core.Option.{Option, none, some}
+use Rattle.std.proofs.Common.{Option, Some, None}
 use native.Mathlib.Omega.{arith}
 use native.Mathlib.Nat.{eq-or-lt_of_le}
 use lib.Dec.{eqb, leb}
@@ -29,17 +29,17 @@ record Place (p : ℕ → Bool) (at k place : ℕ) : Type 0 where
   here : p place ≡ false
   earlier : (q : ℕ) → at ≤ q → q < place → p q ≡ true
 
-some_same : {x y : ℕ} → some x ≡ some y → x ≡ y
+some_same : {x y : ℕ} → Some x ≡ Some y → x ≡ y
 some_same e = cc
 
-first_place : (p : ℕ → Bool) (at k place : ℕ) → first_broken p at k ≡ some place → Place p at k place
+first_place : (p : ℕ → Bool) (at k place : ℕ) → first_broken p at k ≡ Some place → Place p at k place
 unfolding first_broken
 first_place p at zero place e = never (cc)
 first_place p at (suc k) place e = go (p at) refl (λ h. first_place p (at + 1) k place h)
   where
-    go : (b : Bool) → p at ≡ b → (first_broken p (at + 1) k ≡ some place → Place p (at + 1) k place) → Place p at (suc k) place
+    go : (b : Bool) → p at ≡ b → (first_broken p (at + 1) k ≡ Some place → Place p (at + 1) k place) → Place p at (suc k) place
     go true h on =
-        let f : first_broken p (at + 1) k ≡ some place = rw h at e in
+        let f : first_broken p (at + 1) k ≡ Some place = rw h at e in
         let o = on f in
         let l = o.low in
         let u = o.high in
@@ -49,7 +49,7 @@ first_place p at (suc k) place e = go (p at) refl (λ h. first_place p (at + 1) 
         from q (inl same) more = rw (← same) h
         from q (inr above) more = more (omega arith)
     go false h on =
-        let f : some at ≡ some place = rw h at e in
+        let f : Some at ≡ Some place = rw h at e in
         let z = some_same f in
         record { low = omega arith; high = omega arith; here = rw (← z) h; earlier = λ q a b. absurd (omega arith) }
 
@@ -70,7 +70,7 @@ fault_from_lem [] n refusal number place e = never (cc)
 fault_from_lem (r ∷ rs) n refusal number place e = go (broken_place r) refl (λ h. fault_from_lem rs (n + 1) refusal number place h)
   where
     go : (o : Option ℕ) → broken_place r ≡ o → (fault_from (n + 1) rs ≡ broken refusal number place → From (n + 1) rs refusal number place) → From n (r ∷ rs) refusal number place
-    go none h on =
+    go None h on =
         let f : fault_from (n + 1) rs ≡ broken refusal number place = rw h at e in
         let o = on f in
         let m = o.numbered in
@@ -84,7 +84,7 @@ fault_from_lem (r ∷ rs) n refusal number place e = go (broken_place r) refl (�
           kept = rw (kept_of_none r.kept r.first r.places h) o.kept;
           at = o.at;
         }
-    go (some q) h on =
+    go (Some q) h on =
         let f : broken r.refusal n q ≡ broken refusal number place = rw h at e in
         let z : n ≡ number = cc in
         let w : q ≡ place = cc in
@@ -105,8 +105,8 @@ fault_none [] n e = refl
 fault_none (r ∷ rs) n e = go (broken_place r) refl (λ h. fault_none rs (n + 1) h)
   where
     go : (o : Option ℕ) → broken_place r ≡ o → (fault_from (n + 1) rs ≡ no_fault_lem → all_kept rs ≡ true) → (is_kept r && all_kept rs) ≡ true
-    go none h on = let f : fault_from (n + 1) rs ≡ no_fault_lem = rw h at e in rw (kept_of_none r.kept r.first r.places h) (on f)
-    go (some q) h on = let f : broken r.refusal n q ≡ no_fault_lem = rw h at e in never (cc)
+    go None h on = let f : fault_from (n + 1) rs ≡ no_fault_lem = rw h at e in rw (kept_of_none r.kept r.first r.places h) (on f)
+    go (Some q) h on = let f : broken r.refusal n q ≡ no_fault_lem = rw h at e in never (cc)
 
 -- a rule behind others
 behind : (before : List Rule) (rule : Rule) (after : List Rule) → rule_at (before ++ (rule ∷ after)) (length before) ≡ rule

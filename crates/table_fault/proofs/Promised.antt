@@ -3,7 +3,7 @@ use Prim.Native.Nat.{ℕ, zero, suc, ◌+◌}
 use mathlib.Core.Path.{◌≡◌, refl, sym, ap, ◌∙◌}
 use mathlib.Core.Bool.{Bool, true, false, cond, ◌&&◌, and-true, and_assoc, and_comm}
 use mathlib.Core.List.{List, [], ◌∷◌}
-use mathlib.Core.Option as Option
+use Rattle.std.proofs.Common.{Some}
 use lib.ListN.{length, take}
 use Rattle.base.specs.Lists.{all_from}
 use Rattle.base.specs.Refusal.{Refusal, over_limit, breaks_rules, too_deep, equal_names, Tested, passed, require}
@@ -37,7 +37,7 @@ place_tested p at zero r n rest = refl
 place_tested p at (suc k) r n rest = go (p at) refl (place_tested p (at + 1) k r n rest)
   where
     go : (b : Bool) → p at ≡ b → fault_tested (broken_or (first_broken p (at + 1) k) r n rest) ≡ require (all_from p (at + 1) k) r (fault_tested rest)
-        → fault_tested (broken_or (cond (p at) (first_broken p (at + 1) k) (Option.some at)) r n rest) ≡ require (p at && all_from p (at + 1) k) r (fault_tested rest)
+        → fault_tested (broken_or (cond (p at) (first_broken p (at + 1) k) (Some at)) r n rest) ≡ require (p at && all_from p (at + 1) k) r (fault_tested rest)
     go true e on = rw e on
     go false e on = rw e
 

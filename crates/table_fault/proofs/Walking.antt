@@ -3,13 +3,13 @@ use Prim.Native.Nat.{ℕ, zero, suc, ◌+◌, ◌-◌, ◌≤◌, ◌<◌}
 use mathlib.Core.Path.{◌≡◌, refl, sym, ap, ◌∙◌}
 use mathlib.Core.Bool.{Bool, true, false, cond, not, ◌&&◌}
 use mathlib.Core.List.{List, [], ◌∷◌}
-use mathlib.Core.Option.{none, some}
+use Rattle.std.proofs.Common.{Option, Some, None}
 use native.Mathlib.Omega.{arith}
 use borrow.Author.Tests.{leb-false, not-true, not-false}
 use lib.Dec.{eqb, leb}
 use lib.ListN.{length, take}
 use mir.Val.{Fits}
-use mir.Syntax.{w64}
+use mir.Syntax.{w32}
 use Rattle.base.specs.Lists.{all_from}
 use Rattle.table.specs.Tables.{Tables, tables}
 use Rattle.table.specs.Check.{table_refused}
@@ -17,13 +17,10 @@ use Rattle.table.specs.declared.TableRefusal.{TableRefusal}
 use Rattle.table.specs.code.Sound.{Limits}
 use Rattle.table.proofs.tests.Bools.{and_true, never}
 use Rattle.table.proofs.trees.Facts.{limits_of}
-use Rattle.table_fault.specs.declared.FaultAnswer.TheVariants as Answer
-use Rattle.table_fault.specs.declared.BrokenPlace.{BrokenPlace}
-use Rattle.table_fault.specs.declared.BrokenPlace.TheVariants as Place
 use Rattle.table_fault.specs.Rules.{Rule, rules}
 use Rattle.table_fault.specs.Fault.{first_broken, broken_place, no_fault_lem, broken, fault_from, fault_of, FaultAnswered}
 use Rattle.table_fault.specs.Promise.{is_kept, all_kept}
-use Rattle.table_fault.specs.code.Asking.{rule_at, numbered, kept_at, Reached, Asked, first_by, places_by, refusal_by, place_told}
+use Rattle.table_fault.specs.code.Asking.{rule_at, numbered, kept_at, Reached, Asked, first_by, places_by, refusal_by}
 use Rattle.table_fault.proofs.Ranges.{all_snoc}
 use Rattle.table_fault.proofs.Numbers.{by_number, reached_limits}
 
@@ -41,18 +38,18 @@ first_after p at (suc k) (suc j) le e =
     let b : suc k - suc j ≡ k - j = omega arith in
     rw (h.0, b, ← a) (first_after p (at + 1) k j (omega arith) h.1)
 
-none_broken : (p : ℕ → Bool) (at k : ℕ) → all_from p at k ≡ true → first_broken p at k ≡ none
+none_broken : (p : ℕ → Bool) (at k : ℕ) → all_from p at k ≡ true → first_broken p at k ≡ None
 unfolding first_broken
 none_broken p at k e = let z : k - k ≡ 0 = omega arith in rw z at (first_after p at k k (omega arith) e)
 
-pub kept_of_none : (p : ℕ → Bool) (at k : ℕ) → first_broken p at k ≡ none → all_from p at k ≡ true
+pub kept_of_none : (p : ℕ → Bool) (at k : ℕ) → first_broken p at k ≡ None → all_from p at k ≡ true
 unfolding first_broken all_from
 kept_of_none p at zero e = refl
 kept_of_none p at (suc k) e = go (p at) refl (λ h. kept_of_none p (at + 1) k h)
   where
-    go : (b : Bool) → p at ≡ b → (first_broken p (at + 1) k ≡ none → all_from p (at + 1) k ≡ true) → (p at && all_from p (at + 1) k) ≡ true
-    go true h on = let f : first_broken p (at + 1) k ≡ none = rw h at e in rw h (on f)
-    go false h on = let f : some at ≡ none = rw h at e in never (cc)
+    go : (b : Bool) → p at ≡ b → (first_broken p (at + 1) k ≡ None → all_from p (at + 1) k ≡ true) → (p at && all_from p (at + 1) k) ≡ true
+    go true h on = let f : first_broken p (at + 1) k ≡ None = rw h at e in rw h (on f)
+    go false h on = let f : Some at ≡ None = rw h at e in never (cc)
 
 pub cond_small : (b : Bool) (x y k : ℕ) → x ≤ k → y ≤ k → cond b x y ≤ k
 cond_small true x y k h j = h
@@ -104,8 +101,11 @@ module _ (nodes ch nums names strings text marks : List ℕ) {rule first count :
       let g : first_by rule ≤ 1 = cond_small (leb rule 9) 0 1 1 (omega arith) (omega arith) in
       omega arith
 
-  pub few_fits : Fits w64 (first + count)
+  pub few_fits : Fits w32 (first + count)
   few_fits = let h = few_places in record { fits = omega arith }
+
+  pub count_fits : Fits w32 count
+  count_fits = let h = few_places in record { fits = omega arith }
 
   pub looking_start : {end : ℕ} → end ≡ first + count → Looking T marks rule first end first
   unfolding all_from
@@ -125,9 +125,6 @@ module _ (nodes ch nums names strings text marks : List ℕ) {rule first count :
       }
 
 module _ {T : Tables} {marks : List ℕ} {rule first end place : ℕ} (go : Looking T marks rule first end place) where
-  pub looking_small : end ≤ 513
-  looking_small = go.small
-
   module _ (lt : place < end) where
     pub looking_ask : Asked T marks rule place
     looking_ask =
@@ -152,7 +149,7 @@ module _ {T : Tables} {marks : List ℕ} {rule first end place : ℕ} (go : Look
             before = rw (z, all_snoc (numbered T marks rule).kept first (place - first), y, go.before) (sym is ∙ not-false r t);
           }
 
-      pub looking_fails : not r ≡ true → some place ≡ broken_place (numbered T marks rule)
+      pub looking_fails : not r ≡ true → Some place ≡ broken_place (numbered T marks rule)
       unfolding first_broken
       looking_fails t =
           let s = go.start in
@@ -164,7 +161,7 @@ module _ {T : Tables} {marks : List ℕ} {rule first end place : ℕ} (go : Look
           let no_more : kept_at T marks rule place ≡ false = sym is ∙ not-true r t in
           rw (← s, first_after (numbered T marks rule).kept first k (place - first) (omega arith) go.before, y, z, no_more)
 
-  pub looking_ends : end ≤ place → none ≡ broken_place (numbered T marks rule)
+  pub looking_ends : end ≤ place → None ≡ broken_place (numbered T marks rule)
   looking_ends le =
       let s = go.start in
       let h = go.high in
@@ -173,7 +170,7 @@ module _ {T : Tables} {marks : List ℕ} {rule first end place : ℕ} (go : Look
       rw (← s) (sym (none_broken (numbered T marks rule).kept first (numbered T marks rule).places (rw z at go.before)))
 
 -- the first rule that is broken, behind rules that are kept
-fault_at : (rs : List Rule) (n i place : ℕ) → all_kept (take i rs) ≡ true → i < length rs → some place ≡ broken_place (rule_at rs i)
+fault_at : (rs : List Rule) (n i place : ℕ) → all_kept (take i rs) ≡ true → i < length rs → Some place ≡ broken_place (rule_at rs i)
     → broken (rule_at rs i).refusal (n + i) place ≡ fault_from n rs
 unfolding all_kept rule_at fault_from
 fault_at [] n i place e lt b = absurd (omega arith)
@@ -213,10 +210,10 @@ module _ {T : Tables} {marks : List ℕ} {rule : ℕ} (go : Walking T marks rule
     pub walking_reach : Reached T marks rule
     walking_reach = record { low = go.low; high = le; before = go.before }
 
-    pub walking_on : {found : BrokenPlace} → found ≡ Place.Nowhere → place_told found ≡ broken_place (numbered T marks rule) → Walking T marks (rule + 1)
+    pub walking_on : {found : Option ℕ} → found ≡ None → found ≡ broken_place (numbered T marks rule) → Walking T marks (rule + 1)
     unfolding numbered
     walking_on at is =
-        let e = sym (ap place_told at) ∙ is in
+        let e = sym at ∙ is in
         let l = go.low in
         let z : rule + 1 - 1 ≡ suc (rule - 1) = omega arith in
         record {
@@ -229,17 +226,17 @@ module _ {T : Tables} {marks : List ℕ} {rule : ℕ} (go : Walking T marks rule
     unfolding rules
     long = let l = go.low in omega arith
 
-    pub walking_broken : {found : BrokenPlace} {place : ℕ} {refused : TableRefusal} → found ≡ Place.At place → place_told found ≡ broken_place (numbered T marks rule) → table_refused refused ≡ refusal_by rule
-        → FaultAnswered T marks (Answer.Broken refused rule place)
+    pub walking_broken : {found : Option ℕ} {place : ℕ} {refused : TableRefusal} → found ≡ Some place → found ≡ broken_place (numbered T marks rule) → table_refused refused ≡ refusal_by rule
+        → FaultAnswered T marks (Some (record { refused = refused; rule = rule; place = place }))
     unfolding numbered fault_of
     walking_broken {place = place} at by is =
-        let e = sym (ap place_told at) ∙ by in
+        let e = sym at ∙ by in
         let l = go.low in
         let z : 1 + (rule - 1) ≡ rule = omega arith in
         let b = by_number T marks rule l le in
         record { answer = rw (is, ← b.refusal) (rw z at (fault_at (rules T marks) 1 (rule - 1) place go.before long e)) }
 
-  pub walking_ends : 23 < rule → FaultAnswered T marks Answer.RulesKept
+  pub walking_ends : 23 < rule → FaultAnswered T marks None
   unfolding fault_of rules
   walking_ends lt =
       let h = go.high in

@@ -1,17 +1,15 @@
 -- The first broken rule of the list, with its first broken place.
-use Rattle.std.specs.Prelude.{ℕ, zero, suc, ◌+◌, ◌≡◌, Bool, cond, List, [], ◌∷◌}
-use Rattle.std.proofs.Math.Option.{Option, none, some}
+use Rattle.std.specs.Prelude.{ℕ, zero, suc, ◌+◌, ◌≡◌, Bool, cond, List, [], ◌∷◌, Option, Some, None}
 use Rattle.base.specs.Refusal.{Refusal, Line, line}
 use Rattle.table.specs.Tables.{Tables}
 use Rattle.table.specs.Check.{table_refused}
-use Rattle.table_fault.specs.declared.FaultAnswer.{FaultAnswer}
-use Rattle.table_fault.specs.declared.FaultAnswer.TheVariants as Answer
+use Rattle.table_fault.specs.declared.BrokenRule.{BrokenRule}
 use Rattle.table_fault.specs.Rules.{Rule, rules}
 
 -- the first of k places from `at` on
 unfoldable pub first_broken : (ℕ → Bool) → ℕ → ℕ → Option ℕ
-first_broken kept at zero = none
-first_broken kept at (suc k) = cond (kept at) (first_broken kept (at + 1) k) (some at)
+first_broken kept at zero = None
+first_broken kept at (suc k) = cond (kept at) (first_broken kept (at + 1) k) (Some at)
 
 abbrev pub broken_place : Rule → Option ℕ
 broken_place r = first_broken r.kept r.first r.places
@@ -22,8 +20,8 @@ pub data Fault : Type 0 where
   broken : Refusal → ℕ → ℕ → Fault
 
 abbrev pub broken_or : Option ℕ → Refusal → ℕ → Fault → Fault
-broken_or none refusal number rest = rest
-broken_or (some place) refusal number rest = broken refusal number place
+broken_or None refusal number rest = rest
+broken_or (Some place) refusal number rest = broken refusal number place
 
 -- of rules that are numbered from `number` on
 unfoldable pub fault_from : ℕ → List Rule → Fault
@@ -39,9 +37,9 @@ fault_line no_fault_lem = line 0 0 0 0
 fault_line (broken refusal number place) = line refusal.number number place 0
 
 -- what the code's answer says
-abbrev pub fault_told : FaultAnswer → Fault
-fault_told Answer.RulesKept = no_fault_lem
-fault_told (Answer.Broken refused rule place) = broken (table_refused refused) rule place
+abbrev pub fault_told : Option BrokenRule → Fault
+fault_told None = no_fault_lem
+fault_told (Some b) = broken (table_refused b.refused) b.rule b.place
 
-pub record FaultAnswered (T : Tables) (marks : List ℕ) (r : FaultAnswer) : Type 0 where
+pub record FaultAnswered (T : Tables) (marks : List ℕ) (r : Option BrokenRule) : Type 0 where
   pub answer : fault_told r ≡ fault_of T marks

@@ -6,7 +6,7 @@ ghost use Rattle.table.specs.Lent.{given, lent};
 ghost use Rattle.table.specs.Check.{table_refused};
 ghost use Rattle.std.specs.Prelude.{◌≡◌};
 ghost use Rattle.table_fault.specs.Fault.{FaultAnswered, broken_place};
-ghost use Rattle.table_fault.specs.code.Asking.{numbered, Reached, place_told, refusal_by};
+ghost use Rattle.table_fault.specs.code.Asking.{numbered, Reached, refusal_by};
 
 use kept::is_kept;
 use places::{count_places, first_place};
@@ -21,19 +21,10 @@ pub mod rule;
 
 // `rule` is one of module `rule`; the place is that of a node, child entry, number or name, from 1, or 0 for the tables as a whole.
 #[derive(Clone, Copy)]
-pub enum FaultAnswer {
-    RulesKept,
-    Broken {
-        refused: TableRefusal,
-        rule: u32,
-        place: u32,
-    },
-}
-
-#[derive(Clone, Copy)]
-enum BrokenPlace {
-    Nowhere,
-    At { place: u32 },
+pub struct BrokenRule {
+    pub refused: TableRefusal,
+    pub rule: u32,
+    pub place: u32,
 }
 
 // What the check answers where a rule is broken.
@@ -53,42 +44,39 @@ fn refusal_of(rule: u32) -> TableRefusal
 }
 
 // The first place at which a rule is broken. All rules before it are kept.
-fn first_broken(tables: &Tables<'_>, marks: &[u8], rule: u32) -> BrokenPlace
+fn first_broken(tables: &Tables<'_>, marks: &[u8], rule: u32) -> Option<u32>
     requires { Reached (contents tables.now) marks.now rule }
-    ensures { place_told result ≡ broken_place (numbered (contents tables.now) marks.now rule) }
+    ensures { result ≡ broken_place (numbered (contents tables.now) marks.now rule) }
 {
     let first = first_place(rule);
-    let end = first as usize
-        + count_places(
-            tables.nodes,
-            tables.children,
-            tables.numbers,
-            tables.names,
-            rule,
-        );
-    let mut place = first;
-    while (place as usize) < end {
+    let count = count_places(
+        tables.nodes,
+        tables.children,
+        tables.numbers,
+        tables.names,
+        rule,
+    );
+    let end = first + count as u32;
+    for place in first..end {
         if !is_kept(tables, marks, rule, place) {
-            return BrokenPlace::At { place };
+            return Some(place);
         }
-        place += 1;
     }
-    BrokenPlace::Nowhere
+    None
 }
 
 // The first rule that is broken, at its first place; the marks as bytes, 0 for those that are not lent.
-pub fn table_fault(tables: &Tables<'_>, marks: &[u8]) -> FaultAnswer
+pub fn table_fault(tables: &Tables<'_>, marks: &[u8]) -> Option<BrokenRule>
     ensures { FaultAnswered (contents tables.now) marks.now result }
 {
     for rule in 1..=rule::LAST {
-        let found = first_broken(tables, marks, rule);
-        if let BrokenPlace::At { place } = found {
-            return FaultAnswer::Broken {
+        if let Some(place) = first_broken(tables, marks, rule) {
+            return Some(BrokenRule {
                 refused: refusal_of(rule),
                 rule,
                 place,
-            };
+            });
         }
     }
-    FaultAnswer::RulesKept
+    None
 }

@@ -1,4 +1,4 @@
-// The rules' numbers, in the order in which they are asked.
+// The rules' numbers, in the order in which they are asked: those of the C header, so no enum.
 pub const MOST_NODES: u32 = 1;
 
 pub const MOST_CHILDREN: u32 = 2;

@@ -5,8 +5,8 @@ ghost use Rattle.std.specs.Prelude.{◌≤◌, IfOk};
 
 use scope::Scope;
 use std::{array, io};
-use table::refusal_number;
 use table::tables::Tables;
+use table::{TableRefusal, refusal_number};
 
 const NODES: [[u32; 5]; 16] = [
     [1, 0, 1, 0, 2], // "ab"

@@ -25,11 +25,11 @@ use crate::words::reports::report_words;
 use crate::words::runs::run_words;
 use crate::words::tolerances::tolerance_words;
 use body::BodyPlanned;
-use common_example::ExampleAnswer;
+use common_example::example::{Example, ExampleRefusal};
 use common_example::sides::ScopedPattern;
-use name_table::NameAnswer;
+use name_table::{NameAnswer, NameRefusal};
 use operation::Operation;
-use planner::PlanAnswer;
+use planner::{Plan, PlanRefusal};
 use report::ReportAnswer;
 use run::RunAnswer;
 use scope::{Scope, ScopingMode};
@@ -54,7 +54,7 @@ pub fn plan<'a>(
     operation: Operation,
     version: u32,
     plan: &mut [u32],
-) -> PlanAnswer
+) -> Result<Plan, PlanRefusal>
     ensures { AnsweredIn plan (version_outcome (lent_records nodes children numbers names strings text) scope version operation) result }
 {
     plan_words(
@@ -82,7 +82,7 @@ pub fn add_name<'a>(
     used: u32,
     start: u32,
     length: u32,
-) -> NameAnswer
+) -> Result<NameAnswer, NameRefusal>
     ensures { let T = tables nodes.now children.now numbers.now (name_words names.old) strings.now text.now in
         NameAddedTo names (add_outcome T used start length) used start length result }
 {
@@ -207,7 +207,7 @@ pub fn common_example<'a>(
     values2: &[u32],
     example_nodes: &mut [u32],
     example_children: &mut [u32],
-) -> ExampleAnswer
+) -> Result<Option<Example>, ExampleRefusal>
     ensures { let T = lent_records nodes children numbers names strings text in
         CommonIn T first values1 second values2 example_nodes example_children result }
 {

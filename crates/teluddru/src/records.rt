@@ -4,7 +4,7 @@ ghost use Rattle.teluddru.specs.code.Copying.{name_at, Copied};
 ghost use Rattle.teluddru.specs.code.Placing.{a_name, place_of};
 
 use crate::Name;
-use name_table::NameAnswer;
+use name_table::{NameAnswer, NameRefusal};
 
 // The first `count` pairs of the words are names.
 #[derive(Clone, Copy)]
@@ -49,14 +49,13 @@ pub(crate) fn copy_names(names: &[Name]) -> NameWords
     NameWords { words, count }
 }
 
-pub(crate) fn place_of(answer: NameAnswer, used: u32) -> usize
+pub(crate) fn place_of(answer: Result<NameAnswer, NameRefusal>, used: u32) -> usize
     ensures { result ≡ place_of answer used }
 {
     match answer {
-        NameAnswer::Existing { .. } => 18446744073709551615,
-        NameAnswer::Added { .. } => used as usize,
-        NameAnswer::TableRefused(_) => 18446744073709551615,
-        NameAnswer::NoPlace => 18446744073709551615,
+        Ok(NameAnswer::Existing { .. }) => 18446744073709551615,
+        Ok(NameAnswer::Added { .. }) => used as usize,
+        Err(_) => 18446744073709551615,
     }
 }
 

@@ -1,5 +1,5 @@
 -- A run with tolerances: 32 after the refusals of a run and before 6; its answer, the plan buffer and the list of value nodes afterwards.
-use Rattle.std.specs.Prelude.{ℕ, ◌/◌, ◌≡◌, Bool, true, false, cond, ◌&&◌, ◌||◌, not, List, T as True, eqb, leb, length}
+use Rattle.std.specs.Prelude.{ℕ, ◌/◌, ◌≡◌, Bool, true, false, cond, ◌&&◌, ◌||◌, not, Result, List, T as True, eqb, leb, length}
 use Rattle.std.proofs.Math.Option.{Option, none, some}
 use Rattle.base.specs.Lent.{Slices, MutSlices, old, new}
 use Rattle.base.specs.Lists.{all_from}
@@ -19,6 +19,7 @@ use Rattle.matching.specs.Reading.{run_entries}
 use Rattle.run.specs.Operations as Run
 use Rattle.run.specs.Operations.{listed, all_names, set_names, planned_name, RunOutcome, run_outcome}
 use Rattle.tolerance.specs.declared.ToleranceAnswer.{ToleranceAnswer}
+use Rattle.tolerance.specs.declared.ToleranceRefusal.{ToleranceRefusal}
 use Rattle.tolerance.specs.Answer.{ToleranceResult, turned_back_lem, answers, tolerance_result_of}
 use Rattle.tolerance.specs.Tolerance.{Number, num, num_order, at_most, Ranges, has_number, Answer, always, sometimes, never, outcome_under, Means}
 
@@ -114,7 +115,7 @@ is_judged (refused r) = false
 is_judged (judged es a o) = true
 
 -- Some answer is the one that the choices give, and so are the result, the plan buffer and the list at exit. (No two answers are: `Demand`.)
-pub record Judged (T : Tables) (s : Scope) (mode : ScopingMode) (pattern value : ℕ) (values lows highs buffer valuesExit bufferExit : List ℕ) (r : ToleranceAnswer) : Type 0 where
+pub record Judged (T : Tables) (s : Scope) (mode : ScopingMode) (pattern value : ℕ) (values lows highs buffer valuesExit bufferExit : List ℕ) (r : Result ToleranceAnswer ToleranceRefusal) : Type 0 where
   pub answer : Answer
   pub means : True (is_judged (tolerance_outcome T s mode pattern value values lows highs answer)) → IsAnswer T s mode pattern value values lows highs answer
   pub told : tolerance_result_of r ≡ tolerance_result (tolerance_outcome T s mode pattern value values lows highs answer) buffer
@@ -122,6 +123,6 @@ pub record Judged (T : Tables) (s : Scope) (mode : ScopingMode) (pattern value :
   pub list : valuesExit ≡ values_left (planned_name (Scope.known s mode) (expr T pattern)) (tolerance_outcome T s mode pattern value values lows highs answer) buffer values
 
 -- the same of what is lent, at entry and at exit
-abbrev pub JudgedIn : MutSlices → Slices → Slices → MutSlices → Tables → Scope → ScopingMode → ℕ → ℕ → ToleranceAnswer → Type 0
+abbrev pub JudgedIn : MutSlices → Slices → Slices → MutSlices → Tables → Scope → ScopingMode → ℕ → ℕ → Result ToleranceAnswer ToleranceRefusal → Type 0
 JudgedIn values lows highs plan T s mode pattern value r =
     Judged T s mode pattern value (old values) lows.entry.now highs.entry.now (old plan) (new values) (new plan) r

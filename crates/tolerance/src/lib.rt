@@ -3,7 +3,8 @@
 
 ghost use Rattle.table.specs.Contents.{contents};
 ghost use Rattle.table.specs.Lent.{given, lent};
-ghost use Rattle.std.specs.Prelude.{◌≡◌};
+ghost use Rattle.std.specs.Prelude.{◌≡◌, Ok};
+ghost use Rattle.tolerance.specs.declared.ToleranceRefusal.TheVariants.{Run};
 ghost use Rattle.tolerance.specs.Operations.{JudgedIn};
 ghost use Rattle.tolerance.specs.code.Post.{ToJudge, GivenAsks, given_ok};
 
@@ -12,7 +13,7 @@ use names::{known_values, set_names};
 use planner::buffer::{ENTRY_WORDS, clear, close};
 use planner::inner::destructuring::plan_pattern;
 use ranges::{names_ok, numbers_ok};
-use run::{RunAnswer, run};
+use run::{RunRefusal, run};
 use scope::{Scope, ScopingMode};
 use table::tables::Tables;
 
@@ -22,14 +23,27 @@ mod meeting;
 mod names;
 mod ranges;
 
-// All choices match, some do, none does; else a refusal: 32, or one that a run gives.
+// All choices match, some do, none does.
 #[derive(Clone, Copy)]
 pub enum ToleranceAnswer {
     Always,
     Sometimes,
     Never,
+}
+
+// 32, or a refusal that a run gives.
+#[derive(Clone, Copy)]
+pub enum ToleranceRefusal {
     RangeWrong,
-    Refused(RunAnswer),
+    Run(RunRefusal),
+}
+
+impl From<RunRefusal> for ToleranceRefusal {
+    ghost from_gives = { λ run refusal. refusal ≡ Run run };
+
+    fn from(refused: RunRefusal) -> ToleranceRefusal {
+        ToleranceRefusal::Run(refused)
+    }
 }
 
 // Has every number of the value and of the known names' values, object keys aside, a range?
@@ -69,7 +83,7 @@ fn judge(
     plan: &mut [u32],
 ) -> ToleranceAnswer
     requires { ToJudge (contents tables.now) scope scoping pattern value values.old lowest.now highest.now known plan.old }
-    ensures { JudgedIn values lowest highest plan (contents tables.now) scope scoping pattern value result }
+    ensures { JudgedIn values lowest highest plan (contents tables.now) scope scoping pattern value (Ok result) }
 {
     let mut binders = [0u32; 128];
     let planned = plan_pattern(tables, scope, scoping, pattern, &mut binders, plan, 0);
@@ -94,26 +108,28 @@ pub fn run_with_tolerance(
     lowest: &[u64],
     highest: &[u64],
     plan: &mut [u32],
-) -> ToleranceAnswer
+) -> Result<ToleranceAnswer, ToleranceRefusal>
     ensures { JudgedIn values lowest highest plan (contents tables.now) scope scoping pattern value result }
 {
     // Without space for a plan a run is refused with 6, unless it is with another number.
     let mut none = [0u32; 1];
-    let asked = run(tables, scope, scoping, pattern, value, values, &mut none);
-    let RunAnswer::PlanTooLarge { needed } = asked else {
+    let Err(asked) = run(tables, scope, scoping, pattern, value, values, &mut none) else {
+        unreachable!()
+    };
+    let RunRefusal::PlanTooLarge { needed } = asked else {
         clear(plan);
-        return ToleranceAnswer::Refused(asked);
+        return Err(asked.into());
     };
     let known = known_values(tables.names, tables.text, scope, scoping, values);
     if !ranges_given(tables, value, lowest, highest, &known) {
         clear(plan);
-        return ToleranceAnswer::RangeWrong;
+        return Err(ToleranceRefusal::RangeWrong);
     }
     if plan.len() / ENTRY_WORDS < needed {
         clear(plan);
-        return ToleranceAnswer::Refused(asked);
+        return Err(asked.into());
     }
-    judge(
+    Ok(judge(
         tables, scope, scoping, pattern, value, values, lowest, highest, known, plan,
-    )
+    ))
 }

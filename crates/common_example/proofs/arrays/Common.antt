@@ -2,33 +2,30 @@
 use Prim.Native.Nat.{ℕ}
 use mathlib.Core.Bool.{Bool, true, false, not, false≢true}
 use mathlib.Core.List.{List}
-use mathlib.Core.Option.{none, some}
 use mathlib.Core.Path.{◌≡◌, refl, ap, sym, ◌∙◌}
 use borrow.Author.Tests.{leb-true}
 use lib.ListN.{length, replicate}
 use Rattle.base.specs.Refusal.{Tested, tested_or}
 use Rattle.base.specs.Refusal as Refusal
-use Rattle.table.specs.declared.TableRefusal.{TableRefusal}
-use Rattle.table.specs.Tables.{Tables, tables, name_count}
+use Rattle.table.specs.Tables.{Tables, name_count}
 use Rattle.table.specs.code.Sound.{Node, WellFormed}
 use Rattle.table.proofs.trees.Facts.{sound_table}
 use Rattle.planner.proofs.laws.Operations.{root_node}
 use Rattle.run.specs.code.NamesPost.{ListAsks, StartOf}
-use Rattle.common_example.specs.declared.ExampleAnswer.{ExampleAnswer}
-use Rattle.common_example.specs.declared.ExampleAnswer.TheVariants as Answer
-use Rattle.common_example.specs.declared.Checked.{Checked}
-use Rattle.common_example.specs.declared.Checked.TheVariants as Checked
-use Rattle.common_example.specs.declared.example.Given.{Given}
-use Rattle.common_example.specs.declared.example.Given.TheVariants as Given
-use Rattle.common_example.specs.declared.sides.SideAnswer.{SideAnswer}
-use Rattle.common_example.specs.declared.sides.SideAnswer.TheVariants as Side
+use Rattle.std.proofs.Common.{Option, None, Result, Ok, Err}
+use Rattle.std.specs.Result.{IsErrAnd}
+use Rattle.std.proofs.lemmas.Result.{err_from_is_err_and}
+use Rattle.common_example.specs.declared.example.Example.{Example}
+use Rattle.common_example.specs.declared.example.ExampleRefusal.{ExampleRefusal}
+use Rattle.common_example.specs.declared.example.ExampleRefusal.TheVariants.{SideRefused}
+use Rattle.common_example.specs.declared.sides.SideRefusal.{SideRefusal}
 use Rattle.common_example.specs.Answer.{side_tested}
 use Rattle.common_example.specs.Operations.{PatternSide, side_checked, refused, example_from, example_outcome, turned_back_lem, example_answer, nodes_after, children_after}
-use Rattle.common_example.specs.Common.{example_result, Gives, checked_result, tested_result, SideChecked}
+use Rattle.common_example.specs.Common.{example_refused, Gives, example_tested, SideChecked}
 use Rattle.common_example.specs.code.Sides.{SideAnswered}
 use Rattle.common_example.specs.code.arrays.NodePlaces.{node_place}
 use Rattle.common_example.specs.code.Writing.{Copied}
-use Rattle.common_example.specs.code.Example.{given_result, ExampleAsks, ExampleIs}
+use Rattle.common_example.specs.code.Example.{ExampleAsks, ExampleIs}
 use Rattle.common_example.specs.code.arrays.Unifying.{PatternsAsks, Unifies}
 use Rattle.common_example.specs.code.Common.{SidesChecked, PassedAsks, GiveAsks, GivesHeld, WriteAsks, WritesJoined}
 use Rattle.common_example.proofs.patterns.Outcome.{Passes, passes}
@@ -38,69 +35,48 @@ use Rattle.common_example.proofs.arrays.Parts.{literal_in}
 use Rattle.common_example.proofs.arrays.Unifying.{graph_asks, graph_linked, graph_example}
 use Rattle.common_example.proofs.arrays.Copies.{graph_copied}
 
--- 1. answers
-module _ {a : SideAnswer} where
-  pub is_table : {d : TableRefusal} → a ≡ Side.TableRefused d → checked_result (Checked.Refused (Answer.TableRefused d)) ≡ tested_result (side_tested a)
-  is_table e = ap (λ (x : SideAnswer). tested_result (side_tested x)) (sym e)
+-- 1. one side
+module _ {T : Tables} {s : PatternSide} {a : Result Unit SideRefusal} (i : SideAnswered T s a) where
+  pub side_turned : {x : SideRefusal} → a ≡ Err x → {r : Result Unit ExampleRefusal} → IsErrAnd r (λ y. y ≡ SideRefused x) → SideChecked T s r
+  side_turned e {r} gives =
+      let g = err_from_is_err_and r gives in
+      record { answer = rw (g.1, g.2) (sym (ap side_tested e) ∙ i.answer) }
 
-  pub is_outside : a ≡ Side.RootOutside → checked_result (Checked.Refused Answer.RootOutside) ≡ tested_result (side_tested a)
-  is_outside e = ap (λ (x : SideAnswer). tested_result (side_tested x)) (sym e)
-
-  pub is_short_lem : a ≡ Side.ListTooShort → checked_result (Checked.Refused Answer.ListTooShort) ≡ tested_result (side_tested a)
-  is_short_lem e = ap (λ (x : SideAnswer). tested_result (side_tested x)) (sym e)
-
-  pub is_not_simple : a ≡ Side.PatternNotSimple → checked_result (Checked.Refused Answer.PatternNotSimple) ≡ tested_result (side_tested a)
-  is_not_simple e = ap (λ (x : SideAnswer). tested_result (side_tested x)) (sym e)
-
-  pub is_no_value : a ≡ Side.NotAValue → checked_result (Checked.Refused Answer.NotAValue) ≡ tested_result (side_tested a)
-  is_no_value e = ap (λ (x : SideAnswer). tested_result (side_tested x)) (sym e)
-
-  pub is_unlisted : a ≡ Side.NameWithoutValue → checked_result (Checked.Refused Answer.NameWithoutValue) ≡ tested_result (side_tested a)
-  is_unlisted e = ap (λ (x : SideAnswer). tested_result (side_tested x)) (sym e)
-
-pub is_found : {g : Given} {n k m : ℕ} → g ≡ Given.Found n k m → example_result (Answer.Found n k m) ≡ given_result g
-is_found e = ap given_result (sym e)
+  pub side_passed : {u : Unit} → a ≡ Ok u → SideChecked T s (Ok tt)
+  side_passed e = record { answer = sym (ap side_tested e) ∙ i.answer }
 
 -- 2. both sides
-pub side_refused : {T : Tables} {s : PatternSide} {a : SideAnswer} → SideAnswered T s a → {r : Checked} → checked_result r ≡ tested_result (side_tested a) → SideChecked T s r
-side_refused i h = record { answer = h ∙ ap tested_result i.answer }
+module _ {T : Tables} {s₁ s₂ : PatternSide} {o : Result Unit ExampleRefusal} (i : SideChecked T s₁ o) where
+  pub sides_first : {x : ExampleRefusal} → o ≡ Err x → {r : Result Unit ExampleRefusal} → IsErrAnd r (λ y. y ≡ x) → SidesChecked T s₁ s₂ r
+  sides_first e {r} gives =
+      let g = err_from_is_err_and r gives in
+      let h = sym i.answer ∙ ap example_tested e in
+      record { answer = rw (g.1, g.2, h) refl }
 
-module _ {T : Tables} {s₁ s₂ : PatternSide} {o : Checked} (i : SideChecked T s₁ o) where
-  pub sides_first : {x : ExampleAnswer} → o ≡ Checked.Refused x → SidesChecked T s₁ s₂ (Checked.Refused x)
-  sides_first {x} e = record { answer = go (side_checked T s₁) (sym (ap checked_result e) ∙ i.answer) }
-    where
-      go : (t : Tested) → some (example_result x) ≡ tested_result t → some (example_result x) ≡ tested_result (tested_or Refusal.refused t (side_checked T s₂))
-      go Refusal.passed q = absurd (false≢true (cc))
-      go (Refusal.refused r) q = q
+  pub sides_second : {u : Unit} → o ≡ Ok u → {r : Result Unit ExampleRefusal} → SideChecked T s₂ r → SidesChecked T s₁ s₂ r
+  sides_second e j = let h = sym i.answer ∙ ap example_tested e in record { answer = rw h j.answer }
 
-  pub sides_second : o ≡ Checked.Passed → {r : Checked} → SideChecked T s₂ r → SidesChecked T s₁ s₂ r
-  sides_second e {r} j = record { answer = go (side_checked T s₁) (sym (ap checked_result e) ∙ i.answer) }
-    where
-      go : (t : Tested) → none ≡ tested_result t → checked_result r ≡ tested_result (tested_or Refusal.refused t (side_checked T s₂))
-      go Refusal.passed q = j.answer
-      go (Refusal.refused x) q = absurd (false≢true (cc))
-
-module _ {T : Tables} {s₁ s₂ : PatternSide} {c : Checked} (i : SidesChecked T s₁ s₂ c) where
-  pub common_refused : {x : ExampleAnswer} → c ≡ Checked.Refused x → {out kids out' kids' : List ℕ} → out' ≡ replicate (length out) 0 → kids' ≡ replicate (length kids) 0
-      → Gives T (example_outcome T s₁ s₂) out kids out' kids' x
+module _ {T : Tables} {s₁ s₂ : PatternSide} {c : Result Unit ExampleRefusal} (i : SidesChecked T s₁ s₂ c) where
+  pub common_refused : {x : ExampleRefusal} → c ≡ Err x → {out kids out' kids' : List ℕ} → out' ≡ replicate (length out) 0 → kids' ≡ replicate (length kids) 0
+      → Gives T (example_outcome T s₁ s₂) out kids out' kids' (Err x)
   unfolding example_outcome example_answer nodes_after children_after
-  common_refused {x} e {out} {kids} {out'} {kids'} f g = go (side_checked T s₁) (side_checked T s₂) (sym (ap checked_result e) ∙ i.answer)
+  common_refused {x} e {out} {kids} {out'} {kids'} f g = go (side_checked T s₁) (side_checked T s₂) (sym (ap example_tested e) ∙ i.answer)
     where
-      go : (t u : Tested) → some (example_result x) ≡ tested_result (tested_or Refusal.refused t u)
-          → Gives T (tested_or refused t (tested_or refused u (example_from T s₁ s₂))) out kids out' kids' x
+      go : (t u : Tested) → Refusal.refused (example_refused x) ≡ tested_or Refusal.refused t u
+          → Gives T (tested_or refused t (tested_or refused u (example_from T s₁ s₂))) out kids out' kids' (Err x)
       go Refusal.passed Refusal.passed q = absurd (false≢true (cc))
-      go Refusal.passed (Refusal.refused r) q = let z : example_result x ≡ turned_back_lem r = cc in record { answer = z; nodes_are = f; children_are = g }
-      go (Refusal.refused r) u q = let z : example_result x ≡ turned_back_lem r = cc in record { answer = z; nodes_are = f; children_are = g }
+      go Refusal.passed (Refusal.refused r) q = let z : example_refused x ≡ r = cc in record { answer = ap turned_back_lem z; nodes_are = f; children_are = g }
+      go (Refusal.refused r) u q = let z : example_refused x ≡ r = cc in record { answer = ap turned_back_lem z; nodes_are = f; children_are = g }
 
-  pub passed_asks : c ≡ Checked.Passed → PassedAsks T s₁ s₂
-  passed_asks e = go (side_checked T s₁) refl (side_checked T s₂) refl (sym (ap checked_result e) ∙ i.answer)
+  pub passed_asks : {v : Unit} → c ≡ Ok v → PassedAsks T s₁ s₂
+  passed_asks e = go (side_checked T s₁) refl (side_checked T s₂) refl (sym (ap example_tested e) ∙ i.answer)
     where
-      go : (t : Tested) → side_checked T s₁ ≡ t → (u : Tested) → side_checked T s₂ ≡ u → none ≡ tested_result (tested_or Refusal.refused (side_checked T s₁) (side_checked T s₂)) → PassedAsks T s₁ s₂
+      go : (t : Tested) → side_checked T s₁ ≡ t → (u : Tested) → side_checked T s₂ ≡ u → Refusal.passed ≡ tested_or Refusal.refused (side_checked T s₁) (side_checked T s₂) → PassedAsks T s₁ s₂
       go Refusal.passed p Refusal.passed r q = record { first = p; second = r }
-      go Refusal.passed p (Refusal.refused x) r q = let z : none ≡ some (turned_back_lem x) = rw (p, r) at q in absurd (false≢true (cc))
-      go (Refusal.refused x) p u r q = let z : none ≡ some (turned_back_lem x) = rw p at q in absurd (false≢true (cc))
+      go Refusal.passed p (Refusal.refused x) r q = let z : Refusal.passed ≡ Refusal.refused x = rw (p, r) at q in absurd (false≢true (cc))
+      go (Refusal.refused x) p u r q = let z : Refusal.passed ≡ Refusal.refused x = rw p at q in absurd (false≢true (cc))
 
-  pub common_passed : c ≡ Checked.Passed → {out kids out' kids' : List ℕ} {r : ExampleAnswer}
+  pub common_passed : {v : Unit} → c ≡ Ok v → {out kids out' kids' : List ℕ} {r : Result (Option Example) ExampleRefusal}
       → Gives T (example_from T s₁ s₂) out kids out' kids' r → Gives T (example_outcome T s₁ s₂) out kids out' kids' r
   unfolding example_outcome
   common_passed e w = let a = passed_asks e in let f = a.first in let g = a.second in rw (f, g) w
@@ -142,7 +118,7 @@ module _ {T : Tables} {s₁ s₂ : PatternSide} (a : PassedAsks T s₁ s₂) whe
           };
         }
 
-    pub held_ends : {out kids out' kids' : List ℕ} {r : ExampleAnswer} → GivesHeld T l₁ l₂ s₁.pattern s₂.pattern out kids out' kids' r
+    pub held_ends : {out kids out' kids' : List ℕ} {r : Result (Option Example) ExampleRefusal} → GivesHeld T l₁ l₂ s₁.pattern s₂.pattern out kids out' kids' r
         → Gives T (example_from T s₁ s₂) out kids out' kids' r
     held_ends g = g.is s₁ s₂ (start_holds T s₁ st₁) (start_holds T s₂ st₂)
 
@@ -168,7 +144,7 @@ module _ {T : Tables} {held₁ held₂ : List ℕ} {root₁ root₂ : ℕ} (a : 
     }
 
   pub no_classes : {u : Bool} → Unifies T held₁ held₂ root₁ root₂ heads links classes u → not u ≡ true → {out kids out' kids' : List ℕ} → out' ≡ replicate (length out) 0 → kids' ≡ replicate (length kids) 0
-      → GivesHeld T held₁ held₂ root₁ root₂ out kids out' kids' Answer.NoValue
+      → GivesHeld T held₁ held₂ root₁ root₂ out kids out' kids' (Ok None)
   unfolding example_answer nodes_after children_after
   no_classes {u = true} i n f g = absurd (false≢true n)
   no_classes {u = false} i n f g = record {
@@ -177,7 +153,7 @@ module _ {T : Tables} {held₁ held₂ : List ℕ} {root₁ root₂ : ℕ} (a : 
         rw (← e) (record { answer = refl; nodes_are = f; children_are = g });
   }
 
-  pub joined_ends : {u : Bool} → Unifies T held₁ held₂ root₁ root₂ heads links classes u → not u ≡ false → {out kids out' kids' : List ℕ} {r : ExampleAnswer}
+  pub joined_ends : {u : Bool} → Unifies T held₁ held₂ root₁ root₂ heads links classes u → not u ≡ false → {out kids out' kids' : List ℕ} {r : Result (Option Example) ExampleRefusal}
       → WritesJoined T held₁ root₁ heads links classes out kids out' kids' r → GivesHeld T held₁ held₂ root₁ root₂ out kids out' kids' r
   joined_ends {u = false} i n w = absurd (false≢true (sym n))
   joined_ends {u = true} i n w = record {
@@ -202,10 +178,6 @@ module _ {T : Tables} {held : List ℕ} {root : ℕ} {heads links classes : List
       copied = a.copied;
     }
 
-    pub written_ends : {out kids out' kids' : List ℕ} {g : Given} → ExampleIs T.nodes heads links classes place (length T.children) out kids out' kids' g → {r : ExampleAnswer} → example_result r ≡ given_result g
+    pub written_ends : {out kids out' kids' : List ℕ} {r : Result (Option Example) ExampleRefusal} → ExampleIs T.nodes heads links classes place (length T.children) out kids out' kids' r
         → WritesJoined T held root heads links classes out kids out' kids' r
-    written_ends i e = record {
-      is = λ literal_of c.
-          let w = i.is T literal_of refl refl c in
-          rw (← x) (record { answer = e ∙ w.answer; nodes_are = w.nodes_are; children_are = w.children_are });
-    }
+    written_ends i = record { is = λ literal_of c. rw (← x) (i.is T literal_of refl refl c) }

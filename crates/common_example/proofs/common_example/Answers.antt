@@ -2,8 +2,8 @@ use Rattle.common_example.proofs.arrays.Common.{common_refused, passed_asks, com
 use borrow.Author.Rules.{rules}
 use Rattle.common_example.proofs.common_example.Goals as goal
 
-pub returns-in-Refused : goal.returns-in-Refused
-returns-in-Refused c = search (common_refused, rules)
+pub returns-in-Err : goal.returns-in-Err
+returns-in-Err c = search (common_refused, rules)
 
 pub example_of-requires : goal.example_of-requires
 example_of-requires c = passed_asks c.check_sides-checked.ensures (search rules)

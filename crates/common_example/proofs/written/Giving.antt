@@ -14,9 +14,10 @@ use lib.Seq.{sets, sets-eq}
 use Rattle.literal.specs.Literal.{Literal}
 use Rattle.table.specs.Tables.{Tables, node_count}
 use Rattle.common_example.specs.declared.deciding.Verdict.{Verdict}
-use Rattle.common_example.specs.declared.deciding.Verdict.TheVariants as Verdict
-use Rattle.common_example.specs.declared.example.Given.{Given}
-use Rattle.common_example.specs.declared.example.Given.TheVariants as Given
+use Rattle.common_example.specs.declared.example.Example.{Example}
+use Rattle.common_example.specs.declared.example.ExampleRefusal.TheVariants as No
+use Rattle.std.proofs.Common.{Ok, Err, Some, None}
+use Rattle.common_example.specs.Common.{Gives}
 use Rattle.common_example.specs.Overlap.{Template, example, size, depthᵛ}
 use Rattle.common_example.specs.Operations.{child_entries, node_words, child_words_lem, fits_in, example_of, example_answer, nodes_after, children_after, both, found}
 use Rattle.common_example.specs.code.Graph.{head_at}
@@ -24,7 +25,7 @@ use Rattle.common_example.specs.code.Classes.{class_in}
 use Rattle.common_example.specs.code.Sizes.{SettleAsks, Settled}
 use Rattle.common_example.specs.code.Writing.{Copied, PlaceAsks, PlaceWritten, place_nodes, place_children}
 use Rattle.common_example.specs.code.Deciding.{verdict, built_of, DecideAsks, Decided, DecidedIn}
-use Rattle.common_example.specs.code.Example.{given_result, ExampleAsks, FoundAsks, FoundIs, GivenIs, ExampleIs}
+use Rattle.common_example.specs.code.Example.{ExampleAsks, FoundAsks, FoundIs, ExampleIs}
 use Rattle.common_example.proofs.unify.Depths.{built_fewer}
 use Rattle.common_example.proofs.written.Sizes.{entries_size}
 use Rattle.common_example.proofs.written.ReadBack.{words_length, entries_length}
@@ -121,11 +122,11 @@ module _ {nodes heads links classes sizes : List ℕ} {p entries : ℕ} {out kid
     found_node = let h = f.settled.ok.few p in let k = f.asks.few in record { fits = omega (arith, h, k, is) }
 
     pub found_written : {out' kids' : List ℕ} → PlaceWritten nodes heads links classes sizes p 32 (length nodes / 5) entries 0 0 out kids out' kids'
-        → FoundIs nodes heads links classes p entries out kids out' kids' (Given.Found (length nodes / 5 + size') size' (size' - 1))
+        → FoundIs nodes heads links classes p entries out kids out' kids' (record { node = length nodes / 5 + size'; nodes = size'; children = size' - 1 })
     found_written {out'} {kids'} w = record { is = λ T literal_of same copied t e small. go T literal_of same copied t e small }
       where
         go : (T : Tables) (literal_of : ℕ → Literal) → T.nodes ≡ nodes → Copied T literal_of heads links → (t : Template ℕ) → built_of literal_of heads links classes 32 p ≡ some t → size (example t) ≤ 512
-            → (given_result (Given.Found (length nodes / 5 + size') size' (size' - 1)) ≡ found (length nodes / 5 + size (example t)) (size (example t)) (size (example t) - 1))
+            → (found (length nodes / 5 + size') size' (size' - 1) ≡ found (length nodes / 5 + size (example t)) (size (example t)) (size (example t) - 1))
             × (out' ≡ sets out 0 (node_words T (example t) entries)) × (kids' ≡ sets kids 0 (child_words_lem (example t) (length nodes / 5)))
         go T literal_of same copied t e small =
             let s = stand T literal_of heads links classes sizes f.asks.linked f.asks.ok copied 32 f.settled.sizes 32 p t (omega arith) f.asks.inside e small in
@@ -157,13 +158,13 @@ module _ {nodes heads links classes : List ℕ} {p entries : ℕ} (a : ExampleAs
     kids_long = let l : length (zeros (length kids)) ≡ length kids = length-replicate {A = ℕ} (length kids) 0 in sym (ap (λ (x : List ℕ). length x) k ∙ l)
 
     module _ {v : Verdict} (d : Decided heads links classes p (length out₁) (length kids₁) v) where
-      pub example_found : v ≡ Verdict.Fits → {out₂ kids₂ : List ℕ} {r : Given} → FoundIs nodes heads links classes p entries out₁ kids₁ out₂ kids₂ r → ExampleIs nodes heads links classes p entries out kids out₂ kids₂ r
+      pub example_found : v ≡ Verdict.Fits → {out₂ kids₂ : List ℕ} {r : Example} → FoundIs nodes heads links classes p entries out₁ kids₁ out₂ kids₂ r → ExampleIs nodes heads links classes p entries out kids out₂ kids₂ (Ok (Some r))
       unfolding example_answer nodes_after children_after
       example_found e {out₂} {kids₂} {r} w = record { is = λ T literal_of same len copied. go T literal_of same len copied }
         where
           given : (T : Tables) (t : Template ℕ) → T.nodes ≡ nodes → length T.children ≡ entries → fits_in (example t) out kids ≡ true
-              → given_result r ≡ found (length nodes / 5 + size (example t)) (size (example t)) (size (example t) - 1) → out₂ ≡ sets out₁ 0 (node_words T (example t) entries) → kids₂ ≡ sets kids₁ 0 (child_words_lem (example t) (length nodes / 5))
-              → GivenIs T (both (example t)) out kids out₂ kids₂ r
+              → found r.node r.nodes r.children ≡ found (length nodes / 5 + size (example t)) (size (example t)) (size (example t) - 1) → out₂ ≡ sets out₁ 0 (node_words T (example t) entries) → kids₂ ≡ sets kids₁ 0 (child_words_lem (example t) (length nodes / 5))
+              → Gives T (both (example t)) out kids out₂ kids₂ (Ok (Some r))
           given T t same len b x y z =
               let g = fitting t out kids b in
               let h₁ = g.nodes in
@@ -175,22 +176,22 @@ module _ {nodes heads links classes : List ℕ} {p entries : ℕ} (a : ExampleAs
                 children_are = rw b (z ∙ (ap₂ (λ (l : List ℕ) (u : List ℕ). sets l 0 (child_words_lem (example t) (length u / 5))) k (sym same) ∙ zeros_behind (length kids) (child_entries (example t)) (child_words_lem (example t) (node_count T)) (entries_length (example t) (node_count T)) g.entries));
               }
 
-          go : (T : Tables) (literal_of : ℕ → Literal) → T.nodes ≡ nodes → length T.children ≡ entries → Copied T literal_of heads links → GivenIs T (example_of (built_of literal_of heads links classes 2048 p)) out kids out₂ kids₂ r
+          go : (T : Tables) (literal_of : ℕ → Literal) → T.nodes ≡ nodes → length T.children ≡ entries → Copied T literal_of heads links → Gives T (example_of (built_of literal_of heads links classes 2048 p)) out kids out₂ kids₂ (Ok (Some r))
           go T literal_of same len copied =
               let (t, o, b) = fits_told (built_of literal_of heads links classes 2048 p) out kids (sym e ∙ d.is literal_of out kids out_long kids_long) in
               let g = fitting t out kids b in
               let (x, y, z) = w.is T literal_of same copied t (built_fewer (head_at literal_of heads links) (class_in classes) 2048 32 p t o g.shallow) g.few in
               rw o (given T t same len b x y z)
 
-      pub example_large : v ≡ Verdict.TooLarge → ExampleIs nodes heads links classes p entries out kids out₁ kids₁ Given.TooLarge
+      pub example_large : v ≡ Verdict.TooLarge → ExampleIs nodes heads links classes p entries out kids out₁ kids₁ (Err No.ValueTooLarge)
       unfolding example_answer nodes_after children_after
       example_large e = record { is = λ T literal_of same len copied. go T (built_of literal_of heads links classes 2048 p) (sym e ∙ d.is literal_of out kids out_long kids_long) }
         where
-          go : (T : Tables) (o : Option (Template ℕ)) → Verdict.TooLarge ≡ verdict o out kids → GivenIs T (example_of o) out kids out₁ kids₁ Given.TooLarge
+          go : (T : Tables) (o : Option (Template ℕ)) → Verdict.TooLarge ≡ verdict o out kids → Gives T (example_of o) out kids out₁ kids₁ (Err No.ValueTooLarge)
           go T none q = absurd (false≢true (cc))
           go T (some t) q = let b = large_told t out kids q in record { answer = rw b refl; nodes_are = rw b n; children_are = rw b k }
 
-      pub example_none : v ≡ Verdict.NoValue → ExampleIs nodes heads links classes p entries out kids out₁ kids₁ Given.NoValue
+      pub example_none : v ≡ Verdict.NoValue → ExampleIs nodes heads links classes p entries out kids out₁ kids₁ (Ok None)
       unfolding example_answer nodes_after children_after
       example_none e = record { is = λ T literal_of same len copied. go T (built_of literal_of heads links classes 2048 p) (sym e ∙ d.is literal_of out kids out_long kids_long) }
         where
@@ -198,6 +199,6 @@ module _ {nodes heads links classes : List ℕ} {p entries : ℕ} (a : ExampleAs
           differ true q = false≢true (cc)
           differ false q = false≢true (cc)
 
-          go : (T : Tables) (o : Option (Template ℕ)) → Verdict.NoValue ≡ verdict o out kids → GivenIs T (example_of o) out kids out₁ kids₁ Given.NoValue
+          go : (T : Tables) (o : Option (Template ℕ)) → Verdict.NoValue ≡ verdict o out kids → Gives T (example_of o) out kids out₁ kids₁ (Ok None)
           go T none q = record { answer = refl; nodes_are = n; children_are = k }
           go T (some t) q = absurd (differ (fits_in (example t) out kids) q)

@@ -1,26 +1,21 @@
 -- The value of a class as the example.
-use Rattle.std.specs.Prelude.{ℕ, ◌+◌, ◌-◌, ◌/◌, ◌≤◌, ◌<◌, List, ◌≡◌, length}
+use Rattle.std.specs.Prelude.{ℕ, ◌+◌, ◌-◌, ◌/◌, ◌≤◌, ◌<◌, List, ◌≡◌, length, Option, Result}
 use Rattle.std.proofs.Math.Option.{some}
 use Rattle.std.proofs.lemmas.List.Edits.{sets}
 use Rattle.base.specs.Lent.{Slices, MutSlices, old, new}
-use Rattle.base.specs.Refusal.{value_too_large}
 use Rattle.literal.specs.Literal.{Literal}
 use Rattle.table.specs.Tables.{Tables}
 use Rattle.common_example.specs.declared.deciding.Verdict.TheVariants.{Fits}
-use Rattle.common_example.specs.declared.example.Given.{Given}
-use Rattle.common_example.specs.declared.example.Given.TheVariants as Given
+use Rattle.common_example.specs.declared.example.Example.{Example}
+use Rattle.common_example.specs.declared.example.ExampleRefusal.{ExampleRefusal}
 use Rattle.common_example.specs.Overlap.{Template, example, size}
-use Rattle.common_example.specs.Operations.{node_words, child_words_lem, ExampleOutcome, example_of, ExampleResult, turned_back_lem, no_example, found, example_answer, nodes_after, children_after}
+use Rattle.common_example.specs.Operations.{node_words, child_words_lem, example_of, found}
+use Rattle.common_example.specs.Common.{Gives}
 use Rattle.common_example.specs.code.Graph.{Linked}
 use Rattle.common_example.specs.code.Classes.{ClassesOk}
 use Rattle.common_example.specs.code.Sizes.{Settled}
 use Rattle.common_example.specs.code.Writing.{Copied}
 use Rattle.common_example.specs.code.Deciding.{built_of, Decided}
-
-abbrev pub given_result : Given → ExampleResult
-given_result (Given.Found node nodes children) = found node nodes children
-given_result Given.TooLarge = turned_back_lem value_too_large
-given_result Given.NoValue = no_example
 
 -- the arrays are of some tables with these nodes
 pub record ExampleAsks (nodes heads links classes : List ℕ) (p entries : ℕ) : Type 0 where
@@ -40,23 +35,18 @@ pub record FoundAsks (nodes heads links classes sizes : List ℕ) (p entries : �
   pub fits : Decided heads links classes p (length out) (length kids) Fits
 
 -- of any such tables
-pub record FoundIs (nodes heads links classes : List ℕ) (p entries : ℕ) (out kids out' kids' : List ℕ) (r : Given) : Type 0 where
+pub record FoundIs (nodes heads links classes : List ℕ) (p entries : ℕ) (out kids out' kids' : List ℕ) (r : Example) : Type 0 where
   pub is : (T : Tables) (literal_of : ℕ → Literal) → T.nodes ≡ nodes → Copied T literal_of heads links → (t : Template ℕ) → built_of literal_of heads links classes 32 p ≡ some t
       → size (example t) ≤ 512
-      → (given_result r ≡ found (length nodes / 5 + size (example t)) (size (example t)) (size (example t) - 1))
+      → (found r.node r.nodes r.children ≡ found (length nodes / 5 + size (example t)) (size (example t)) (size (example t) - 1))
       × (out' ≡ sets out 0 (node_words T (example t) entries)) × (kids' ≡ sets kids 0 (child_words_lem (example t) (length nodes / 5)))
 
-abbrev pub FoundWritten : Slices → Slices → Slices → Slices → ℕ → ℕ → MutSlices → MutSlices → Given → Type 0
+abbrev pub FoundWritten : Slices → Slices → Slices → Slices → ℕ → ℕ → MutSlices → MutSlices → Example → Type 0
 FoundWritten nodes heads links classes p entries out kids r = FoundIs nodes.entry.now heads.entry.now links.entry.now classes.entry.now p entries (old out) (old kids) (new out) (new kids) r
 
-pub record GivenIs (T : Tables) (o : ExampleOutcome) (out kids out' kids' : List ℕ) (r : Given) : Type 0 where
-  pub answer : given_result r ≡ example_answer T o out kids
-  pub nodes_are : out' ≡ nodes_after T o out kids
-  pub children_are : kids' ≡ children_after T o out kids
-
-pub record ExampleIs (nodes heads links classes : List ℕ) (p entries : ℕ) (out kids out' kids' : List ℕ) (r : Given) : Type 0 where
+pub record ExampleIs (nodes heads links classes : List ℕ) (p entries : ℕ) (out kids out' kids' : List ℕ) (r : Result (Option Example) ExampleRefusal) : Type 0 where
   pub is : (T : Tables) (literal_of : ℕ → Literal) → T.nodes ≡ nodes → length T.children ≡ entries → Copied T literal_of heads links
-      → GivenIs T (example_of (built_of literal_of heads links classes 2048 p)) out kids out' kids' r
+      → Gives T (example_of (built_of literal_of heads links classes 2048 p)) out kids out' kids' r
 
-abbrev pub ExampleWritten : Slices → Slices → Slices → Slices → ℕ → ℕ → MutSlices → MutSlices → Given → Type 0
+abbrev pub ExampleWritten : Slices → Slices → Slices → Slices → ℕ → ℕ → MutSlices → MutSlices → Result (Option Example) ExampleRefusal → Type 0
 ExampleWritten nodes heads links classes p entries out kids r = ExampleIs nodes.entry.now heads.entry.now links.entry.now classes.entry.now p entries (old out) (old kids) (new out) (new kids) r

@@ -2,17 +2,17 @@ use Rattle.first_miss.proofs.Answered.{miss_refused, ask_start, ask_walk, miss_m
 use borrow.Author.Rules.{rules}
 use Rattle.first_miss.proofs.first_miss.Goals as goal
 
-pub returns-in-Refused : goal.returns-in-Refused
-returns-in-Refused c = search (miss_refused, rules)
+pub returns-in_err-check_run : goal.returns-in_err-check_run
+returns-in_err-check_run c = search (miss_refused, rules)
 
 pub start_list-list-requires : goal.start_list-list-requires
-start_list-list-requires c = ask_start c.check_run-checked.ensures c.in_default.is
+start_list-list-requires c = ask_start c.check_run.ensures c.in_ok-check_run.was
 
-pub walk-walked-requires : goal.walk-walked-requires
-walk-walked-requires c = search (ask_walk, rules)
+pub walk-requires : goal.walk-requires
+walk-requires c = ask_walk c.check_run.ensures c.in_ok-check_run.was c.start_list-list.ensures
 
-pub returns-in-Matched : goal.returns-in-Matched
-returns-in-Matched c = search (miss_matched, rules)
+pub returns-in-Ok : goal.returns-in-Ok
+returns-in-Ok c = miss_matched c.check_run.ensures c.in_ok-check_run.was c.start_list-list.ensures c.walk.ensures c.in-Ok.is
 
-pub returns-in-Missed : goal.returns-in-Missed
-returns-in-Missed c = search (miss_missed, rules)
+pub returns-in-Err : goal.returns-in-Err
+returns-in-Err c = miss_missed c.check_run.ensures c.in_ok-check_run.was c.start_list-list.ensures c.walk.ensures c.in-Err.is

@@ -11,8 +11,7 @@ use lib.ListN.{get_or, set as set_at}
 use Rattle.literal.specs.Literal.{Literal}
 use Rattle.table.specs.Tables.{Tables, kind_of, first_word_of, count_of}
 use Rattle.table.specs.Decode.{expr, items, is_wildcard, named_by, fields_of}
-use Rattle.table.specs.Expr as Expr
-use Rattle.table.specs.Expr.{Expr, literal, array, object, other}
+use Rattle.table.specs.Expr.{Expr, literal, array, object}
 use Rattle.table.proofs.trees.Trees.{expr_literal, expr_array, expr_object, expr_name}
 use Rattle.planner.specs.Layout.{Slot}
 use Rattle.planner.specs.Simple.{admitted}
@@ -31,8 +30,7 @@ use Rattle.matching.proofs.Patterns.{PatternShape, pattern_literal, pattern_wild
 use Rattle.matching.proofs.Lists.{env_at, env_set, set_ok}
 use Rattle.first_miss.specs.declared.Miss.{Miss}
 use Rattle.first_miss.specs.declared.Why.TheVariants.{NameDiffers, LiteralDiffers, NoArray, OtherLength, NoObject, KeyMissing, KeyTooMany}
-use Rattle.first_miss.specs.declared.walking.Walked.{Walked}
-use Rattle.first_miss.specs.declared.walking.Walked.TheVariants.{Matched, Missed}
+use Rattle.std.proofs.Common.{Result, Ok, Err}
 use Rattle.first_miss.specs.Miss.{MissOutcome, matched, missed, miss_at, or_miss, missing_key, other_key, keys_first}
 use Rattle.first_miss.specs.Operations.{key_at}
 use Rattle.first_miss.specs.code.Walk.{naming, even, slots_of, walk}
@@ -69,11 +67,11 @@ ask_same {T} {a} asks =
     record { table = asks.pair.table; left = record { node = asks.pair.node; value = ap (admitted false) t }; right = asks.pair.value_ok }
 
 module _ (T : Tables) (a b : ℕ) {equal : Bool} (is : equal ≡ same (value_of (expr T a)) (value_of (expr T b))) where
-  pub literal_same : equal ≡ true → Matched ≡ literal_walked T a b
-  literal_same t = sym (ap (λ (c : Bool). cond c Matched (missed_by LiteralDiffers b a)) (sym is ∙ t))
+  pub literal_same : equal ≡ true → (Ok tt) ≡ literal_walked T a b
+  literal_same t = sym (ap (λ (c : Bool). cond c (Ok tt) (missed_by LiteralDiffers b a)) (sym is ∙ t))
 
   pub literal_differs : equal ≡ false → missed_by LiteralDiffers b a ≡ literal_walked T a b
-  literal_differs t = sym (ap (λ (c : Bool). cond c Matched (missed_by LiteralDiffers b a)) (sym is ∙ t))
+  literal_differs t = sym (ap (λ (c : Bool). cond c (Ok tt) (missed_by LiteralDiffers b a)) (sym is ∙ t))
 
 -- 2. Arrays, by the nodes alone
 module _ (nodes : List ℕ) (a b : ℕ) {kind : ℕ} (is : kind ≡ kind_of nodes b) where
@@ -84,7 +82,7 @@ module _ (nodes : List ℕ) (a b : ℕ) {kind : ℕ} (is : kind ≡ kind_of node
     pub other_length : (count ≡ size → ⊥) → missed_by OtherLength b a ≡ array_walked nodes a b
     other_length n = let e = eq-eqb (kind_of nodes b) 7 (sym is ∙ seven) in let f = ne_eqb (count_of nodes b) (count_of nodes a) (λ k. n (is_count ∙ (k ∙ sym is_size))) in rw (e, f)
 
-    pub arrays_alike : count ≡ size → Matched ≡ array_walked nodes a b
+    pub arrays_alike : count ≡ size → (Ok tt) ≡ array_walked nodes a b
     arrays_alike q = let e = eq-eqb (kind_of nodes b) 7 (sym is ∙ seven) in let f = eq-eqb (count_of nodes b) (count_of nodes a) (sym is_count ∙ (q ∙ is_size)) in rw (e, f)
 
 -- 3. Objects
@@ -99,7 +97,7 @@ module _ {T : Tables} {a b : ℕ} (asks : ObjectAsks T a b) {kind : ℕ} (is : k
     pub ask_back : KeySetsAsks T b a
     ask_back = record { left = right_keyed asks.pair (sym is ∙ nine); right = left_keyed asks.pair asks.object }
 
-    by_keys : (r : Walked) → r ≡ keys_walked T a b (missing_key (keys_at T b) (slots_of (fields_of T a))) (other_key (keys_at T a) 0 (keys_at T b)) → ObjectTold T a b r
+    by_keys : (r : Result Unit Miss) → r ≡ keys_walked T a b (missing_key (keys_at T b) (slots_of (fields_of T a))) (other_key (keys_at T a) 0 (keys_at T b)) → ObjectTold T a b r
     by_keys r q = let e = eq-eqb (kind_of T.nodes b) 9 (sym is ∙ nine) in record { is = rw e q }
 
     module _ {missing : ℕ} (told : MissingTold T a b missing) where
@@ -115,7 +113,7 @@ module _ {T : Tables} {a b : ℕ} (asks : ObjectAsks T a b) {kind : ℕ} (is : k
         no_missing : none ≡ missing_key (keys_at T b) (slots_of (fields_of T a))
         no_missing = let z = eq-eqb missing 0 none-missing-there in rw z at told.is
 
-        by_other : (r : Walked) (o : Option ℕ) → other_key (keys_at T a) 0 (keys_at T b) ≡ o → r ≡ keys_walked T a b none o → ObjectTold T a b r
+        by_other : (r : Result Unit Miss) (o : Option ℕ) → other_key (keys_at T a) 0 (keys_at T b) ≡ o → r ≡ keys_walked T a b none o → ObjectTold T a b r
         by_other r o e q = by_keys r (q ∙ ap₂ (keys_walked T a b) no_missing (sym e))
 
         pub object_other : (other ≡ 0 → ⊥) → ObjectTold T a b (missed_by KeyTooMany other a)
@@ -125,16 +123,16 @@ module _ {T : Tables} {a b : ℕ} (asks : ObjectAsks T a b) {kind : ℕ} (is : k
             go none e = absurd (nz (of.is ∙ ap (place_at T b) e))
             go (some i) e = by_other (missed_by KeyTooMany other a) (some i) e (ap (λ (n : ℕ). missed_by KeyTooMany n a) (of.is ∙ ap (place_at T b) e))
 
-        pub objects_alike : other ≡ 0 → ObjectTold T a b Matched
+        pub objects_alike : other ≡ 0 → ObjectTold T a b (Ok tt)
         objects_alike z = go (other_key (keys_at T a) 0 (keys_at T b)) refl
           where
-            go : (o : Option ℕ) → other_key (keys_at T a) 0 (keys_at T b) ≡ o → ObjectTold T a b Matched
-            go none e = by_other Matched none e refl
+            go : (o : Option ℕ) → other_key (keys_at T a) 0 (keys_at T b) ≡ o → ObjectTold T a b (Ok tt)
+            go none e = by_other (Ok tt) none e refl
             go (some i) e = absurd (of.some_key i e z)
 
 -- 4. A name
 module _ {T : Tables} {list : List ℕ} (list_ok : ListOk T list) where
-  came : {o : MissOutcome} {r : Walked} → o ≡ outcome_in T list r → Came T o list r
+  came : {o : MissOutcome} {r : Result Unit Miss} → o ≡ outcome_in T list r → Came T o list r
   came e = record { is = e; list_ok = list_ok }
 
 module _ {T : Tables} {a b : ℕ} {list : List ℕ} (asks : NameAsks T a b list) {x : ℕ} (is_name : x ≡ first_word_of T.nodes a) where
@@ -158,7 +156,7 @@ module _ {T : Tables} {a b : ℕ} {list : List ℕ} (asks : NameAsks T a b list)
   named_as : expr T a ≡ named_by (is_wildcard T x) a x
   named_as = expr_name T pair_of.table a pair_of.node asks.named ∙ ap (λ (y : ℕ). named_by (is_wildcard T y) a y) (sym is_name)
 
-  pub wild_met : {w : Bool} → w ≡ is_wildcard T x → w ≡ true → Came T (walk_nodes T a b (env_of T list)) list Matched
+  pub wild_met : {w : Bool} → w ≡ is_wildcard T x → w ≡ true → Came T (walk_nodes T a b (env_of T list)) list (Ok tt)
   unfolding walk
   wild_met e t = came asks.asks.list_ok (ap (λ (y : Expr). walk (key_at T) y (value_of (expr T b)) (env_of T list)) (named_as ∙ ap (λ (c : Bool). named_by c a x) (sym e ∙ t)))
 
@@ -170,7 +168,7 @@ module _ {T : Tables} {a b : ℕ} {list : List ℕ} (asks : NameAsks T a b list)
         ap (λ (y : Expr). walk (key_at T) y (value_of (expr T b)) (env_of T list)) (named_as ∙ ap (λ (c : Bool). named_by c a x) (sym e ∙ f))
         ∙ ap (naming a x (value_of (expr T b)) (env_of T list)) (env_at T x low list)
 
-    pub name_set : get_or list (x - 1) 0 ≡ 0 → Came T (walk_nodes T a b (env_of T list)) (set_at list (x - 1) b) Matched
+    pub name_set : get_or list (x - 1) 0 ≡ 0 → Came T (walk_nodes T a b (env_of T list)) (set_at list (x - 1) b) (Ok tt)
     name_set z =
         let n = name_number in
         came (set_ok T x n.low list n.high b asks.asks.list_ok pair_of.value_ok)
@@ -190,7 +188,7 @@ module _ {T : Tables} {a b : ℕ} {list : List ℕ} (asks : NameAsks T a b list)
             ∙ (ap (naming a x (value_of (expr T b)) (env_of T list)) there
             ∙ ap₂ (λ (c : Bool) (n : ℕ). or_miss c (miss_at NameDiffers n a) (matched (env_of T list))) (sym is) (right_node pair_of))
 
-        pub name_same : equal ≡ true → Came T (walk_nodes T a b (env_of T list)) list Matched
+        pub name_same : equal ≡ true → Came T (walk_nodes T a b (env_of T list)) list (Ok tt)
         name_same t = came asks.asks.list_ok (held_walk ∙ ap (λ (c : Bool). or_miss c (miss_at NameDiffers b a) (matched (env_of T list))) t)
 
         pub name_differs : equal ≡ false → Came T (walk_nodes T a b (env_of T list)) list (missed_by NameDiffers b a)
@@ -255,17 +253,17 @@ module _ {T : Tables} {a b : ℕ} {list : List ℕ} (asks : WalkAsks T a b list)
   pub ask_literal : kind ≤ 5 → LiteralAsks T a b
   ask_literal low = record { pair = asks.pair; literal = rw (← is-kind) low }
 
-  pub came_literal : kind ≤ 5 → {r : Walked} → r ≡ literal_walked T a b → Came T (walk_nodes T a b (env_of T list)) list r
+  pub came_literal : kind ≤ 5 → {r : Result Unit Miss} → r ≡ literal_walked T a b → Came T (walk_nodes T a b (env_of T list)) list r
   unfolding walk value_of
   came_literal low {r} e =
       let (l, t) = literal_of_lem (ask_literal low) in
-      let q : literal_walked T a b ≡ cond (same (value_of (literal a l)) (value_of (expr T b))) Matched (missed_by LiteralDiffers b a) = ap (λ (x : Expr). cond (same (value_of x) (value_of (expr T b))) Matched (missed_by LiteralDiffers b a)) t in
+      let q : literal_walked T a b ≡ cond (same (value_of (literal a l)) (value_of (expr T b))) (Ok tt) (missed_by LiteralDiffers b a) = ap (λ (x : Expr). cond (same (value_of x) (value_of (expr T b))) (Ok tt) (missed_by LiteralDiffers b a)) t in
       came asks.list_ok
       (ap (λ (x : Expr). walk (key_at T) x (value_of (expr T b)) (env_of T list)) t
       ∙ (ap (λ (n : ℕ). or_miss (same (value_of (literal a l)) (value_of (expr T b))) (miss_at LiteralDiffers n a) (matched (env_of T list))) (right_node asks.pair)
       ∙ (go (same (value_of (literal a l)) (value_of (expr T b))) ∙ ap (outcome_in T list) (sym (e ∙ q)))))
     where
-      go : (c : Bool) → or_miss c (miss_at LiteralDiffers b a) (matched (env_of T list)) ≡ outcome_in T list (cond c Matched (missed_by LiteralDiffers b a))
+      go : (c : Bool) → or_miss c (miss_at LiteralDiffers b a) (matched (env_of T list)) ≡ outcome_in T list (cond c (Ok tt) (missed_by LiteralDiffers b a))
       go true = refl
       go false = refl
 
@@ -286,20 +284,20 @@ module _ {T : Tables} {a b : ℕ} {list : List ℕ} (asks : WalkAsks T a b list)
       go e (pattern_array h) = absurd (not_array (is-kind ∙ h))
       go e (pattern_object h) = h
 
-  module _ (seven : kind ≡ 7) {head : Walked} (told : head ≡ array_walked T.nodes a b) where
-    pub array_misses : {m : Miss} → head ≡ Missed m → Came T (walk_nodes T a b (env_of T list)) list (Missed m)
+  module _ (seven : kind ≡ 7) {head : Result Unit Miss} (told : head ≡ array_walked T.nodes a b) where
+    pub array_misses : {m : Miss} → head ≡ Err m → Came T (walk_nodes T a b (env_of T list)) list (Err m)
     array_misses {m} e = came asks.list_ok (array_outcome asks.pair (env_of T list) (left_array seven) ∙ go (eqb (kind_of T.nodes b) 7) (eqb (count_of T.nodes b) (count_of T.nodes a)) (sym told ∙ e))
       where
-        go : (c d : Bool) → cond c (cond d Matched (missed_by OtherLength b a)) (missed_by NoArray b a) ≡ Missed m → cond c (cond d (walk_listed T a b (env_of T list)) (miss_at OtherLength b a)) (miss_at NoArray b a) ≡ missed m
+        go : (c d : Bool) → cond c (cond d (Ok tt) (missed_by OtherLength b a)) (missed_by NoArray b a) ≡ Err m → cond c (cond d (walk_listed T a b (env_of T list)) (miss_at OtherLength b a)) (miss_at NoArray b a) ≡ missed m
         go true true q = absurd (false≢true (cc))
         go true false q = cc
         go false d q = cc
 
-    module _ (alike : head ≡ Matched) where
+    module _ (alike : head ≡ Ok tt) where
       both_arrays : (eqb (kind_of T.nodes b) 7 ≡ true) × (eqb (count_of T.nodes b) (count_of T.nodes a) ≡ true)
       both_arrays = go (eqb (kind_of T.nodes b) 7) (eqb (count_of T.nodes b) (count_of T.nodes a)) (sym told ∙ alike)
         where
-          go : (c d : Bool) → cond c (cond d Matched (missed_by OtherLength b a)) (missed_by NoArray b a) ≡ Matched → (c ≡ true) × (d ≡ true)
+          go : (c d : Bool) → cond c (cond d (Ok tt) (missed_by OtherLength b a)) (missed_by NoArray b a) ≡ Ok tt → (c ≡ true) × (d ≡ true)
           go true true q = (refl, refl)
           go true false q = absurd (false≢true (cc))
           go false d q = absurd (false≢true (cc))
@@ -309,7 +307,7 @@ module _ {T : Tables} {a b : ℕ} {list : List ℕ} (asks : WalkAsks T a b list)
           let (c, d) = both_arrays in
           record { asks = asks; left_array = left_array seven; right_array = eqb-true (kind_of T.nodes b) 7 c; even = eqb-true (count_of T.nodes b) (count_of T.nodes a) d }
 
-      pub came_array : {list' : List ℕ} {r : Walked} → Came T (walk_listed T a b (env_of T list)) list' r → Came T (walk_nodes T a b (env_of T list)) list' r
+      pub came_array : {list' : List ℕ} {r : Result Unit Miss} → Came T (walk_listed T a b (env_of T list)) list' r → Came T (walk_nodes T a b (env_of T list)) list' r
       came_array t =
           let (c, d) = both_arrays in
           let q : walk_nodes T a b (env_of T list) ≡ walk_listed T a b (env_of T list) = array_outcome asks.pair (env_of T list) (left_array seven) ∙ rw (c, d) in
@@ -322,20 +320,20 @@ module _ {T : Tables} {a b : ℕ} {list : List ℕ} (asks : WalkAsks T a b list)
   pub ask_object : ObjectAsks T a b
   ask_object = record { pair = asks.pair; object = nine }
 
-  module _ {head : Walked} (told : ObjectTold T a b head) where
-    pub object_misses : {m : Miss} → head ≡ Missed m → Came T (walk_nodes T a b (env_of T list)) list (Missed m)
+  module _ {head : Result Unit Miss} (told : ObjectTold T a b head) where
+    pub object_misses : {m : Miss} → head ≡ Err m → Came T (walk_nodes T a b (env_of T list)) list (Err m)
     object_misses {m} e =
         came asks.list_ok
         (object_outcome asks.pair (env_of T list) nine
         ∙ go (eqb (kind_of T.nodes b) 9) (missing_key (keys_at T b) (slots_of (fields_of T a))) (other_key (keys_at T a) 0 (keys_at T b)) (sym told.is ∙ e))
       where
-        go : (c : Bool) (x : Option (Slot ℕ)) (y : Option ℕ) → cond c (keys_walked T a b x y) (missed_by NoObject b a) ≡ Missed m → cond c (keys_first (key_at T) a b x y (walk_under T a b (env_of T list))) (miss_at NoObject b a) ≡ missed m
+        go : (c : Bool) (x : Option (Slot ℕ)) (y : Option ℕ) → cond c (keys_walked T a b x y) (missed_by NoObject b a) ≡ Err m → cond c (keys_first (key_at T) a b x y (walk_under T a b (env_of T list))) (miss_at NoObject b a) ≡ missed m
         go true (some k) y q = cc
         go true none (some i) q = cc
         go true none none q = absurd (false≢true (cc))
         go false x y q = cc
 
-    module _ (alike : head ≡ Matched) where
+    module _ (alike : head ≡ Ok tt) where
       pub record BothObjects : Type 0 where
         pub right : eqb (kind_of T.nodes b) 9 ≡ true
         pub missing : missing_key (keys_at T b) (slots_of (fields_of T a)) ≡ none
@@ -345,7 +343,7 @@ module _ {T : Tables} {a b : ℕ} {list : List ℕ} (asks : WalkAsks T a b list)
       both_objects = go (eqb (kind_of T.nodes b) 9) refl (missing_key (keys_at T b) (slots_of (fields_of T a))) refl (other_key (keys_at T a) 0 (keys_at T b)) refl (sym told.is ∙ alike)
         where
           go : (c : Bool) → eqb (kind_of T.nodes b) 9 ≡ c → (x : Option (Slot ℕ)) → missing_key (keys_at T b) (slots_of (fields_of T a)) ≡ x → (y : Option ℕ) → other_key (keys_at T a) 0 (keys_at T b) ≡ y
-              → cond c (keys_walked T a b x y) (missed_by NoObject b a) ≡ Matched → BothObjects
+              → cond c (keys_walked T a b x y) (missed_by NoObject b a) ≡ Ok tt → BothObjects
           go true c (some k) x y z q = absurd (false≢true (cc))
           go true c none x (some i) z q = absurd (false≢true (cc))
           go true c none x none z q = record { right = c; missing = x; others = z }
@@ -370,7 +368,7 @@ module _ {T : Tables} {a b : ℕ} {list : List ℕ} (asks : WalkAsks T a b list)
                 false≢true (sym (found ∙ ap not e) ∙ there);
           }
 
-      pub came_object : {list' : List ℕ} {r : Walked} → Came T (walk_under T a b (env_of T list)) list' r → Came T (walk_nodes T a b (env_of T list)) list' r
+      pub came_object : {list' : List ℕ} {r : Result Unit Miss} → Came T (walk_under T a b (env_of T list)) list' r → Came T (walk_nodes T a b (env_of T list)) list' r
       came_object t =
           let both = both_objects in
           let c = both.right in

@@ -22,8 +22,7 @@ use Rattle.matching.specs.Matching.{Env, under_key}
 use Rattle.matching.specs.code.Post.{env_of, ListOk}
 use Rattle.first_miss.specs.declared.Miss.{Miss}
 use Rattle.first_miss.specs.declared.Why.TheVariants.{KeyMissing}
-use Rattle.first_miss.specs.declared.walking.Walked.{Walked}
-use Rattle.first_miss.specs.declared.walking.Walked.TheVariants.{Matched, Missed}
+use Rattle.std.proofs.Common.{Result, Ok, Err}
 use Rattle.first_miss.specs.Miss.{MissOutcome, missed, miss_at, next, at}
 use Rattle.first_miss.specs.Operations.{key_at}
 use Rattle.first_miss.specs.code.Walk.{walk, walk_items, walk_fields}
@@ -31,10 +30,10 @@ use Rattle.first_miss.specs.code.Post.{PairAsks, WalkAsks, ItemsAsks, FieldsAsks
 use Rattle.first_miss.proofs.nodes.WalkNodes.{left_keyed, right_keyed}
 
 -- what is left, after a part that matches or misses
-came_on : {T : Tables} {o : MissOutcome} {list : List ℕ} {r : Walked} → Came T o list r → r ≡ Matched → (f : Env → MissOutcome) → next o f ≡ f (env_of T list)
+came_on : {T : Tables} {o : MissOutcome} {list : List ℕ} {r : Result Unit Miss} → Came T o list r → r ≡ Ok tt → (f : Env → MissOutcome) → next o f ≡ f (env_of T list)
 came_on {T} {list = list} t e f = let q = t.is ∙ ap (outcome_in T list) e in rw q
 
-came_fails : {T : Tables} {o : MissOutcome} {list : List ℕ} {r : Walked} {m : Miss} → Came T o list r → r ≡ Missed m → (f : Env → MissOutcome) → next o f ≡ missed m
+came_fails : {T : Tables} {o : MissOutcome} {list : List ℕ} {r : Result Unit Miss} {m : Miss} → Came T o list r → r ≡ Err m → (f : Env → MissOutcome) → next o f ≡ missed m
 came_fails {T} {list = list} t e f = let q = t.is ∙ ap (outcome_in T list) e in rw q
 
 -- 1. Items
@@ -127,11 +126,11 @@ module _ {T : Tables} {a b start from count i : ℕ} {list₀ list : List ℕ} (
           ∙ (sym (ap (λ (k : ℕ). items_from T a b (start + i) (from + i) k (env_of T list)) e)
           ∙ go.same))
 
-      module _ {list' : List ℕ} {r : Walked} (t : Came T (walk_nodes T item part (env_of T list)) list' r) where
-        pub items_fail : {m : Miss} → r ≡ Missed m → Came T (walk_listed T a b (env_of T list₀)) list' (Missed m)
+      module _ {list' : List ℕ} {r : Result Unit Miss} (t : Came T (walk_nodes T item part (env_of T list)) list' r) where
+        pub items_fail : {m : Miss} → r ≡ Err m → Came T (walk_listed T a b (env_of T list₀)) list' (Err m)
         items_fail e = record { is = sym items_step ∙ came_fails t e later_items; list_ok = t.list_ok }
 
-        pub items_on : r ≡ Matched → WalkingItems T a b start from count (i + 1) list₀ list'
+        pub items_on : r ≡ Ok tt → WalkingItems T a b start from count (i + 1) list₀ list'
         items_on e = record {
           asks = go.asks;
           is_start = go.is_start;
@@ -142,7 +141,7 @@ module _ {T : Tables} {a b start from count i : ℕ} {list₀ list : List ℕ} (
           same = sym (came_on t e later_items) ∙ items_step;
         }
 
-  pub items_end : count ≤ i → Came T (walk_listed T a b (env_of T list₀)) list Matched
+  pub items_end : count ≤ i → Came T (walk_listed T a b (env_of T list₀)) list (Ok tt)
   unfolding items value_of walk
   items_end le = let z : count - i ≡ 0 = omega arith in record { is = sym (rw z at go.same); list_ok = go.list_ok }
 
@@ -239,13 +238,13 @@ module _ {T : Tables} {a b first count i : ℕ} {list₀ list : List ℕ} (go : 
           ∙ (sym (ap (λ (k : ℕ). walk_fields (key_at T) b (fields (expr T) T.children (first + i * 2) k) (value_fields_of (fields_of T b)) (env_of T list)) e)
           ∙ go.same))
 
-      module _ {list' : List ℕ} {r : Walked} (t : Came T (walk_nodes T value part (env_of T list)) list' r) where
-        pub fields_fail : {m : Miss} → r ≡ Missed m → Came T (walk_under T a b (env_of T list₀)) list' (Missed m)
+      module _ {list' : List ℕ} {r : Result Unit Miss} (t : Came T (walk_nodes T value part (env_of T list)) list' r) where
+        pub fields_fail : {m : Miss} → r ≡ Err m → Came T (walk_under T a b (env_of T list₀)) list' (Err m)
         fields_fail e = record { is = sym field_step ∙ came_fails t e later_fields; list_ok = t.list_ok }
 
-        pub fields_on : r ≡ Matched → WalkingFields T a b first count (i + 1) list₀ list'
+        pub fields_on : r ≡ Ok tt → WalkingFields T a b first count (i + 1) list₀ list'
         fields_on e = record { asks = go.asks; is_first = go.is_first; is_count = go.is_count; inside = omega arith; list_ok = t.list_ok; same = sym (came_on t e later_fields) ∙ field_step }
 
-  pub fields_end : count ≤ i → Came T (walk_under T a b (env_of T list₀)) list Matched
+  pub fields_end : count ≤ i → Came T (walk_under T a b (env_of T list₀)) list (Ok tt)
   unfolding fields walk
   fields_end le = let z : count - i ≡ 0 = omega arith in record { is = sym (rw z at go.same); list_ok = go.list_ok }

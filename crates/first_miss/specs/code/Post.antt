@@ -1,5 +1,5 @@
 -- What the functions of the code ask of their callers and say.
-use Rattle.std.specs.Prelude.{ℕ, ◌≤◌, ◌<◌, ◌≡◌, Bool, true, false, cond, List, eqb}
+use Rattle.std.specs.Prelude.{ℕ, ◌≤◌, ◌<◌, ◌≡◌, Bool, true, false, cond, Result, Ok, Err, List, eqb}
 use Rattle.std.proofs.Math.Option.{Option, none, some}
 use Rattle.base.specs.Lent.{MutSlices, old, new}
 use Rattle.literal.specs.Literal.{Literal}
@@ -14,9 +14,8 @@ use Rattle.value.specs.code.Post.{under_in, KeyedObject, ValueNode}
 use Rattle.matching.specs.Matching.{Env}
 use Rattle.matching.specs.code.Post.{env_of, ListOk}
 use Rattle.first_miss.specs.declared.Why.{Why}
+use Rattle.first_miss.specs.declared.Miss.{Miss}
 use Rattle.first_miss.specs.declared.Why.TheVariants.{LiteralDiffers, NoArray, OtherLength, NoObject, KeyMissing, KeyTooMany}
-use Rattle.first_miss.specs.declared.walking.Walked.{Walked}
-use Rattle.first_miss.specs.declared.walking.Walked.TheVariants.{Matched, Missed}
 use Rattle.first_miss.specs.Miss.{MissOutcome, matched, missed, slot, is_less, lesser, missing_key, other_key}
 use Rattle.first_miss.specs.Operations.{key_at}
 use Rattle.first_miss.specs.code.Walk.{slots_of, walk, walk_items, walk_fields}
@@ -67,23 +66,23 @@ pub record OtherTold (T : Tables) (a b r : ℕ) : Type 0 where
   pub some_key : (i : ℕ) → other_key (keys_at T b) 0 (keys_at T a) ≡ some i → r ≡ 0 → ⊥
 
 -- 2. What a part comes to without names
-abbrev pub missed_by : Why → ℕ → ℕ → Walked
-missed_by why value pattern = Missed (record { why = why; value = value; pattern = pattern })
+abbrev pub missed_by : Why → ℕ → ℕ → Result Unit Miss
+missed_by why value pattern = Err (record { why = why; value = value; pattern = pattern })
 
-abbrev pub literal_walked : Tables → ℕ → ℕ → Walked
-literal_walked T a b = cond (same (value_of (expr T a)) (value_of (expr T b))) Matched (missed_by LiteralDiffers b a)
+abbrev pub literal_walked : Tables → ℕ → ℕ → Result Unit Miss
+literal_walked T a b = cond (same (value_of (expr T a)) (value_of (expr T b))) (Ok tt) (missed_by LiteralDiffers b a)
 
 -- an array of the pattern and a value
-abbrev pub array_walked : List ℕ → ℕ → ℕ → Walked
-array_walked nodes a b = cond (eqb (kind_of nodes b) 7) (cond (eqb (count_of nodes b) (count_of nodes a)) Matched (missed_by OtherLength b a)) (missed_by NoArray b a)
+abbrev pub array_walked : List ℕ → ℕ → ℕ → Result Unit Miss
+array_walked nodes a b = cond (eqb (kind_of nodes b) 7) (cond (eqb (count_of nodes b) (count_of nodes a)) (Ok tt) (missed_by OtherLength b a)) (missed_by NoArray b a)
 
-abbrev pub keys_walked : Tables → ℕ → ℕ → Option (Slot ℕ) → Option ℕ → Walked
+abbrev pub keys_walked : Tables → ℕ → ℕ → Option (Slot ℕ) → Option ℕ → Result Unit Miss
 keys_walked T a b (some k) i = missed_by KeyMissing b k.held
 keys_walked T a b none (some i) = missed_by KeyTooMany (key_at T b i) a
-keys_walked T a b none none = Matched
+keys_walked T a b none none = Ok tt
 
 -- an object of the pattern and a value
-pub record ObjectTold (T : Tables) (a b : ℕ) (r : Walked) : Type 0 where
+pub record ObjectTold (T : Tables) (a b : ℕ) (r : Result Unit Miss) : Type 0 where
   pub is : r ≡ cond (eqb (kind_of T.nodes b) 9) (keys_walked T a b (missing_key (keys_at T b) (slots_of (fields_of T a))) (other_key (keys_at T a) 0 (keys_at T b))) (missed_by NoObject b a)
 
 -- 3. The walk: a pattern's node, a value's node, and in `list` the nodes of the names' values
@@ -123,12 +122,12 @@ pub record FieldsAsks (T : Tables) (a b : ℕ) (list : List ℕ) : Type 0 where
   pub right_object : kind_of T.nodes b ≡ 9
   pub covered : (i : ℕ) → i < count_of T.nodes a → under_in T b (key_at T a i) ≡ 0 → ⊥
 
-abbrev pub outcome_in : Tables → List ℕ → Walked → MissOutcome
-outcome_in T list Matched = matched (env_of T list)
-outcome_in T list (Missed m) = missed m
+abbrev pub outcome_in : Tables → List ℕ → Result Unit Miss → MissOutcome
+outcome_in T list (Ok done) = matched (env_of T list)
+outcome_in T list (Err m) = missed m
 
 -- after a miss the list is free: working space of values' nodes
-pub record Came (T : Tables) (o : MissOutcome) (list : List ℕ) (r : Walked) : Type 0 where
+pub record Came (T : Tables) (o : MissOutcome) (list : List ℕ) (r : Result Unit Miss) : Type 0 where
   pub is : o ≡ outcome_in T list r
   pub list_ok : ListOk T list
 
@@ -143,5 +142,5 @@ abbrev pub walk_under : Tables → ℕ → ℕ → Env → MissOutcome
 walk_under T a b env = walk_fields (key_at T) b (fields_of T a) (value_fields_of (fields_of T b)) env
 
 -- the same of a list that is lent, at entry and at exit
-abbrev pub CameIn : MutSlices → Tables → (Env → MissOutcome) → Walked → Type 0
+abbrev pub CameIn : MutSlices → Tables → (Env → MissOutcome) → Result Unit Miss → Type 0
 CameIn list T f r = Came T (f (env_of T (old list))) (new list) r

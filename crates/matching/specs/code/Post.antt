@@ -1,5 +1,5 @@
 -- What the functions that carry a plan out ask of their caller and say.
-use Rattle.std.specs.Prelude.{ℕ, ◌+◌, ◌-◌, ◌*◌, ◌≤◌, ◌<◌, ◌≡◌, Bool, true, false, cond, List, [], ◌++◌, eqb, length, get_or, replicate}
+use Rattle.std.specs.Prelude.{ℕ, ◌+◌, ◌-◌, ◌*◌, ◌≤◌, ◌<◌, ◌≡◌, Bool, true, false, cond, Option, Some, None, List, [], ◌++◌, eqb, length, get_or, replicate}
 use Rattle.std.proofs.Math.Option.{none}
 use Rattle.base.specs.Lent.{MutSlices}
 use Rattle.table.specs.Tables.{Tables, kind_of, first_word_of, count_of}
@@ -14,7 +14,6 @@ use Rattle.planner.specs.code.Post.{pattern_words, NameNumber, Laid}
 use Rattle.planner.specs.Simple.{simple}
 use Rattle.value.specs.Value.{Value, value_of, value_at, node_in}
 use Rattle.value.specs.code.Post.{ValueNode}
-use Rattle.matching.specs.declared.inner.Matched.{Matched}
 use Rattle.matching.specs.Matching.{Env, MatchOutcome, matched, missed, fault, run}
 use Rattle.matching.specs.Reading.{PlacedPlan, standing, run_entries}
 use Rattle.matching.specs.code.Linking.{children_of, Linked}
@@ -108,21 +107,12 @@ pub record PatternAsks (T : Tables) (scratch : List ℕ) (count value : ℕ) (li
   pub list_ok : ListOk T list
   pub no_fault : run (plan unbound (expr T root) []) (value_of (expr T value)) (env_of T list) ≡ fault → ⊥
 
-abbrev pub is_match : MatchOutcome → Bool
-is_match (matched env) = true
-is_match missed = false
-is_match fault = false
-
--- the nodes of the names' values after a match; without one those at the start
-abbrev pub list_after : MatchOutcome → List ℕ → List ℕ
-list_after (matched env) start = tabulate (λ i. node_in (env (i + 1))) 0 128
-list_after missed start = start
-list_after fault start = start
-
-pub record Ended (o : MatchOutcome) (start : List ℕ) (r : Matched) : Type 0 where
-  pub told : r.matched ≡ is_match o
-  pub names : r.list ≡ list_after o start
+-- after a match the nodes of the names' values
+abbrev pub names_after : MatchOutcome → Option (List ℕ)
+names_after (matched env) = Some (tabulate (λ i. node_in (env (i + 1))) 0 128)
+names_after missed = None
+names_after fault = None
 
 -- whatever pattern the entries are the plan of
-pub record PatternCame (T : Tables) (scratch : List ℕ) (count value : ℕ) (start : List ℕ) (r : Matched) : Type 0 where
-  pub each : (unbound : ℕ → Bool) (root : ℕ) → PlanIn T unbound root scratch count → Ended (run (plan unbound (expr T root) []) (value_of (expr T value)) (env_of T start)) start r
+pub record PatternCame (T : Tables) (scratch : List ℕ) (count value : ℕ) (start : List ℕ) (r : Option (List ℕ)) : Type 0 where
+  pub each : (unbound : ℕ → Bool) (root : ℕ) → PlanIn T unbound root scratch count → r ≡ names_after (run (plan unbound (expr T root) []) (value_of (expr T value)) (env_of T start))

@@ -2,20 +2,20 @@ use Rattle.name_table.proofs.Cases.{add_table, few_used, add_barred, range_insid
 use borrow.Author.Rules.{rules}
 use Rattle.name_table.proofs.add_name.Goals as goal
 
-pub returns-in-Err : goal.returns-in-Err
-returns-in-Err c = search (add_table, rules)
+pub returns-in_err-check_in_use : goal.returns-in_err-check_in_use
+returns-in_err-check_in_use c = add_table _ _ _ _ _ _ _ _ _ c.check_in_use.ensures c.in_err-check_in_use.was c.from_residual.ensures.1
 
 pub returns-then-not-is_allowed : goal.returns-then-not-is_allowed
-returns-then-not-is_allowed c = search (add_barred, rules)
+returns-then-not-is_allowed c = search (add_barred, c.in_ok-check_in_use.was, rules)
 
 pub slice_bounds-number_of-end : goal.slice_bounds-number_of-end
-slice_bounds-number_of-end c = search (range_inside, rules)
+slice_bounds-number_of-end c = search (range_inside, c.in_ok-check_in_use.was, rules)
 
 pub number_of-name-requires : goal.number_of-name-requires
-number_of-name-requires c = search (few_used, rules)
+number_of-name-requires c = search (few_used, c.in_ok-check_in_use.was, rules)
 
 pub returns-then-name-ne0 : goal.returns-then-name-ne0
-returns-then-name-ne0 c = search (add_existing, rules)
+returns-then-name-ne0 c = search (add_existing, c.in_ok-check_in_use.was, rules)
 
 pub returns : goal.returns
-returns c = search (add_new, rules)
+returns c = search (add_new, c.in_ok-check_in_use.was, rules)

@@ -5,8 +5,8 @@ use Rattle.name_table.proofs.check_in_use.Goals as goal
 pub returns-then-used-gt128 : goal.returns-then-used-gt128
 returns-then-used-gt128 c = search (use_over, rules)
 
-pub slice_bounds-check-end : goal.slice_bounds-check-end
-slice_bounds-check-end c = search (in_use_part, rules)
+pub slice_bounds-names-end : goal.slice_bounds-names-end
+slice_bounds-names-end c = search (in_use_part, rules)
 
 pub returns-then-has_names : goal.returns-then-has_names
 returns-then-has_names c = search (use_checked, rules)

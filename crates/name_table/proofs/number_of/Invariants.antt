@@ -1,5 +1,4 @@
 use Rattle.name_table.proofs.Cases.{Seeking}
-use Prim.Native.Nat.{◌+◌, ◌-◌}
 use Rattle.name_table.proofs.number_of.Given as goal
 
 abbrev pub invariant-loop-name : goal.invariant-loop-name

@@ -1,4 +1,3 @@
-use Prim.Native.Nat.{◌-◌}
 use Rattle.report.proofs.Reporting.{MarkingBound}
 use Rattle.report.proofs.mark_bound.Given as goal
 

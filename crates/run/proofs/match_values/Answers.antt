@@ -5,14 +5,14 @@ use Rattle.run.proofs.match_values.Goals as goal
 pub start_list-start-requires : goal.start_list-start-requires
 start_list-start-requires c = search (ask_list, rules)
 
-pub match_pattern-done-requires : goal.match_pattern-done-requires
-match_pattern-done-requires c = search (ask_match, rules)
+pub match_pattern-requires : goal.match_pattern-requires
+match_pattern-requires c = search (ask_match, rules)
 
-pub returns-then-not-done : goal.returns-then-not-done
-returns-then-not-done c = search (values_missed, rules)
+pub returns-in-None : goal.returns-in-None
+returns-in-None c = search (values_missed, rules)
 
 pub set_names-requires : goal.set_names-requires
 set_names-requires c = search (ask_list, rules)
 
-pub returns : goal.returns
-returns c = search (values_matched, rules)
+pub returns-in-Some : goal.returns-in-Some
+returns-in-Some c = search (values_matched, rules)

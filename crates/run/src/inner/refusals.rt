@@ -3,19 +3,13 @@ ghost use Rattle.table.specs.Contents.{contents};
 ghost use Rattle.table.specs.Lent.{given, lent};
 ghost use Rattle.run.specs.code.Post.{CheckedAsks, CheckToldIn};
 
-use crate::RunAnswer;
+use crate::RunRefusal;
 use crate::inner::checks::{all_values, is_simple};
 use crate::inner::names::known_listed;
 use scope::{Scope, ScopingMode};
 use table::check;
 use table::reading::is_node;
 use table::tables::Tables;
-
-#[derive(Clone, Copy)]
-pub enum RunCheck {
-    Passed,
-    Refused(RunAnswer),
-}
 
 // Of a good table, with roots in it and a list that is long enough.
 fn check_inside(
@@ -25,20 +19,20 @@ fn check_inside(
     pattern: u32,
     value: u32,
     values: &[u32],
-) -> RunCheck
+) -> Result<(), RunRefusal>
     requires { CheckedAsks (contents tables.now) scope pattern value values.now }
     ensures { CheckToldIn values (contents tables.now) scope scoping pattern value result }
 {
     if !is_simple(tables, pattern) {
-        return RunCheck::Refused(RunAnswer::PatternNotSimple);
+        return Err(RunRefusal::PatternNotSimple);
     }
     if !all_values(tables, value, values) {
-        return RunCheck::Refused(RunAnswer::NotAValue);
+        return Err(RunRefusal::NotAValue);
     }
     if !known_listed(tables, scope, scoping, pattern, values) {
-        return RunCheck::Refused(RunAnswer::NameWithoutValue);
+        return Err(RunRefusal::NameWithoutValue);
     }
-    RunCheck::Passed
+    Ok(())
 }
 
 // 1 to 5, then 20 to 23.
@@ -49,21 +43,18 @@ pub fn check_run(
     pattern: u32,
     value: u32,
     values: &[u32],
-) -> RunCheck
+) -> Result<(), RunRefusal>
     ensures { CheckToldIn values (contents tables.now) scope scoping pattern value result }
 {
-    let checked = check(tables, scope);
-    if let Err(refused) = checked {
-        return RunCheck::Refused(RunAnswer::TableRefused(refused));
-    }
+    check(tables, scope)?;
     if !is_node(tables.nodes, pattern) {
-        return RunCheck::Refused(RunAnswer::RootOutside);
+        return Err(RunRefusal::RootOutside);
     }
     if !is_node(tables.nodes, value) {
-        return RunCheck::Refused(RunAnswer::RootOutside);
+        return Err(RunRefusal::RootOutside);
     }
     if values.len() < tables.names.len() / 2 {
-        return RunCheck::Refused(RunAnswer::ListTooShort);
+        return Err(RunRefusal::ListTooShort);
     }
     check_inside(tables, scope, scoping, pattern, value, values)
 }

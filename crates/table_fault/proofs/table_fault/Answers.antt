@@ -5,11 +5,11 @@ use Rattle.table_fault.proofs.table_fault.Goals as goal
 pub loop-rule-init : goal.loop-rule-init
 loop-rule-init c = search (walking_start, rules)
 
-pub first_broken-found-requires : goal.first_broken-found-requires
-first_broken-found-requires c = search (walking_reach c.loop-rule.invariant, rules)
+pub first_broken-requires : goal.first_broken-requires
+first_broken-requires c = search (walking_reach c.loop-rule.invariant, rules)
 
-pub returns-in-At : goal.returns-in-At
-returns-in-At c = search (walking_broken, rules)
+pub returns-in-Some : goal.returns-in-Some
+returns-in-Some c = search (walking_broken, rules)
 
 pub loop-rule-preserved : goal.loop-rule-preserved
 loop-rule-preserved c = search (walking_on, rules)

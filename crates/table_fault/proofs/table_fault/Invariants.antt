@@ -1,6 +1,4 @@
 use Rattle.table.specs.Contents.{contents}
-use Prim.Native.Nat.{◌-◌}
-use Rattle.table.specs.Tables.{tables}
 use Rattle.table_fault.proofs.Walking.{Walking}
 use Rattle.table_fault.proofs.table_fault.Given as goal
 

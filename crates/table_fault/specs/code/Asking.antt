@@ -1,11 +1,8 @@
 -- How the rules are asked: a rule after all rules before it are kept, at a place after it is kept at all places before.
 use Rattle.std.specs.Prelude.{ℕ, zero, suc, ◌+◌, ◌-◌, ◌^◌, ◌≤◌, ◌<◌, ◌≡◌, Bool, true, cond, ◌&&◌, List, [], ◌∷◌, eqb, leb, ltb, length, take}
-use Rattle.std.proofs.Math.Option.{Option, none, some}
 use Rattle.base.specs.Lists.{all_from}
 use Rattle.base.specs.Refusal.{Refusal, over_limit, breaks_rules, too_deep, equal_names}
 use Rattle.table.specs.Tables.{Tables, node_count, number_count, name_count}
-use Rattle.table_fault.specs.declared.BrokenPlace.{BrokenPlace}
-use Rattle.table_fault.specs.declared.BrokenPlace.TheVariants as Place
 use Rattle.table_fault.specs.Rules.{Rule, of_all, rules}
 use Rattle.table_fault.specs.Promise.{all_kept}
 
@@ -57,10 +54,6 @@ places_by T rule =
 
 abbrev pub refusal_by : ℕ → Refusal
 refusal_by rule = cond (leb rule 6) over_limit (cond (eqb rule 22) too_deep (cond (eqb rule 23) equal_names breaks_rules))
-
-abbrev pub place_told : BrokenPlace → Option ℕ
-place_told Place.Nowhere = none
-place_told (Place.At place) = some place
 
 -- a range whose end is a word
 pub record Short (first count : ℕ) : Type 0 where

@@ -19,6 +19,9 @@ use Rattle.table.proofs.tests.Bools.{and_true}
 use Rattle.table.specs.Check.{checked, table_refused}
 use Rattle.name_table.specs.declared.NameAnswer.{NameAnswer}
 use Rattle.name_table.specs.declared.NameAnswer.TheVariants as Answer
+use Rattle.name_table.specs.declared.NameRefusal.{NameRefusal}
+use Rattle.name_table.specs.declared.NameRefusal.TheVariants as No
+use Rattle.std.proofs.Common.{Result, Ok, Err}
 use Rattle.name_table.specs.Adding.{places, in_use, in_use_within_limits, has_names, checked_in_use, allowed, number_from, existing_or_added, at_end, AddOutcome, refused, existing, added, add_outcome, add_line, names_after}
 use Rattle.name_table.specs.Answer.{name_line, NameAdded}
 use Rattle.name_table.proofs.Kept.{bytes_kept}
@@ -207,22 +210,22 @@ module _ (ns after : List Name) (used start size : ℕ) (few : length ns < 2 ^ 6
   same : after ≡ set ns (2 ^ 64 - 1) (a_name start size) → name_words after ≡ name_words ns
   same e = ap name_words (e ∙ set_out ns (2 ^ 64 - 1) (a_name start size) (omega (arith, few)))
 
-  left : (a : NameAnswer) (o : AddOutcome) → name_line a ≡ add_line o → after ≡ set ns (place_of a used) (a_name start size) → ((x : ℕ) → o ≡ added x → used < length ns) → Left o
-  left (Answer.Added x) (added y) e put there = ap name_words put ∙ words_set ns used start size (there y refl)
-  left (Answer.Added x) (existing y) e put there = absurd (one_not (ap (λ (l : Line). l.third) e))
-  left (Answer.Added x) (refused r) e put there = absurd (not_zero r (sym (ap (λ (l : Line). l.number) e)))
-  left (Answer.Existing x) (added y) e put there = absurd (one_not (sym (ap (λ (l : Line). l.third) e)))
-  left (Answer.Existing x) (existing y) e put there = same put
-  left (Answer.Existing x) (refused r) e put there = same put
-  left (Answer.TableRefused a) (added y) e put there = absurd (not_zero (table_refused a) (ap (λ (l : Line). l.number) e))
-  left (Answer.TableRefused a) (existing y) e put there = same put
-  left (Answer.TableRefused a) (refused r) e put there = same put
-  left Answer.NoPlace (added y) e put there = absurd (place_not (ap (λ (l : Line). l.number) e))
-  left Answer.NoPlace (existing y) e put there = same put
-  left Answer.NoPlace (refused r) e put there = same put
+  left : (a : Result NameAnswer NameRefusal) (o : AddOutcome) → name_line a ≡ add_line o → after ≡ set ns (place_of a used) (a_name start size) → ((x : ℕ) → o ≡ added x → used < length ns) → Left o
+  left (Ok (Answer.Added x)) (added y) e put there = ap name_words put ∙ words_set ns used start size (there y refl)
+  left (Ok (Answer.Added x)) (existing y) e put there = absurd (one_not (ap (λ (l : Line). l.third) e))
+  left (Ok (Answer.Added x)) (refused r) e put there = absurd (not_zero r (sym (ap (λ (l : Line). l.number) e)))
+  left (Ok (Answer.Existing x)) (added y) e put there = absurd (one_not (sym (ap (λ (l : Line). l.third) e)))
+  left (Ok (Answer.Existing x)) (existing y) e put there = same put
+  left (Ok (Answer.Existing x)) (refused r) e put there = same put
+  left (Err (No.TableRefused a)) (added y) e put there = absurd (not_zero (table_refused a) (ap (λ (l : Line). l.number) e))
+  left (Err (No.TableRefused a)) (existing y) e put there = same put
+  left (Err (No.TableRefused a)) (refused r) e put there = same put
+  left (Err No.NoPlace) (added y) e put there = absurd (place_not (ap (λ (l : Line). l.number) e))
+  left (Err No.NoPlace) (existing y) e put there = same put
+  left (Err No.NoPlace) (refused r) e put there = same put
 
 -- what `add_name` says, from what it was told over the words that were copied
-pub name_added : (nodes children numbers strings text : List ℕ) (used start size : ℕ) (ns after : List Name) (names : NameWords) (a : NameAnswer) → Copied ns names → length ns < 2 ^ 64
+pub name_added : (nodes children numbers strings text : List ℕ) (used start size : ℕ) (ns after : List Name) (names : NameWords) (a : Result NameAnswer NameRefusal) → Copied ns names → length ns < 2 ^ 64
     → name_line a ≡ add_line (add_outcome (tables nodes children numbers (held names) strings text) used start size) → after ≡ set ns (place_of a used) (a_name start size)
     → NameAdded (add_outcome (tables nodes children numbers (name_words ns) strings text) used start size) used start size (name_words ns) (name_words after) a
 name_added nodes children numbers strings text used start size ns after names a c few told put =

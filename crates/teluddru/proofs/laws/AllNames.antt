@@ -1,4 +1,5 @@
 -- What each call answers over the names that are copied, it answers over all.
+use Rattle.std.proofs.Common.{Result}
 use Prim.Native.Nat.{ℕ, ◌/◌, ◌<◌}
 use mathlib.Core.Path.{◌≡◌, refl, sym, ◌∙◌, ap, subst}
 use mathlib.Core.Bool.{Bool, true, false}
@@ -11,7 +12,8 @@ use Rattle.scope.specs.Scope.{known}
 use Rattle.table.specs.Tables.{Tables, name_count}
 use Rattle.table.specs.Check.{checked}
 use Rattle.table.specs.Decode.{expr}
-use Rattle.planner.specs.declared.PlanAnswer.{PlanAnswer}
+use Rattle.planner.specs.declared.Plan.{Plan}
+use Rattle.planner.specs.declared.PlanRefusal.{PlanRefusal}
 use Rattle.base.specs.Refusal as Refusal
 use Rattle.base.specs.Refusal.{Refusal, over_limit, not_a_body, require_or}
 use Rattle.planner.specs.Operations as Plan
@@ -19,7 +21,9 @@ use Rattle.planner.specs.Operations.{Outcome, Answered}
 use Rattle.body.specs.declared.BodyPlanned.{BodyPlanned}
 use Rattle.body.specs.Lines.{is_body, operations_of}
 use Rattle.body.specs.Body.{BodyOutcome, refused_at, line_outcome, body_from, no_plan, body_outcome, BodyAnswered}
-use Rattle.common_example.specs.declared.ExampleAnswer.{ExampleAnswer}
+use Rattle.std.proofs.Common.{Option, Result}
+use Rattle.common_example.specs.declared.example.Example.{Example as Given}
+use Rattle.common_example.specs.declared.example.ExampleRefusal.{ExampleRefusal}
 use Rattle.common_example.specs.declared.sides.ScopedPattern.{ScopedPattern}
 use Rattle.common_example.specs.Operations as Example
 use Rattle.common_example.specs.Operations.{PatternSide, side_checked, ExampleOutcome, example_outcome, example_answer, nodes_after, children_after}
@@ -99,7 +103,7 @@ unfolding example_outcome side_checked
 example_refused T s₁ s₂ e = simp e
 
 module _ (T T' : Tables) (s₁ s₂ : PatternSide) (e : checked T s₁.scope ≡ Refusal.refused over_limit) (e' : checked T' s₁.scope ≡ Refusal.refused over_limit) where
-  gives_same : {nodes children nodesExit childrenExit : List ℕ} {r : ExampleAnswer} → Gives T (example_outcome T s₁ s₂) nodes children nodesExit childrenExit r → Gives T' (example_outcome T' s₁ s₂) nodes children nodesExit childrenExit r
+  gives_same : {nodes children nodesExit childrenExit : List ℕ} {r : Result (Option Given) ExampleRefusal} → Gives T (example_outcome T s₁ s₂) nodes children nodesExit childrenExit r → Gives T' (example_outcome T' s₁ s₂) nodes children nodesExit childrenExit r
   unfolding example_answer nodes_after children_after
   gives_same {nodes} {children} g =
       let o = example_refused T s₁ s₂ e in
@@ -115,7 +119,7 @@ module _ (over : List ℕ → Tables) (counts : (names : List ℕ) → name_coun
   too_many : (names : List ℕ) → 128 < length names / 2 → checked (over names) s ≡ Refusal.refused over_limit
   too_many names l = over_limit_lem (over names) s (subst (λ (k : ℕ). 128 < k) (sym (counts names)) l)
 
-  pub plan_all : (version : ℕ) (operation : Operation) (ns : List Name) (names : NameWords) → Copied ns names → {before later : List ℕ} {r : PlanAnswer}
+  pub plan_all : (version : ℕ) (operation : Operation) (ns : List Name) (names : NameWords) → Copied ns names → {before later : List ℕ} {r : Result Plan PlanRefusal}
       → Answered (version_outcome (over (held names)) s version operation) before later r → Answered (version_outcome (over (name_words ns)) s version operation) before later r
   plan_all version operation ns names copied {before} {later} {r} =
       as_all (λ ws. Answered (version_outcome (over ws) s version operation) before later r)
@@ -166,7 +170,7 @@ module _ (over : List ℕ → Tables) (counts : (names : List ℕ) → name_coun
   abbrev outcome_of : List ℕ → ExampleOutcome
   outcome_of ws = example_outcome (over ws) (pattern_side p values₁) (pattern_side q values₂)
 
-  pub example_all : (ns : List Name) (names : NameWords) → Copied ns names → {nodes children nodesExit childrenExit : List ℕ} {r : ExampleAnswer}
+  pub example_all : (ns : List Name) (names : NameWords) → Copied ns names → {nodes children nodesExit childrenExit : List ℕ} {r : Result (Option Given) ExampleRefusal}
       → Gives (over (held names)) (outcome_of (held names)) nodes children nodesExit childrenExit r → Gives (over (name_words ns)) (outcome_of (name_words ns)) nodes children nodesExit childrenExit r
   example_all ns names copied {nodes} {children} {nodesExit} {childrenExit} {r} =
       as_all (λ ws. Gives (over ws) (outcome_of ws) nodes children nodesExit childrenExit r)

@@ -5,7 +5,7 @@ ghost use Rattle.name_table.specs.Answer.{name_line};
 ghost use Rattle.teluddru.specs.code.Copying.{lent_words};
 
 use crate::records::NameWords;
-use name_table::NameAnswer;
+use name_table::{NameAnswer, NameRefusal};
 
 // What adding the name answers. The words are a copy, and what they are afterwards is let go.
 pub(crate) fn add_words<'a>(
@@ -18,7 +18,7 @@ pub(crate) fn add_words<'a>(
     used: u32,
     start: u32,
     length: u32,
-) -> NameAnswer
+) -> Result<NameAnswer, NameRefusal>
     requires { names.count ≤ 129 }
     ensures { name_line result ≡ add_line (add_outcome (lent_words nodes children numbers names strings text) used start length) }
 {

@@ -4,7 +4,7 @@ ghost use Rattle.common_example.specs.Common.{CommonIn};
 ghost use Rattle.teluddru.specs.code.Copying.{lent_words};
 
 use crate::records::NameWords;
-use common_example::ExampleAnswer;
+use common_example::example::{Example, ExampleRefusal};
 use common_example::sides::ScopedPattern;
 use table::tables::Tables;
 
@@ -21,7 +21,7 @@ pub(crate) fn example_words<'a>(
     values2: &[u32],
     example_nodes: &mut [u32],
     example_children: &mut [u32],
-) -> ExampleAnswer
+) -> Result<Option<Example>, ExampleRefusal>
     requires { names.count ≤ 129 }
     ensures { let T = lent_words nodes children numbers names strings text in
         CommonIn T first values1 second values2 example_nodes example_children result }

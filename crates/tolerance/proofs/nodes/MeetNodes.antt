@@ -18,7 +18,6 @@ use Rattle.base.specs.Lists.{part}
 use Rattle.table.specs.Tables.{Tables, kind_of, first_word_of, count_of, child_at}
 use Rattle.table.specs.Decode.{expr, items, fields, literal_at, literal_node, literal_in, ref_of, ref_by, fields_of, is_wildcard, named_by}
 use Rattle.table.specs.declared.Key.{Key}
-use Rattle.table.specs.declared.Key.TheVariants as Key
 use Rattle.table.specs.Expr as Expr
 use Rattle.table.specs.Expr.{Expr, literal, name, wildcard, array, set, object, other, Exprs, item, Fields, done, field}
 use Rattle.table.specs.code.Sound.{Node}

@@ -13,7 +13,6 @@ use Rattle.base.specs.Refusal.{plan_too_large, require_or, range_wrong}
 use Rattle.scope.specs.declared.Scope.{Scope}
 use Rattle.scope.specs.declared.ScopingMode.{ScopingMode}
 use Rattle.scope.specs.Scope.{is_unbound}
-use Rattle.scope.specs.Scope as Scope
 use Rattle.table.specs.Tables.{Tables}
 use Rattle.table.specs.Decode.{expr}
 use Rattle.table.specs.Expr.{Expr}

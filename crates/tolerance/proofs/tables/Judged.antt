@@ -1,4 +1,5 @@
 -- A run that nothing refuses: its answer is the one that the choices give, and the names that are set get the nodes that every choice gives them.
+use Rattle.std.proofs.Common.{Result}
 use Prim.Native.Nat.{ℕ, ◌+◌, ◌-◌, ◌/◌, ◌≤◌, ◌<◌}
 use mathlib.Core.Path.{◌≡◌, refl, sym, ap, ap₂, subst, ◌∙◌, fun_ext}
 use mathlib.Core.List.{List, []}
@@ -18,7 +19,8 @@ use Rattle.table.specs.Tables.{Tables, name_count}
 use Rattle.table.specs.Decode.{expr, is_wildcard}
 use Rattle.table.specs.Expr.{Expr}
 use Rattle.table.proofs.tests.Bools.{and_true}
-use Rattle.planner.specs.declared.PlanAnswer.{PlanAnswer}
+use Rattle.planner.specs.declared.Plan.{Plan}
+use Rattle.planner.specs.declared.PlanRefusal.{PlanRefusal}
 use Rattle.planner.specs.Layout.{Entry, top, entries, entry_words}
 use Rattle.planner.specs.Operations.{plan_of, planned, fits, written}
 use Rattle.planner.specs.Simple.{mentions}
@@ -41,6 +43,7 @@ use Rattle.run.specs.code.Post.{RunAsks, to_bind}
 use Rattle.run.proofs.Known.{planned_is}
 use Rattle.run.proofs.Running.{run_table, value_ok, listed_value, ask_plan}
 use Rattle.run.proofs.Refusing.{run_passed}
+use Rattle.std.proofs.Common.{Ok}
 use Rattle.tolerance.specs.declared.ToleranceAnswer.{ToleranceAnswer}
 use Rattle.tolerance.specs.declared.ToleranceAnswer.TheVariants.{Always}
 use Rattle.tolerance.specs.Tolerance.{Number, is_allowed, chosen, chosen_value, chosen_env, Choice, Answer, always, sometimes, never, outcome_under, Matches, Means}
@@ -221,7 +224,7 @@ module _ {T : Tables} {s : Scope} {mode : ScopingMode} {pattern value : ℕ} {va
   pub judge_names : ListAsks T.names values
   judge_names = record { few = (run_table run_asks).limits.names; long = run_asks.long }
 
-  module _ {binders mid filled : List ℕ} {next : ℕ} {told : PlanAnswer} (p : PatternPlanned T s mode pattern 0 buffer binders mid next) (d : Closed 0 next mid filled told) where
+  module _ {binders mid filled : List ℕ} {next : ℕ} {told : Result Plan PlanRefusal} (p : PatternPlanned T s mode pattern 0 buffer binders mid next) (d : Closed 0 next mid filled told) where
     in_buffer : filled ≡ written (planned 0 0 (es run_asks)) buffer
     in_buffer = (wrote_closed 0 (es run_asks) p.wrote d).buffer
 
@@ -232,19 +235,19 @@ module _ {T : Tables} {s : Scope} {mode : ScopingMode} {pattern value : ℕ} {va
       told_is : r ≡ answer_named (decision T s mode pattern value values lows highs)
       told_is = (c.each s mode values asks.judging).0
 
-      result : (b : Answer) → tolerance_result_of (answer_named b) ≡ answers b
+      result : (b : Answer) → tolerance_result_of (Ok (answer_named b)) ≡ answers b
       result always = refl
       result sometimes = refl
       result never = refl
 
       -- an answer with its list
       told_with : {after : List ℕ} → after ≡ set_names (planned_name (Scope.known s mode) (expr T pattern)) (set_by (decision T s mode pattern value values lows highs) (with_lowest T s mode pattern value values lows highs)) values
-          → Judged T s mode pattern value values lows highs buffer after filled r
+          → Judged T s mode pattern value values lows highs buffer after filled (Ok r)
       unfolding tolerance_result plan_left values_left
       told_with is = record {
         answer = decision T s mode pattern value values lows highs;
         means = λ t. is_answer run_asks lows highs asks.judging.ranges;
-        told = ap tolerance_result_of told_is ∙ (result (decision T s mode pattern value values lows highs)
+        told = ap (λ (a : ToleranceAnswer). tolerance_result_of (Ok a)) told_is ∙ (result (decision T s mode pattern value values lows highs)
             ∙ sym (ap (λ (o : ToleranceOutcome). tolerance_result o buffer) (outcome_judged run_asks lows highs asks.judging.ranges (decision T s mode pattern value values lows highs))
             ∙ ap (λ (b : Bool). cond b (answers (decision T s mode pattern value values lows highs)) (turned_back_lem (plan_too_large (length (es run_asks))))) fit));
         plan = in_buffer ∙ sym (ap (λ (o : ToleranceOutcome). plan_left o buffer) (outcome_judged run_asks lows highs asks.judging.ranges (decision T s mode pattern value values lows highs)));
@@ -257,13 +260,13 @@ module _ {T : Tables} {s : Scope} {mode : ScopingMode} {pattern value : ℕ} {va
       named_always sometimes q = absurd (false≢true (cc))
       named_always never q = absurd (false≢true (cc))
 
-      pub judged_always : r ≡ Always → {after : List ℕ} → ListSet (length T.names / 2) list' values after → Judged T s mode pattern value values lows highs buffer after filled r
+      pub judged_always : r ≡ Always → {after : List ℕ} → ListSet (length T.names / 2) list' values after → Judged T s mode pattern value values lows highs buffer after filled (Ok r)
       judged_always y {after} set =
           let all = named_always (decision T s mode pattern value values lows highs) (sym told_is ∙ y) in
           told_with (names_set_lem asks.judging list' c.list_ok ((c.each s mode values asks.judging).1 y) all set
           ∙ sym (ap (λ (b : Answer). set_names (planned_name (Scope.known s mode) (expr T pattern)) (set_by b (with_lowest T s mode pattern value values lows highs)) values) all))
 
-      pub judged_else : (r ≡ Always → ⊥) → Judged T s mode pattern value values lows highs buffer values filled r
+      pub judged_else : (r ≡ Always → ⊥) → Judged T s mode pattern value values lows highs buffer values filled (Ok r)
       judged_else n = told_with (go (decision T s mode pattern value values lows highs) told_is)
         where
           go : (b : Answer) → r ≡ answer_named b → values ≡ set_names (planned_name (Scope.known s mode) (expr T pattern)) (set_by b (with_lowest T s mode pattern value values lows highs)) values

@@ -28,7 +28,9 @@ use Rattle.value.specs.code.Post.{ValueNode}
 use Rattle.matching.specs.Matching.{Env, pick_value}
 use Rattle.matching.specs.code.Post.{env_of, ListOk}
 use Rattle.run.specs.declared.RunAnswer.{RunAnswer}
-use Rattle.run.specs.declared.RunAnswer.TheVariants.{PlanTooLarge}
+use Rattle.run.specs.declared.RunAnswer.TheVariants.{Match, NoMatch}
+use Rattle.run.specs.declared.RunRefusal.{RunRefusal}
+use Rattle.run.specs.declared.RunRefusal.TheVariants.{PlanTooLarge}
 use Rattle.run.specs.Answer as Run
 use Rattle.run.specs.Operations as Ran
 use Rattle.run.specs.Operations.{RunOutcome, in_table, ran, run_outcome, run_answer, values_after, planned_name, set_names}
@@ -38,9 +40,12 @@ use Rattle.run.proofs.Answers.{settled}
 use Rattle.run.proofs.Running.{run_table, value_ok, listed_value}
 use Rattle.run.proofs.Refusing.{run_passed, Verdict, verdict}
 use Rattle.tolerance.specs.declared.ToleranceAnswer.{ToleranceAnswer}
-use Rattle.tolerance.specs.declared.ToleranceAnswer.TheVariants.{RangeWrong, Refused}
+use Rattle.tolerance.specs.declared.ToleranceRefusal.{ToleranceRefusal}
+use Rattle.tolerance.specs.declared.ToleranceRefusal.TheVariants.{RangeWrong}
+use Rattle.tolerance.specs.declared.ToleranceRefusal.TheVariants as Refused
+use Rattle.std.proofs.Common.{Result, Ok, Err}
 use Rattle.tolerance.specs.Tolerance.{Answer, never}
-use Rattle.tolerance.specs.Answer.{turned_back_lem, answers, refused_by}
+use Rattle.tolerance.specs.Answer.{turned_back_lem, answers}
 use Rattle.tolerance.specs.Operations.{range_ok, long_enough, known_values, ranges_ok, ToleranceOutcome, refused, judged, after_checks, with_lowest, tolerance_outcome, tolerance_result, plan_left, set_by, values_left, is_judged, Judged}
 use Rattle.tolerance.specs.code.Decision.{every_number_of, decision}
 use Rattle.tolerance.specs.code.Post.{numbers_ok, numbers_ok_in, given_ok, GivenAsks, KnownList, ToJudge}
@@ -59,13 +64,13 @@ some_entry (object_plan n fs) place = omega arith
 
 -- 2. What the run without space answers
 module _ (T : Tables) (s : Scope) (mode : ScopingMode) (pattern value : ℕ) (values : List ℕ) where
-  module _ {now left : List ℕ} {r : RunAnswer} (done : Ran.Ran (planned_name (Scope.known s mode) (expr T pattern)) (run_outcome T s mode pattern value values) values (replicate 1 0) now left r) where
+  module _ {now left : List ℕ} {r : Result RunAnswer RunRefusal} (done : Ran.Ran (planned_name (Scope.known s mode) (expr T pattern)) (run_outcome T s mode pattern value values) values (replicate 1 0) now left r) where
     no_space : fits (entries (plan_of T s mode pattern) top) (replicate 1 0) ≡ false
     no_space = let n = some_entry (plan_of T s mode pattern) top in lt-leb (length (entries (plan_of T s mode pattern) top)) 0 (omega arith)
 
     abbrev Told : Verdict T s mode pattern value values (run_outcome T s mode pattern value values) → Type 0
     Told (inl x) = (now ≡ values) × (Run.result_of r ≡ Run.turned_back_lem x.refusal)
-    Told (inr a) = (now ≡ values) × (r ≡ PlanTooLarge (length (entries (plan_of T s mode pattern) top)))
+    Told (inr a) = (now ≡ values) × (r ≡ Err (PlanTooLarge (length (entries (plan_of T s mode pattern) top))))
 
     told : (v : Verdict T s mode pattern value values (run_outcome T s mode pattern value values)) → Told v
     unfolding run_answer values_after
@@ -76,30 +81,43 @@ module _ (T : Tables) (s : Scope) (mode : ScopingMode) (pattern value : ℕ) (va
     told (inr a) = (
       done.list ∙ (ap (λ (o : RunOutcome). values_after (planned_name (Scope.known s mode) (expr T pattern)) o (replicate 1 0) values) (run_passed a)
           ∙ ap (λ (b : Bool). cond b (set_names (planned_name (Scope.known s mode) (expr T pattern)) (ran T s mode pattern value values) values) values) no_space),
-      settled r (PlanTooLarge (length (entries (plan_of T s mode pattern) top))) (done.answer ∙ (ap (λ (o : RunOutcome). run_answer o (replicate 1 0)) (run_passed a)
+      settled r (Err (PlanTooLarge (length (entries (plan_of T s mode pattern) top)))) (done.answer ∙ (ap (λ (o : RunOutcome). run_answer o (replicate 1 0)) (run_passed a)
           ∙ ap (λ (b : Bool). cond b (Ran.carried_result (ran T s mode pattern value values)) (Run.turned_back_lem (plan_too_large (length (entries (plan_of T s mode pattern) top))))) no_space)),
     )
 
+    -- it is turned back
+    pub probe_done : {a : RunAnswer} → r ≡ Ok a → ⊥
+    probe_done {a} is = go (verdict T s mode pattern value values) (told (verdict T s mode pattern value values))
+      where
+        go : (v : Verdict T s mode pattern value values (run_outcome T s mode pattern value values)) → Told v → ⊥
+        go (inl x) (kept, said) = let q : Run.match_result a ≡ Run.turned_back_lem x.refusal = sym (ap Run.result_of is) ∙ said in matches a q
+          where
+            matches : (b : RunAnswer) → Run.match_result b ≡ Run.turned_back_lem x.refusal → ⊥
+            matches Match e = false≢true (cc)
+            matches NoMatch e = false≢true (cc)
+        go (inr b) (kept, said) = false≢true (cc)
+
     -- turned back with another number
-    module _ (lows highs : List ℕ) {buffer cleared : List ℕ} where
-      pub probe_refused : ((n : ℕ) → r ≡ PlanTooLarge n → ⊥) → cleared ≡ replicate (length buffer) 0 → Judged T s mode pattern value values lows highs buffer now cleared (Refused r)
+    module _ (lows highs : List ℕ) {buffer cleared : List ℕ} {refusal : RunRefusal} (back : r ≡ Err refusal) where
+      pub probe_refused : ((n : ℕ) → refusal ≡ PlanTooLarge n → ⊥) → cleared ≡ replicate (length buffer) 0 → {a : ToleranceRefusal} → a ≡ Refused.Run refusal → Judged T s mode pattern value values lows highs buffer now cleared (Err a)
       unfolding tolerance_result plan_left values_left
-      probe_refused other z = go (verdict T s mode pattern value values) (told (verdict T s mode pattern value values))
+      probe_refused other z is = rw is (go (verdict T s mode pattern value values) (told (verdict T s mode pattern value values)))
         where
-          go : (v : Verdict T s mode pattern value values (run_outcome T s mode pattern value values)) → Told v → Judged T s mode pattern value values lows highs buffer now cleared (Refused r)
+          go : (v : Verdict T s mode pattern value values (run_outcome T s mode pattern value values)) → Told v → Judged T s mode pattern value values lows highs buffer now cleared (Err (Refused.Run refusal))
           go (inl x) (kept, said) =
+              let same : Run.run_refusal refusal ≡ x.refusal = let q : Run.turned_back_lem (Run.run_refusal refusal) ≡ Run.turned_back_lem x.refusal = sym (ap Run.result_of back) ∙ said in cc in
               let q : (a : Answer) → tolerance_outcome T s mode pattern value values lows highs a ≡ refused x.refusal = λ a. ap (λ (o : RunOutcome). after_checks o (require_or refused (ranges_ok T s mode value values lows highs) range_wrong (judged (entries (plan_of T s mode pattern) top) a (with_lowest T s mode pattern value values lows highs)))) x.is in
               record {
                 answer = never;
                 means = λ t. absurd (subst (λ (o : ToleranceOutcome). True (is_judged o)) (q never) t);
-                told = ap refused_by said ∙ sym (ap (λ (o : ToleranceOutcome). tolerance_result o buffer) (q never));
+                told = ap turned_back_lem same ∙ sym (ap (λ (o : ToleranceOutcome). tolerance_result o buffer) (q never));
                 plan = z ∙ sym (ap (λ (o : ToleranceOutcome). plan_left o buffer) (q never));
                 list = kept ∙ sym (ap (λ (o : ToleranceOutcome). values_left (planned_name (Scope.known s mode) (expr T pattern)) o buffer values) (q never));
               }
-          go (inr a) (kept, said) = absurd (other (length (entries (plan_of T s mode pattern) top)) said)
+          go (inr a) (kept, said) = absurd (other (length (entries (plan_of T s mode pattern) top)) (let q : ◌≡◌ {A = Result RunAnswer RunRefusal} (Err refusal) (Err (PlanTooLarge (length (entries (plan_of T s mode pattern) top)))) = sym back ∙ said in cc))
 
     -- nothing up to 23 refuses
-    module _ {needed : ℕ} (six : r ≡ PlanTooLarge needed) where
+    module _ {refusal : RunRefusal} (back : r ≡ Err refusal) {needed : ℕ} (six : refusal ≡ PlanTooLarge needed) where
       pub record Passed : Type 0 where
         pub asks : RunAsks T s mode pattern value values
         pub kept : now ≡ values
@@ -110,10 +128,10 @@ module _ (T : Tables) (s : Scope) (mode : ScopingMode) (pattern value : ℕ) (va
         where
           go : (v : Verdict T s mode pattern value values (run_outcome T s mode pattern value values)) → Told v → Passed
           go (inl x) (kept, said) =
-              let q : Run.turned_back_lem (plan_too_large needed) ≡ Run.turned_back_lem x.refusal = sym (ap Run.result_of six) ∙ said in
+              let q : Run.turned_back_lem (plan_too_large needed) ≡ Run.turned_back_lem x.refusal = sym (ap Run.result_of (back ∙ ap Err six)) ∙ said in
               let p : plan_too_large needed ≡ x.refusal = cc in
               absurd (false≢true (sym x.number ∙ sym (ap (λ (y : Refusal). eqb y.number 6) p)))
-          go (inr a) (kept, said) = record { asks = a; kept = kept; size = let q : PlanTooLarge needed ≡ PlanTooLarge (length (entries (plan_of T s mode pattern) top)) = sym six ∙ said in cc }
+          go (inr a) (kept, said) = record { asks = a; kept = kept; size = let q : ◌≡◌ {A = Result RunAnswer RunRefusal} (Err (PlanTooLarge needed)) (Err (PlanTooLarge (length (entries (plan_of T s mode pattern) top)))) = sym (back ∙ ap Err six) ∙ said in cc }
 
       pub probe_names : ListAsks T.names now
       probe_names = let a = all_passed.asks in let k = all_passed.kept in record { few = (run_table a).limits.names; long = rw k a.long }
@@ -230,10 +248,10 @@ module _ {T : Tables} {s : Scope} {mode : ScopingMode} {pattern value : ℕ} {va
     ranges-given = ap (λ (b : Bool). long_enough T lows && (long_enough T highs && (numbers_ok T lows highs value && b))) names_too ∙ sym (ranges_by_values a lows highs)
 
 -- 5. For the code: what follows a run that was turned back with 6 alone
-module _ (T : Tables) (s : Scope) (mode : ScopingMode) (pattern value : ℕ) (values : List ℕ) {now left : List ℕ} {r : RunAnswer} (done : Ran.Ran (planned_name (Scope.known s mode) (expr T pattern)) (run_outcome T s mode pattern value values) values (replicate 1 0) now left r)
-    {needed : ℕ} (six : r ≡ PlanTooLarge needed) {list : List ℕ} (of : KnownList T.names T.text s mode now list) where
-  here : Passed T s mode pattern value values done six
-  here = all_passed T s mode pattern value values done six
+module _ (T : Tables) (s : Scope) (mode : ScopingMode) (pattern value : ℕ) (values : List ℕ) {now left : List ℕ} {r : Result RunAnswer RunRefusal} (done : Ran.Ran (planned_name (Scope.known s mode) (expr T pattern)) (run_outcome T s mode pattern value values) values (replicate 1 0) now left r)
+    {refusal : RunRefusal} (back : r ≡ Err refusal) {needed : ℕ} (six : refusal ≡ PlanTooLarge needed) {list : List ℕ} (of : KnownList T.names T.text s mode now list) where
+  here : Passed T s mode pattern value values done back six
+  here = all_passed T s mode pattern value values done back six
 
   known_here : KnownList T.names T.text s mode values list
   known_here = rw here.kept at of
@@ -245,7 +263,7 @@ module _ (T : Tables) (s : Scope) (mode : ScopingMode) (pattern value : ℕ) (va
     ranges_are : ranges_ok T s mode value values lows highs ≡ ok
     ranges_are = sym (is ∙ ranges-given here.asks known_here lows highs)
 
-    pub range_refused : not ok ≡ true → {buffer cleared : List ℕ} → cleared ≡ replicate (length buffer) 0 → Judged T s mode pattern value values lows highs buffer now cleared RangeWrong
+    pub range_refused : not ok ≡ true → {buffer cleared : List ℕ} → cleared ≡ replicate (length buffer) 0 → Judged T s mode pattern value values lows highs buffer now cleared (Err RangeWrong)
     unfolding tolerance_result plan_left values_left
     range_refused t {buffer} {cleared} z =
         let f : ranges_ok T s mode value values lows highs ≡ false = ranges_are ∙ not-true ok t in
@@ -262,9 +280,9 @@ module _ (T : Tables) (s : Scope) (mode : ScopingMode) (pattern value : ℕ) (va
       good : ranges_ok T s mode value values lows highs ≡ true
       good = ranges_are ∙ not-false ok t
 
-      pub plan_refused : {buffer cleared : List ℕ} → length buffer / entry_words < needed → cleared ≡ replicate (length buffer) 0 → Judged T s mode pattern value values lows highs buffer now cleared (Refused (PlanTooLarge needed))
+      pub plan_refused : {buffer cleared : List ℕ} → length buffer / entry_words < needed → cleared ≡ replicate (length buffer) 0 → {a : ToleranceRefusal} → a ≡ Refused.Run (PlanTooLarge needed) → Judged T s mode pattern value values lows highs buffer now cleared (Err a)
       unfolding tolerance_result plan_left values_left written
-      plan_refused {buffer} {cleared} lt z =
+      plan_refused {buffer} {cleared} lt z is = rw is (
           let size = here.size in
           let f : fits (entries (plan_of T s mode pattern) top) buffer ≡ false = lt-leb (length (entries (plan_of T s mode pattern) top)) (length buffer / entry_words) (rw size at lt) in
           let d : Answer = decision T s mode pattern value values lows highs in
@@ -277,7 +295,7 @@ module _ (T : Tables) (s : Scope) (mode : ScopingMode) (pattern value : ℕ) (va
             plan = z ∙ sym (ap (λ (o : ToleranceOutcome). plan_left o buffer) q ∙ rw f);
             list = here.kept ∙ sym (ap (λ (o : ToleranceOutcome). values_left (planned_name (Scope.known s mode) (expr T pattern)) o buffer values) q
                 ∙ ap (λ (b : Bool). cond b (set_names (planned_name (Scope.known s mode) (expr T pattern)) (set_by d (with_lowest T s mode pattern value values lows highs)) values) values) f);
-          }
+          })
 
       module _ {buffer : List ℕ} (le : needed ≤ length buffer / entry_words) where
         pub ask_judge : ToJudge T s mode pattern value now lows highs list buffer
@@ -289,5 +307,5 @@ module _ (T : Tables) (s : Scope) (mode : ScopingMode) (pattern value : ℕ) (va
               fits = rw size at le;
             })
 
-        pub judged_here : {after filled : List ℕ} {answer : ToleranceAnswer} → Judged T s mode pattern value now lows highs buffer after filled answer → Judged T s mode pattern value values lows highs buffer after filled answer
+        pub judged_here : {after filled : List ℕ} {answer : Result ToleranceAnswer ToleranceRefusal} → Judged T s mode pattern value now lows highs buffer after filled answer → Judged T s mode pattern value values lows highs buffer after filled answer
         judged_here j = rw here.kept at j

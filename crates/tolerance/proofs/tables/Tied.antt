@@ -22,7 +22,6 @@ use Rattle.table.specs.Expr as Expr
 use Rattle.table.specs.Expr.{Expr, literal, name, wildcard, array, set, object, other, Exprs, item, Fields, done, field, parts, parts_all, parts_fields}
 use Rattle.table.specs.Decode.{expr, expr_at, headed, items, fields, leaf_of, named_by, is_wildcard, literal_at, literal_node, literal_in, ref_of}
 use Rattle.table.specs.declared.Key.{Key}
-use Rattle.table.specs.declared.Key.TheVariants as Key
 use Rattle.base.specs.Lists.{elem, all_from}
 use Rattle.table.specs.code.Sound.{Node, Named, WellFormed}
 use Rattle.table.proofs.tests.Scan.{all_at}

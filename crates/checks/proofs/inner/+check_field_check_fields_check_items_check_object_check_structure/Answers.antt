@@ -1,5 +1,5 @@
-use Rattle.checks.proofs.Checks.{kinds_differ, kinds_plain, ask_objects, arrays_mismatch, ask_items, arrays_done, items_start, items_pattern_fits, items_value_fits, items_next, items_pair, items_below, items_on, items_stop, items_done, objects_empty, objects_unknown, ask_fields, objects_fields, objects_differ, object_falls, items_fall, fields_fall, field_falls, item_falls, child_falls}
-use Rattle.checks.proofs.ObjectFields.{fields_start, fields_ask, fields_next, fields_on, fields_stop, fields_done, field_double, field_place, field_next, ask_partner, passed, ask_slot, field_pair, field_below, one_taken}
+use Rattle.checks.proofs.Checks.{kinds_differ, kinds_plain, ask_objects, arrays_mismatch, ask_items, arrays_done, items_start, items_pattern_fits, items_value_fits, items_pair, items_below, items_on, items_stop, items_done, objects_empty, objects_unknown, ask_fields, objects_fields, objects_differ, object_falls, items_fall, fields_fall, field_falls, item_falls, child_falls}
+use Rattle.checks.proofs.ObjectFields.{fields_start, fields_ask, fields_on, fields_stop, fields_done, field_double, field_place, field_next, ask_partner, passed, ask_slot, field_pair, field_below, one_taken}
 use borrow.Author.Rules.{rules}
 use Rattle.checks.proofs.inner.+check_field_check_fields_check_items_check_object_check_structure.Goals as goal
 

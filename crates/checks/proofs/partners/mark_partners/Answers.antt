@@ -1,4 +1,4 @@
-use Rattle.checks.proofs.ObjectFields.{marking_start, marking_double, marking_place, marking_next, marking_ask, marking_on, marking_ends}
+use Rattle.checks.proofs.ObjectFields.{marking_start, marking_double, marking_place, marking_ask, marking_on, marking_ends}
 use borrow.Author.Rules.{rules}
 use Rattle.checks.proofs.partners.mark_partners.Goals as goal
 

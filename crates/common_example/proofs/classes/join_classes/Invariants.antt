@@ -1,4 +1,3 @@
-use Prim.Native.Nat.{◌-◌}
 use Rattle.common_example.proofs.loops.classes.ClassLoop.{Joining}
 use Rattle.common_example.proofs.classes.join_classes.Given as goal
 

@@ -1,4 +1,3 @@
-use Prim.Native.Nat.{◌-◌}
 use Rattle.common_example.proofs.loops.sizes.SizeLoops.{Levelling}
 use Rattle.common_example.proofs.levels.next_sizes.Given as goal
 

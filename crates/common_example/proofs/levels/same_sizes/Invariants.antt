@@ -1,4 +1,3 @@
-use Prim.Native.Nat.{◌-◌}
 use Rattle.table.proofs.tests.Scan.{Scan}
 use Rattle.common_example.specs.code.Sizes.{same_at}
 use Rattle.common_example.proofs.levels.same_sizes.Given as goal

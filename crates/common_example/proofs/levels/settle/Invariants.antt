@@ -1,4 +1,3 @@
-use Prim.Native.Nat.{◌-◌}
 use Rattle.common_example.proofs.loops.sizes.SizeLoops.{Settling}
 use Rattle.common_example.proofs.levels.settle.Given as goal
 

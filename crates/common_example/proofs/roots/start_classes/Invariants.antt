@@ -1,4 +1,3 @@
-use Prim.Native.Nat.{◌-◌}
 use Rattle.common_example.proofs.loops.graph.GraphLoops.{FillingTo}
 use Rattle.common_example.proofs.roots.start_classes.Given as goal
 

@@ -1,5 +1,4 @@
 use Rattle.table.specs.Contents.{contents}
-use Rattle.table.specs.Tables.{tables}
 use Rattle.first_miss.proofs.nodes.KeyLaws.{Leasting}
 use Rattle.first_miss.proofs.keys.missing_key.Given as goal
 

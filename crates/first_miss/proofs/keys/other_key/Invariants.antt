@@ -1,6 +1,4 @@
 use Rattle.table.specs.Contents.{contents}
-use Prim.Native.Nat.{◌-◌}
-use Rattle.table.specs.Tables.{tables}
 use Rattle.first_miss.proofs.nodes.KeyLaws.{Seeking}
 use Rattle.first_miss.proofs.keys.other_key.Given as goal
 

@@ -12,8 +12,8 @@ walk-returns-then-kind-le-LAST_LITERAL t c = search (came_literal, rules)
 pub walk-walk_name-requires : goal.walk-walk_name-requires
 walk-walk_name-requires t c = search (ask_name, rules)
 
-pub walk-returns-in-Missed : goal.walk-returns-in-Missed
-walk-returns-in-Missed t c = search (array_misses, rules)
+pub walk-returns-in_err-walk_array : goal.walk-returns-in_err-walk_array
+walk-returns-in_err-walk_array t c = search (array_misses, rules)
 
 pub walk-walk_items-requires : goal.walk-walk_items-requires
 walk-walk_items-requires t c = (search (parts_fall, rules), search (ask_items, rules))
@@ -21,14 +21,14 @@ walk-walk_items-requires t c = (search (parts_fall, rules), search (ask_items, r
 pub walk-returns-then-kind-eq-ARRAY : goal.walk-returns-then-kind-eq-ARRAY
 walk-returns-then-kind-eq-ARRAY t c = search (came_array, rules)
 
-pub walk-walk_object-object-requires : goal.walk-walk_object-object-requires
-walk-walk_object-object-requires t c = search (ask_object, rules)
+pub walk-walk_object-requires : goal.walk-walk_object-requires
+walk-walk_object-requires t c = search (ask_object, rules)
 
-pub walk-returns-in-Missed-object : goal.walk-returns-in-Missed-object
-walk-returns-in-Missed-object t c = search (object_misses, rules)
+pub walk-returns-in_err-walk_object : goal.walk-returns-in_err-walk_object
+walk-returns-in_err-walk_object t c = search (object_misses, rules)
 
 pub walk-walk_fields-requires : goal.walk-walk_fields-requires
-walk-walk_fields-requires t c = (search (parts_fall, rules), search (ask_fields, rules))
+walk-walk_fields-requires t c = (search (parts_fall, rules), ask_fields c.requires c.kind_of-kind.ensures c.if-kind-le-LAST_LITERAL.false c.if-kind-eq-NAME.false c.if-kind-eq-ARRAY.false c.walk_object.ensures c.in_ok-walk_object.was)
 
 pub walk-returns : goal.walk-returns
 walk-returns t c = search (came_object, rules)
@@ -48,14 +48,14 @@ walk_fields-overflow_add-place-in-loop-i t c = search (fields_value, rules)
 pub walk_fields-value_under-part-requires : goal.walk_fields-value_under-part-requires
 walk_fields-value_under-part-requires t c = search (fields_object, rules)
 
-pub walk_fields-walk-walked-requires : goal.walk_fields-walk-walked-requires
-walk_fields-walk-walked-requires t c = (fields_fall c.loop-i.invariant c.loop-i-test.true c.child_at-value.ensures c.decreases, fields_ask c.loop-i.invariant c.loop-i-test.true c.child_at-key.ensures c.child_at-value.ensures c.value_under-part.ensures)
+pub walk_fields-walk-requires : goal.walk_fields-walk-requires
+walk_fields-walk-requires t c = (fields_fall c.loop-i.invariant c.loop-i-test.true c.child_at-value.ensures c.decreases, fields_ask c.loop-i.invariant c.loop-i-test.true c.child_at-key.ensures c.child_at-value.ensures c.value_under-part.ensures)
 
-pub walk_fields-returns-in-Missed : goal.walk_fields-returns-in-Missed
-walk_fields-returns-in-Missed t c = search (fields_fail, rules)
+pub walk_fields-returns-in_err-walk : goal.walk_fields-returns-in_err-walk
+walk_fields-returns-in_err-walk t c = search (fields_fail c.loop-i.invariant c.loop-i-test.true c.child_at-key.ensures c.child_at-value.ensures c.value_under-part.ensures c.walk.ensures, rules)
 
 pub walk_fields-loop-i-preserved : goal.walk_fields-loop-i-preserved
-walk_fields-loop-i-preserved t c = fields_on c.loop-i.invariant c.loop-i-test.true c.child_at-key.ensures c.child_at-value.ensures c.value_under-part.ensures c.walk-walked.ensures c.in_default.is
+walk_fields-loop-i-preserved t c = fields_on c.loop-i.invariant c.loop-i-test.true c.child_at-key.ensures c.child_at-value.ensures c.value_under-part.ensures c.walk.ensures c.in_ok-walk.was
 
 pub walk_fields-returns : goal.walk_fields-returns
 walk_fields-returns t c = search (fields_end, rules)
@@ -69,14 +69,14 @@ walk_items-overflow_add-at t c = search (items_left_fits, rules)
 pub walk_items-overflow_add-from : goal.walk_items-overflow_add-from
 walk_items-overflow_add-from t c = search (items_right_fits, rules)
 
-pub walk_items-walk-walked-requires : goal.walk_items-walk-walked-requires
-walk_items-walk-walked-requires t c = (items_fall c.loop-i.invariant c.loop-i-test.true c.child_at-item.ensures c.child_at-part.ensures c.decreases, items_ask c.loop-i.invariant c.loop-i-test.true c.child_at-item.ensures c.child_at-part.ensures)
+pub walk_items-walk-requires : goal.walk_items-walk-requires
+walk_items-walk-requires t c = (items_fall c.loop-i.invariant c.loop-i-test.true c.child_at-item.ensures c.child_at-part.ensures c.decreases, items_ask c.loop-i.invariant c.loop-i-test.true c.child_at-item.ensures c.child_at-part.ensures)
 
-pub walk_items-returns-in-Missed : goal.walk_items-returns-in-Missed
-walk_items-returns-in-Missed t c = search (items_fail c.loop-i.invariant c.loop-i-test.true c.child_at-item.ensures c.child_at-part.ensures c.walk-walked.ensures, rules)
+pub walk_items-returns-in_err-walk : goal.walk_items-returns-in_err-walk
+walk_items-returns-in_err-walk t c = search (items_fail c.loop-i.invariant c.loop-i-test.true c.child_at-item.ensures c.child_at-part.ensures c.walk.ensures, rules)
 
 pub walk_items-loop-i-preserved : goal.walk_items-loop-i-preserved
-walk_items-loop-i-preserved t c = items_on c.loop-i.invariant c.loop-i-test.true c.child_at-item.ensures c.child_at-part.ensures c.walk-walked.ensures c.in_default.is
+walk_items-loop-i-preserved t c = items_on c.loop-i.invariant c.loop-i-test.true c.child_at-item.ensures c.child_at-part.ensures c.walk.ensures c.in_ok-walk.was
 
 pub walk_items-returns : goal.walk_items-returns
 walk_items-returns t c = search (items_end, rules)

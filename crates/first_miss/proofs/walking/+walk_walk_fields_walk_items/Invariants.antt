@@ -1,6 +1,5 @@
 use Rattle.table.specs.Contents.{contents}
 use Prim.Native.Nat.{◌-◌, ◌*◌}
-use Rattle.table.specs.Tables.{tables}
 use Rattle.first_miss.proofs.nodes.WalkParts.{WalkingItems, WalkingFields}
 use Rattle.first_miss.proofs.walking.+walk_walk_fields_walk_items.Given as goal
 

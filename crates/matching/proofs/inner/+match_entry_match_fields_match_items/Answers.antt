@@ -81,9 +81,6 @@ match_fields-match_entry-requires t c = (entry_falls _ _ c.decreases, fields_ask
 pub match_fields-returns-then-not-match_entry : goal.match_fields-returns-then-not-match_entry
 match_fields-returns-then-not-match_entry t c = fields_fail c.loop-i.invariant c.loop-i-test.true c.entry_number-field.ensures.0 c.value_under-part.ensures c.match_entry.ensures c.if-not-match_entry.true-raw
 
-pub match_fields-overflow_add-i : goal.match_fields-overflow_add-i
-match_fields-overflow_add-i t c = fields_next_fits c.loop-i.invariant c.loop-i-test.true
-
 pub match_fields-loop-i-preserved : goal.match_fields-loop-i-preserved
 match_fields-loop-i-preserved t c = fields_on c.loop-i.invariant c.loop-i-test.true c.entry_number-field.ensures.0 c.value_under-part.ensures c.match_entry.ensures c.if-not-match_entry.false-raw
 

@@ -1,4 +1,3 @@
-use Prim.Native.Nat.{◌-◌}
 use lib.ListN.{length}
 use Rattle.planner.proofs.buffer.Filling.{Filling}
 use Rattle.report.specs.code.Post.{met_mark}

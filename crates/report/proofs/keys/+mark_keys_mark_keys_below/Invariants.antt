@@ -1,6 +1,5 @@
 use Rattle.table.specs.Contents.{contents}
 use Prim.Native.Nat.{◌-◌, ◌*◌}
-use Rattle.table.specs.Tables.{tables}
 use Rattle.report.proofs.KeyNames.{MarkingBelow}
 use Rattle.report.proofs.keys.+mark_keys_mark_keys_below.Given as goal
 

@@ -1,5 +1,4 @@
 use Rattle.table.specs.Contents.{contents}
-use Rattle.table.specs.Tables.{tables}
 use Rattle.report.proofs.KeyNames.{MarkingKeys}
 use Rattle.report.proofs.keys.mark_object_keys.Given as goal
 

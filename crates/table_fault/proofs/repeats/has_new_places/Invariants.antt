@@ -1,4 +1,3 @@
-use Prim.Native.Nat.{◌-◌}
 use Rattle.table_fault.proofs.Earlier.{Unused}
 use Rattle.table_fault.proofs.repeats.has_new_places.Given as goal
 

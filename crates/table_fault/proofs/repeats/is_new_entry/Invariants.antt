@@ -1,4 +1,3 @@
-use Prim.Native.Nat.{◌-◌}
 use Rattle.table_fault.proofs.Earlier.{Unmet}
 use Rattle.table_fault.proofs.repeats.is_new_entry.Given as goal
 

@@ -1,4 +1,3 @@
-use Prim.Native.Nat.{◌-◌}
 use Rattle.table_fault.proofs.Earlier.{Differing}
 use Rattle.table_fault.proofs.repeats.is_new_name.Given as goal
 

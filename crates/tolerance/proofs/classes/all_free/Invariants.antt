@@ -1,4 +1,3 @@
-use Prim.Native.Nat.{◌-◌}
 use Rattle.tolerance.specs.code.Classes.{free}
 use Rattle.tolerance.specs.Tolerance.{num_order}
 use Rattle.tolerance.specs.code.Post.{ranges_by, classes_in}

@@ -1,4 +1,3 @@
-use Prim.Native.Nat.{◌-◌}
 use Rattle.tolerance.proofs.nodes.Joining.{Relabelling}
 use Rattle.tolerance.proofs.classes.relabel.Given as goal
 

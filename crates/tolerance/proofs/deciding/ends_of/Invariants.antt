@@ -1,5 +1,4 @@
 use Rattle.tolerance.proofs.nodes.Beginning.{EndsMade}
-use Prim.Native.Nat.{◌-◌}
 use Rattle.tolerance.proofs.deciding.ends_of.Given as goal
 
 abbrev pub invariant-loop-n : goal.invariant-loop-n

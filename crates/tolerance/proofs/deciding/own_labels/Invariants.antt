@@ -1,5 +1,4 @@
 use Rattle.tolerance.proofs.nodes.Beginning.{Labelling}
-use Prim.Native.Nat.{◌-◌}
 use Rattle.tolerance.proofs.deciding.own_labels.Given as goal
 
 abbrev pub invariant-loop-n : goal.invariant-loop-n

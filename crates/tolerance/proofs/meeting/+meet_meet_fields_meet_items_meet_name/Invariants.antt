@@ -2,7 +2,6 @@ use Rattle.table.specs.Contents.{contents}
 use Rattle.tolerance.proofs.nodes.MeetNodes.{MeetingItems, MeetingFields}
 use Prim.Native.Nat.{◌+◌, ◌-◌, ◌*◌}
 use mathlib.Core.Bool.{cond}
-use Rattle.table.specs.Tables.{tables}
 use Rattle.tolerance.proofs.meeting.+meet_meet_fields_meet_items_meet_name.Given as goal
 
 abbrev pub decreases-meet : goal.decreases-meet

@@ -1,5 +1,4 @@
 use Rattle.tolerance.proofs.nodes.Beginning.{Knowing}
-use Prim.Native.Nat.{◌-◌}
 use Rattle.tolerance.proofs.names.known_values.Given as goal
 
 abbrev pub invariant-loop-i : goal.invariant-loop-i

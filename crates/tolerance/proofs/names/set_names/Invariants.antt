@@ -1,5 +1,4 @@
 use Rattle.tolerance.proofs.nodes.Beginning.{Setting}
-use Prim.Native.Nat.{◌-◌}
 use Rattle.tolerance.proofs.names.set_names.Given as goal
 
 abbrev pub invariant-loop-i : goal.invariant-loop-i

@@ -1,7 +1,6 @@
 use Rattle.table.specs.Contents.{contents}
 use Rattle.tolerance.proofs.nodes.RangeTests.{Ranging}
 use Prim.Native.Nat.{◌-◌}
-use Rattle.table.specs.Tables.{tables}
 use Rattle.tolerance.proofs.ranges.+numbers_ok.Given as goal
 
 abbrev pub decreases-numbers_ok : goal.decreases-numbers_ok

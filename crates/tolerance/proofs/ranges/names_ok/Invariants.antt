@@ -1,7 +1,5 @@
 use Rattle.table.specs.Contents.{contents}
 use Rattle.tolerance.proofs.nodes.RangeTests.{Giving}
-use Prim.Native.Nat.{◌-◌}
-use Rattle.table.specs.Tables.{tables}
 use Rattle.tolerance.proofs.ranges.names_ok.Given as goal
 
 abbrev pub invariant-loop-i : goal.invariant-loop-i

@@ -1,4 +1,3 @@
-use Prim.Native.Nat.{◌-◌}
 use Rattle.common_example.proofs.loops.graph.GraphLoops.{FillingTo}
 use Rattle.table.specs.Tables.{child_at}
 use Rattle.common_example.proofs.graph.key_order.copy_children.Given as goal

@@ -1,4 +1,4 @@
-use Rattle.common_example.proofs.loops.graph.KeyOrderLoops.{copying_start, words_fit, copying_place, copying_next, field_fits, key_fits, word_fits, copying_on, copying_ends}
+use Rattle.common_example.proofs.loops.graph.KeyOrderLoops.{copying_start, words_fit, copying_place, field_fits, key_fits, word_fits, copying_on, copying_ends}
 use borrow.Author.Rules.{rules}
 use Rattle.common_example.proofs.graph.key_order.copy_fields.Goals as goal
 
@@ -25,9 +25,6 @@ offset_bounds-entries-first c = search (copying_place, rules)
 
 pub bounds-entries-first : goal.bounds-entries-first
 bounds-entries-first c = search (copying_place, rules)
-
-pub overflow_add-j : goal.overflow_add-j
-overflow_add-j c = search (copying_next, rules)
 
 pub loop-j-preserved : goal.loop-j-preserved
 loop-j-preserved c = search (copying_on, rules)

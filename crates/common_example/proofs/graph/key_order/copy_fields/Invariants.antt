@@ -1,4 +1,3 @@
-use Prim.Native.Nat.{◌-◌}
 use Rattle.common_example.proofs.loops.graph.KeyOrderLoops.{Copying}
 use Rattle.common_example.proofs.graph.key_order.copy_fields.Given as goal
 

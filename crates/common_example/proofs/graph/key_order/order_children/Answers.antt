@@ -14,9 +14,6 @@ overflow_cast-n c = search (ordering_fits, rules)
 pub order_node-requires : goal.order_node-requires
 order_node-requires c = search (ordering_asks, rules)
 
-pub overflow_add-n-in-loop-n : goal.overflow_add-n-in-loop-n
-overflow_add-n-in-loop-n c = search (ordering_fits, rules)
-
 pub loop-n-preserved : goal.loop-n-preserved
 loop-n-preserved c = search (ordering_on, rules)
 

@@ -1,6 +1,4 @@
 use Rattle.table.specs.Contents.{contents}
-use Prim.Native.Nat.{◌-◌}
-use Rattle.table.specs.Tables.{tables}
 use Rattle.common_example.proofs.loops.graph.KeyOrderLoops.{Ordering}
 use Rattle.common_example.proofs.graph.key_order.order_children.Given as goal
 

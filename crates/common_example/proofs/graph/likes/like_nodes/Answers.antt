@@ -20,9 +20,6 @@ offset_bounds-like-i c = search (liking_place, rules)
 pub bounds-like-i : goal.bounds-like-i
 bounds-like-i c = search (liking_place, rules)
 
-pub overflow_add-i : goal.overflow_add-i
-overflow_add-i c = search (liking_place, rules)
-
 pub loop-i-preserved : goal.loop-i-preserved
 loop-i-preserved c = search (liking_on, rules)
 

@@ -1,4 +1,3 @@
-use Prim.Native.Nat.{◌-◌}
 use Rattle.table.specs.Decode.{literal_node}
 use Rattle.common_example.proofs.loops.graph.LikeLoops.{Liking}
 use Rattle.common_example.proofs.graph.likes.like_nodes.Given as goal

@@ -20,9 +20,6 @@ offset_bounds-places-i c = search (placing_place, rules)
 pub bounds-places-i : goal.bounds-places-i
 bounds-places-i c = search (placing_place, rules)
 
-pub overflow_add-i-in-loop-i : goal.overflow_add-i-in-loop-i
-overflow_add-i-in-loop-i c = search (placing_place, rules)
-
 pub loop-i-preserved : goal.loop-i-preserved
 loop-i-preserved c = search (placing_on, rules)
 

@@ -1,6 +1,4 @@
 use Rattle.table.specs.Contents.{contents}
-use Prim.Native.Nat.{◌-◌}
-use Rattle.table.specs.Tables.{tables}
 use Rattle.common_example.proofs.loops.graph.PlaceLaws.{Placing}
 use Rattle.common_example.proofs.graph.node_places.side_places.Given as goal
 

@@ -1,4 +1,3 @@
-use Prim.Native.Nat.{◌-◌}
 use Rattle.common_example.proofs.loops.graph.GraphLoops.{HeadsFilling}
 use Rattle.common_example.proofs.graph.words.head_words.Given as goal
 

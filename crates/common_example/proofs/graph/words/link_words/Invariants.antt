@@ -1,4 +1,3 @@
-use Prim.Native.Nat.{◌-◌}
 use Rattle.common_example.proofs.loops.graph.GraphLoops.{FillingTo}
 use Rattle.common_example.specs.code.arrays.Arrays.{link_word}
 use Rattle.common_example.proofs.graph.words.link_words.Given as goal

@@ -1,4 +1,3 @@
-use Prim.Native.Nat.{◌-◌}
 use Rattle.run.proofs.Checking.{Listing}
 use Rattle.run.proofs.inner.checks.values_listed.Given as goal
 

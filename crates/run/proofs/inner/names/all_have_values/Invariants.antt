@@ -1,4 +1,3 @@
-use Prim.Native.Nat.{◌-◌}
 use Rattle.scope.specs.Scope.{is_unbound}
 use Rattle.run.proofs.Valued.{Having}
 use Rattle.run.proofs.inner.names.all_have_values.Given as goal

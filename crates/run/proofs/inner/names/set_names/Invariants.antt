@@ -1,4 +1,3 @@
-use Prim.Native.Nat.{◌-◌}
 use Rattle.run.proofs.Valued.{Setting}
 use Rattle.run.proofs.inner.names.set_names.Given as goal
 

@@ -1,4 +1,3 @@
-use Prim.Native.Nat.{◌-◌}
 use Rattle.run.proofs.Valued.{Starting}
 use Rattle.run.proofs.inner.names.start_list.Given as goal
 

@@ -1,9 +1,6 @@
 use Rattle.operation.proofs.RowLaws.{row_is, row_table}
 use borrow.Author.Rules.{rules}
-use Rattle.operation.proofs.row.row_of.Goals as goal
-
-pub returns-in-Planned : goal.returns-in-Planned
-returns-in-Planned c = search (row_is, rules)
+use Rattle.operation.proofs.row.refusal_row.Goals as goal
 
 pub returns-in-TableRefused : goal.returns-in-TableRefused
 returns-in-TableRefused c = search (row_table, rules)
