@@ -10,7 +10,8 @@ use Rattle.base.specs.Refusal.{Line, line, tested_or, tested_line, Tested, passe
 use Rattle.base.specs.Refusal as Tested
 use Rattle.scope.specs.declared.Scope.{Scope}
 use Rattle.scope.specs.declared.ScopingMode.{ScopingMode}
-use Rattle.scope.specs.declared.Converted.{Converted}
+use Rattle.scope.specs.declared.MarkOutside.{MarkOutside}
+use Rattle.std.specs.Prelude.{Result}
 use Rattle.scope.specs.Bytes.{ConvertedFrom, conversion_of}
 use Rattle.table.specs.Tables.{Tables}
 use Rattle.table.specs.Decode.{expr}
@@ -41,7 +42,7 @@ use Rattle.first_miss.specs.Answer.{MissResult, turned_back_lem, no_match_lem, r
 use Rattle.first_miss.specs.Operations.{carried_result, after_checks, miss_found, miss_result, MissTold}
 use Rattle.first_miss.proofs.Answered.{no_fault, result_is}
 use Rattle.first_miss.proofs.Promised.{promised}
-use Rattle.c_calls.specs.Given.{byte_scope_of, scope_of, pattern_numbers, given_first, GivenTold}
+use Rattle.c_calls.specs.Given.{byte_scope_of, scope_of, given_scope, pattern_numbers, given_first, GivenTold}
 use Rattle.c_calls.specs.Calls.{ran_line}
 use Rattle.c_calls.specs.Misses.{why_number, miss_line, miss_call, MissCalled}
 use Rattle.c_calls.proofs.Shortness.{ShortRun, run_outcome_short}
@@ -109,8 +110,8 @@ pub miss_fits : (T : Tables) (s : Scope) (mode : ScopingMode) (pattern value : �
 miss_fits T s mode pattern value {values} t is = subst ShortLine (sym (is ∙ ap miss_line t.answer)) (miss_short T s mode pattern value values)
 
 -- 3. The call
-module _ (T : Tables) (marks : List ℕ) (scheduler scoping pattern : ℕ) {o : OperationNumbers} (asked : o ≡ pattern_numbers scheduler scoping pattern) {made : Converted}
-    (from : ConvertedFrom (byte_scope_of marks scheduler) made) {before : ℕ} (told : GivenTold T (conversion_of made.answer) o before) (value : ℕ) (values : List ℕ) where
+module _ (T : Tables) (marks : List ℕ) (scheduler scoping pattern : ℕ) {o : OperationNumbers} (asked : o ≡ pattern_numbers scheduler scoping pattern) {made : Result Scope MarkOutside}
+    (from : ConvertedFrom (byte_scope_of marks scheduler) made) {before : ℕ} (told : GivenTold T (conversion_of made) o before) (value : ℕ) (values : List ℕ) where
   pub miss_refused : {words wordsExit : List ℕ} {r : ℕ} → (before ≡ 0 → ⊥) → Told (line before 0 0 0) words wordsExit r → MissCalled (miss_call T marks scheduler scoping pattern value values) words wordsExit r
   miss_refused {words} {wordsExit} {r} some done = go (given_first T marks (pattern_numbers scheduler scoping pattern)) refl
     where
@@ -120,11 +121,11 @@ module _ (T : Tables) (marks : List ℕ) (scheduler scoping pattern : ℕ) {o : 
           let q : miss_call T marks scheduler scoping pattern value values ≡ turned_back_lem x = ap (λ (t : Tested). tested_or turned_back_lem t (miss_result T (scope_of marks scheduler) (scoping_of scoping) pattern value values)) is in
           record { answer = subst (λ (l : Line). Told l words wordsExit r) (pattern_first T marks scheduler scoping pattern asked from told ∙ (ap tested_line is ∙ sym (ap miss_line q))) done }
 
-  pub miss_done : {words wordsExit : List ℕ} {mode : ScopingMode} {answer : MissAnswer} {row : Row} {r : ℕ} → before ≡ 0 → mode ≡ scoping_of scoping
-      → MissTold T made.scope mode pattern value values answer → row_line row ≡ miss_line (miss_result_of answer) → Told (row_line row) words wordsExit r
+  pub miss_done : {words wordsExit : List ℕ} {mode : ScopingMode} {answer : MissAnswer} {row : Row} {r : ℕ} {s : Scope} → before ≡ 0 → s ≡ given_scope made → mode ≡ scoping_of scoping
+      → MissTold T s mode pattern value values answer → row_line row ≡ miss_line (miss_result_of answer) → Told (row_line row) words wordsExit r
       → MissCalled (miss_call T marks scheduler scoping pattern value values) words wordsExit r
-  miss_done {words} {wordsExit} {r = r} none m t is done =
-      let was = rw (pattern_scope T marks scheduler scoping pattern asked from told none, m) at t in
+  miss_done {words} {wordsExit} {r = r} none given m t is done =
+      let was = rw (pattern_scope T marks scheduler scoping pattern asked from told none given, m) at t in
       let q : miss_call T marks scheduler scoping pattern value values ≡ miss_result T (scope_of marks scheduler) (scoping_of scoping) pattern value values =
       ap (λ (t : Tested). tested_or turned_back_lem t (miss_result T (scope_of marks scheduler) (scoping_of scoping) pattern value values)) (pattern_passed T marks scheduler scoping pattern asked from told none) in
       record { answer = subst (λ (l : Line). Told l words wordsExit r) (is ∙ (ap miss_line was.answer ∙ sym (ap miss_line q))) done }

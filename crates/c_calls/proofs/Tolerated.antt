@@ -11,7 +11,8 @@ use Rattle.base.specs.Refusal.{plan_too_large, require_or, Line, line, tested_or
 use Rattle.base.specs.Refusal as Tested
 use Rattle.scope.specs.declared.Scope.{Scope}
 use Rattle.scope.specs.declared.ScopingMode.{ScopingMode}
-use Rattle.scope.specs.declared.Converted.{Converted}
+use Rattle.scope.specs.declared.MarkOutside.{MarkOutside}
+use Rattle.std.specs.Prelude.{Result}
 use Rattle.scope.specs.Bytes.{ConvertedFrom, conversion_of}
 use Rattle.table.specs.Tables.{Tables}
 use Rattle.planner.specs.Layout.{top, entries}
@@ -33,7 +34,7 @@ use Rattle.tolerance.specs.Answer.{turned_back_lem, answers, refused_by, toleran
 use Rattle.tolerance.specs.Operations as Tolerance
 use Rattle.tolerance.specs.Operations.{ToleranceOutcome, judged, after_checks, with_lowest, ranges_ok, tolerance_outcome, tolerance_result, plan_left, values_left, is_judged, Judged}
 use Rattle.run.proofs.Refusing.{run_passed, Verdict, verdict}
-use Rattle.c_calls.specs.Given.{byte_scope_of, scope_of, pattern_numbers, given_first, GivenTold}
+use Rattle.c_calls.specs.Given.{byte_scope_of, scope_of, given_scope, pattern_numbers, given_first, GivenTold}
 use Rattle.c_calls.specs.Calls.{ran_line, names_set}
 use Rattle.c_calls.specs.Tolerating.{tolerance_line, tolerance_call, Tolerated}
 use Rattle.c_calls.proofs.Shortness.{ShortRun, run_outcome_short}
@@ -91,8 +92,8 @@ tolerance_fits T s mode pattern value {values} {lows} {highs} {buffer} j is =
     subst ShortLine (sym (is ∙ ap tolerance_line j.told)) (tolerance_short T s mode pattern value values lows highs j.answer buffer)
 
 -- 3. The call
-module _ (T : Tables) (marks : List ℕ) (scheduler scoping pattern : ℕ) {o : OperationNumbers} (asked : o ≡ pattern_numbers scheduler scoping pattern) {made : Converted}
-    (from : ConvertedFrom (byte_scope_of marks scheduler) made) {before : ℕ} (told : GivenTold T (conversion_of made.answer) o before) (value : ℕ) {values lows highs buffer : List ℕ} where
+module _ (T : Tables) (marks : List ℕ) (scheduler scoping pattern : ℕ) {o : OperationNumbers} (asked : o ≡ pattern_numbers scheduler scoping pattern) {made : Result Scope MarkOutside}
+    (from : ConvertedFrom (byte_scope_of marks scheduler) made) {before : ℕ} (told : GivenTold T (conversion_of made) o before) (value : ℕ) {values lows highs buffer : List ℕ} where
   pub tolerance_refused : {bufferExit words wordsExit : List ℕ} {r : ℕ} → (before ≡ 0 → ⊥) → bufferExit ≡ replicate (length buffer) 0 → Told (line before 0 0 0) words wordsExit r
       → Tolerated T marks scheduler scoping pattern value values lows highs buffer words values bufferExit wordsExit r
   unfolding tolerance_result plan_left values_left
@@ -111,11 +112,11 @@ module _ (T : Tables) (marks : List ℕ) (scheduler scoping pattern : ℕ) {o : 
             list = sym (ap (λ (o : ToleranceOutcome). values_left (names_set T marks scheduler scoping pattern) o buffer values) q);
           }
 
-  pub tolerance_done : {valuesExit bufferExit words wordsExit : List ℕ} {mode : ScopingMode} {answer : ToleranceAnswer} {row : Row} {r : ℕ} → before ≡ 0 → mode ≡ scoping_of scoping
-      → Judged T made.scope mode pattern value values lows highs buffer valuesExit bufferExit answer → row_line row ≡ tolerance_line (tolerance_result_of answer) → Told (row_line row) words wordsExit r
+  pub tolerance_done : {valuesExit bufferExit words wordsExit : List ℕ} {mode : ScopingMode} {answer : ToleranceAnswer} {row : Row} {r : ℕ} {s : Scope} → before ≡ 0 → s ≡ given_scope made → mode ≡ scoping_of scoping
+      → Judged T s mode pattern value values lows highs buffer valuesExit bufferExit answer → row_line row ≡ tolerance_line (tolerance_result_of answer) → Told (row_line row) words wordsExit r
       → Tolerated T marks scheduler scoping pattern value values lows highs buffer words valuesExit bufferExit wordsExit r
-  tolerance_done {valuesExit} {bufferExit} {words} {wordsExit} {r = r} none m j is done =
-      let was = rw (pattern_scope T marks scheduler scoping pattern asked from told none, m) at j in
+  tolerance_done {valuesExit} {bufferExit} {words} {wordsExit} {r = r} none given m j is done =
+      let was = rw (pattern_scope T marks scheduler scoping pattern asked from told none given, m) at j in
       let q : tolerance_call T marks scheduler scoping pattern value values lows highs was.answer ≡ tolerance_outcome T (scope_of marks scheduler) (scoping_of scoping) pattern value values lows highs was.answer =
       ap (λ (t : Tested). tested_or Tolerance.refused t (tolerance_outcome T (scope_of marks scheduler) (scoping_of scoping) pattern value values lows highs was.answer)) (pattern_passed T marks scheduler scoping pattern asked from told none) in
       record {

@@ -9,7 +9,7 @@ ghost use Rattle.operation.specs.Rows.{row_line};
 ghost use Rattle.body.specs.Body.{body_line, body_line_of};
 ghost use Rattle.c_calls.specs.Bodies.{words_first, marks_first, marks_in, ToldBody, BodyCalledIn};
 
-use crate::given::{conversion_number, scope_of};
+use crate::given::{conversion_number, given_scope, scope_of};
 use body::lines::is_body;
 use body::{BodyRefusal, plan_body};
 use operation::inner::{put_word, tell};
@@ -124,13 +124,12 @@ pub fn teluddru_plan_body(
         return tell_body(answer, row_from(unread as u64, 0, 0, 0), 0);
     }
     let made = scope_of(marks, scheduler);
-    let converted = made.answer;
-    let scope = made.scope;
-    let before = marks_first(tables, converted);
+    let before = marks_first(tables, made);
     if before != 0 {
         clear(plan);
         return tell_body(answer, row_from(before as u64, 0, 0, 0), 1);
     }
+    let scope = given_scope(made);
     let done = plan_body(tables, scope, lines, plan);
     let reached = done.answer;
     let after = done.scope;

@@ -7,7 +7,7 @@ ghost use Rattle.first_miss.specs.Answer.{no_match_lem, miss_result_of};
 ghost use Rattle.c_calls.specs.Misses.{why_number, miss_line, MissCalledIn};
 
 use crate::answer::{refuse, run_row};
-use crate::given::{pattern_numbers, refused_first, scope_of};
+use crate::given::{given_scope, pattern_numbers, refused_first, scope_of};
 use first_miss::{Miss, MissAnswer, Why, first_miss};
 use operation::inner::tell;
 use operation::numbers::scoping_of;
@@ -65,6 +65,7 @@ pub fn teluddru_first_miss(
     if before != 0 {
         return refuse(answer, before);
     }
+    let scope = given_scope(made);
     let missed = first_miss(tables, scope, scoping_of(scoping), pattern, value, values);
     tell(answer, miss_row(missed))
 }
