@@ -8,8 +8,8 @@ ghost use Rattle.std.specs.Prelude.{◌≡◌, ◌<◌, length};
 use operation::{Operation, REGO_V0};
 use planner::PlanAnswer;
 use planner::buffer::ENTRY_WORDS;
-use report::ReportAnswer;
-use run::RunAnswer;
+use report::ReportRefusal;
+use run::{RunAnswer, RunRefusal};
 use scope::{Scope, ScopingMode};
 use std::io;
 use teluddru::Name;
@@ -88,7 +88,7 @@ fn plan_rule(plan: &mut [u32]) -> PlanAnswer {
     )
 }
 
-fn report_names(list: &mut [u32]) -> ReportAnswer {
+fn report_names(list: &mut [u32]) -> Result<(), ReportRefusal> {
     let nodes = nodes();
     calls::names_report(
         &nodes,
@@ -104,7 +104,7 @@ fn report_names(list: &mut [u32]) -> ReportAnswer {
     )
 }
 
-fn run_on(value: u32, values: &mut [u32], plan: &mut [u32]) -> RunAnswer {
+fn run_on(value: u32, values: &mut [u32], plan: &mut [u32]) -> Result<RunAnswer, RunRefusal> {
     let nodes = nodes();
     calls::run(
         &nodes,
@@ -160,8 +160,8 @@ fn print_plan(rt: &impl Print) -> io::Result<()> {
 fn print_report(rt: &impl Print) -> io::Result<()> {
     let mut list = [0u32; 1];
     match report_names(&mut list) {
-        ReportAnswer::Reported => print(rt, b"reported, w")?,
-        _ => print(rt, b"refused, w")?,
+        Ok(()) => print(rt, b"reported, w")?,
+        Err(_) => print(rt, b"refused, w")?,
     }
     print_word(rt, list[0])?;
     print(rt, b"\n")
@@ -172,9 +172,9 @@ fn print_run(rt: &impl Print, value: u32) -> io::Result<()> {
     let mut values = [0u32; 1];
     let mut plan = [0u32; 3 * ENTRY_WORDS];
     match run_on(value, &mut values, &mut plan) {
-        RunAnswer::Match => print(rt, b"match, w")?,
-        RunAnswer::NoMatch => print(rt, b"no match, w")?,
-        _ => print(rt, b"refused, w")?,
+        Ok(RunAnswer::Match) => print(rt, b"match, w")?,
+        Ok(RunAnswer::NoMatch) => print(rt, b"no match, w")?,
+        Err(_) => print(rt, b"refused, w")?,
     }
     print_word(rt, values[0])?;
     print(rt, b"\n")

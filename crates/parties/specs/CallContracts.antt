@@ -1,5 +1,5 @@
 -- What a function gives that meets its contract is what `seen`, `scope_after_call` and `shared_after` say of its call.
-use Rattle.std.specs.Prelude.{ℕ, ◌≡◌, List}
+use Rattle.std.specs.Prelude.{ℕ, ◌≡◌, Result, List}
 use Rattle.scope.specs.declared.Scope.{Scope}
 use Rattle.scope.specs.declared.ScopingMode.{ScopingMode}
 use Rattle.scope.specs.declared.Changed.{Changed}
@@ -13,9 +13,10 @@ use Rattle.operation.specs.Version.{version_outcome}
 use Rattle.body.specs.declared.BodyPlanned.{BodyPlanned}
 use Rattle.body.specs.Body.{body_outcome, body_line_of, BodyAnswered}
 use Rattle.run.specs.declared.RunAnswer.{RunAnswer}
+use Rattle.run.specs.declared.RunRefusal.{RunRefusal}
 use Rattle.run.specs.Answer.{result_of}
 use Rattle.run.specs.Operations.{run_outcome, planned_name, Ran}
-use Rattle.report.specs.declared.ReportAnswer.{ReportAnswer}
+use Rattle.report.specs.declared.ReportRefusal.{ReportRefusal}
 use Rattle.report.specs.Answer.{report_line}
 use Rattle.report.specs.Report.{ReportedBy}
 use Rattle.name_table.specs.declared.NameAnswer.{NameAnswer}
@@ -31,11 +32,11 @@ pub record ByContract (m : Shared) (s : Scope) : Type 0 where
   pub bodies : (lines before after : List ℕ) (r : BodyPlanned) → BodyAnswered (body_outcome (lent_tables m) s lines before) s before after r
       → (body_planned_lem (body_line_of r.answer) after ≡ seen (body lines before) m s) × (r.scope ≡ scope_after_call (body lines before) m s)
   -- run::run
-  pub runs : (mode : ScopingMode) (pattern value : ℕ) (values buffer valuesExit bufferExit : List ℕ) (r : RunAnswer)
+  pub runs : (mode : ScopingMode) (pattern value : ℕ) (values buffer valuesExit bufferExit : List ℕ) (r : Result RunAnswer RunRefusal)
       → Ran (planned_name (known s mode) (expr (lent_tables m) pattern)) (run_outcome (lent_tables m) s mode pattern value values) values buffer valuesExit bufferExit r
       → ran (result_of r) valuesExit bufferExit ≡ seen (run mode pattern value values buffer) m s
   -- report::names_report
-  pub reports : (mode : ScopingMode) (pattern : ℕ) (before after : List ℕ) (r : ReportAnswer) → ReportedBy (lent_tables m) s mode pattern before after r
+  pub reports : (mode : ScopingMode) (pattern : ℕ) (before after : List ℕ) (r : Result Unit ReportRefusal) → ReportedBy (lent_tables m) s mode pattern before after r
       → reported (report_line r) after ≡ seen (report mode pattern before) m s
   -- Scope::bind_variable, add_unbound_variable, child
   pub binds : (x : ℕ) (r : Changed) → Called x (bind_variable s x) r → (scoped (call_of r.answer) ≡ seen (bind x) m s) × (r.scope ≡ scope_after_call (bind x) m s)

@@ -14,10 +14,11 @@ ghost use Rattle.std.specs.Prelude.{◌≤◌, ◌≡◌, length};
 
 use input::read_full;
 use parse::{NO_NODE, Parsed, STRINGS, byte_at, parse};
-use report::{ReportAnswer, names_report};
-use run::{RunAnswer, run};
+use report::{ReportRefusal, names_report};
+use run::{RunAnswer, RunRefusal, run};
 use scope::{ByteScope, Scope, ScopingMode};
 use std::io;
+use table::tables::Tables;
 use table::{TableRefusal, refusal_number};
 
 mod parse;
@@ -135,19 +136,27 @@ fn start_list(parsed: Parsed, names: usize) -> [u32; 16]
     list
 }
 
-fn carried_out(line: &[u8], parsed: Parsed, list: &mut [u32], plan: &mut [u32]) -> RunAnswer {
+fn carried_out(
+    line: &[u8],
+    parsed: Parsed,
+    list: &mut [u32],
+    plan: &mut [u32],
+) -> Result<RunAnswer, RunRefusal> {
     let nodes = parsed.nodes;
     let children = parsed.children;
     let numbers = parsed.numbers;
     let names = names();
     let stack = parsed.stack;
+    let tables = Tables {
+        nodes: words(&nodes, parsed.node_words),
+        children: words(&children, parsed.child_count),
+        numbers: numbers_of(&numbers, parsed.number_words),
+        names: words(&names, number_at(line, 13) * 2),
+        strings: &STRINGS,
+        text: line,
+    };
     run(
-        words(&nodes, parsed.node_words),
-        words(&children, parsed.child_count),
-        numbers_of(&numbers, parsed.number_words),
-        words(&names, number_at(line, 13) * 2),
-        &STRINGS,
-        line,
+        &tables,
         scope_of(line),
         scoping_of(line),
         stack[0],
@@ -157,24 +166,21 @@ fn carried_out(line: &[u8], parsed: Parsed, list: &mut [u32], plan: &mut [u32]) 
     )
 }
 
-fn reported(line: &[u8], parsed: Parsed, list: &mut [u32]) -> ReportAnswer {
+fn reported(line: &[u8], parsed: Parsed, list: &mut [u32]) -> Result<(), ReportRefusal> {
     let nodes = parsed.nodes;
     let children = parsed.children;
     let numbers = parsed.numbers;
     let names = names();
     let stack = parsed.stack;
-    names_report(
-        words(&nodes, parsed.node_words),
-        words(&children, parsed.child_count),
-        numbers_of(&numbers, parsed.number_words),
-        words(&names, number_at(line, 13) * 2),
-        &STRINGS,
-        line,
-        scope_of(line),
-        scoping_of(line),
-        stack[0],
-        list,
-    )
+    let tables = Tables {
+        nodes: words(&nodes, parsed.node_words),
+        children: words(&children, parsed.child_count),
+        numbers: numbers_of(&numbers, parsed.number_words),
+        names: words(&names, number_at(line, 13) * 2),
+        strings: &STRINGS,
+        text: line,
+    };
+    names_report(&tables, scope_of(line), scoping_of(line), stack[0], list)
 }
 
 fn print_text(rt: &impl Print, text: &[u8]) -> io::Result<()> {
@@ -194,26 +200,26 @@ fn number_of(answer: TableRefusal) -> u64 {
     refusal_number(answer) as u64
 }
 
-fn print_run(rt: &impl Print, answer: RunAnswer) -> io::Result<()> {
+fn print_run(rt: &impl Print, answer: Result<RunAnswer, RunRefusal>) -> io::Result<()> {
     match answer {
-        RunAnswer::Match => print_text(rt, b"match"),
-        RunAnswer::NoMatch => print_text(rt, b"no match"),
-        RunAnswer::TableRefused(of) => print_refusal(rt, number_of(of)),
-        RunAnswer::RootOutside => print_refusal(rt, 5),
-        RunAnswer::ListTooShort => print_refusal(rt, 20),
-        RunAnswer::PatternNotSimple => print_refusal(rt, 21),
-        RunAnswer::NotAValue => print_refusal(rt, 22),
-        RunAnswer::NameWithoutValue => print_refusal(rt, 23),
-        RunAnswer::PlanTooLarge { needed } => print_needed(rt, needed),
+        Ok(RunAnswer::Match) => print_text(rt, b"match"),
+        Ok(RunAnswer::NoMatch) => print_text(rt, b"no match"),
+        Err(RunRefusal::TableRefused(of)) => print_refusal(rt, number_of(of)),
+        Err(RunRefusal::RootOutside) => print_refusal(rt, 5),
+        Err(RunRefusal::ListTooShort) => print_refusal(rt, 20),
+        Err(RunRefusal::PatternNotSimple) => print_refusal(rt, 21),
+        Err(RunRefusal::NotAValue) => print_refusal(rt, 22),
+        Err(RunRefusal::NameWithoutValue) => print_refusal(rt, 23),
+        Err(RunRefusal::PlanTooLarge { needed }) => print_needed(rt, needed),
     }
 }
 
-fn print_report(rt: &impl Print, answer: ReportAnswer) -> io::Result<()> {
+fn print_report(rt: &impl Print, answer: Result<(), ReportRefusal>) -> io::Result<()> {
     match answer {
-        ReportAnswer::Reported => print_text(rt, b"reported"),
-        ReportAnswer::TableRefused(of) => print_refusal(rt, number_of(of)),
-        ReportAnswer::RootOutside => print_refusal(rt, 5),
-        ReportAnswer::ListTooShort => print_refusal(rt, 20),
+        Ok(()) => print_text(rt, b"reported"),
+        Err(ReportRefusal::TableRefused(of)) => print_refusal(rt, number_of(of)),
+        Err(ReportRefusal::RootOutside) => print_refusal(rt, 5),
+        Err(ReportRefusal::ListTooShort) => print_refusal(rt, 20),
     }
 }
 
