@@ -23,11 +23,13 @@ use Rattle.planner.specs.Answer.{line_of}
 use Rattle.planner.specs.Operations as Plan
 use Rattle.planner.specs.Operations.{Outcome, answered, written, Answered}
 use Rattle.planner.specs.Short.{ShortLine}
+use Rattle.std.proofs.Common.{Result}
 use Rattle.run.specs.declared.RunAnswer.{RunAnswer}
+use Rattle.run.specs.declared.RunRefusal.{RunRefusal}
 use Rattle.run.specs.Answer.{result_of}
 use Rattle.run.specs.Operations as Run
 use Rattle.run.specs.Operations.{RunOutcome, run_outcome, run_answer, plan_after, planned_name, values_after, Ran}
-use Rattle.report.specs.declared.ReportAnswer.{ReportAnswer}
+use Rattle.report.specs.declared.ReportRefusal.{ReportRefusal}
 use Rattle.report.specs.Answer.{report_line}
 use Rattle.report.specs.Report.{ReportedBy}
 use Rattle.operation.specs.declared.Operation.{Operation}
@@ -61,7 +63,7 @@ pub run_fits :
     (pattern value : ℕ)
     {names : ℕ → Bool}
     {values buffer valuesExit bufferExit : List ℕ}
-    {answer : RunAnswer}
+    {answer : Result RunAnswer RunRefusal}
     {row : Row}
     → Ran names (run_outcome T s mode pattern value values) values buffer valuesExit bufferExit answer
     → row_line row ≡ ran_line (result_of answer)
@@ -75,7 +77,7 @@ pub report_fits :
     (mode : ScopingMode)
     (root : ℕ)
     {before after : List ℕ}
-    {answer : ReportAnswer}
+    {answer : Result Unit ReportRefusal}
     {row : Row}
     → ReportedBy T s mode root before after answer
     → row_line row ≡ report_line answer
@@ -195,7 +197,7 @@ module _ (T : Tables) (marks : List ℕ) (scheduler scoping pattern : ℕ) {o : 
       (value : ℕ)
       {values buffer valuesExit bufferExit words wordsExit : List ℕ}
       {mode : ScopingMode}
-      {answer : RunAnswer}
+      {answer : Result RunAnswer RunRefusal}
       {row : Row}
       {r : ℕ}
       {s : Scope}
@@ -227,7 +229,7 @@ module _ (T : Tables) (marks : List ℕ) (scheduler scoping pattern : ℕ) {o : 
   pub report_done :
       {list after words wordsExit : List ℕ}
       {mode : ScopingMode}
-      {answer : ReportAnswer}
+      {answer : Result Unit ReportRefusal}
       {row : Row}
       {r : ℕ}
       {s : Scope}

@@ -1,8 +1,8 @@
 // The three calls of teluddru for a rule of one name, lent as a table of one record.
 use operation::Operation;
 use planner::{Plan, PlanRefusal};
-use report::ReportAnswer;
-use run::RunAnswer;
+use report::ReportRefusal;
+use run::{RunAnswer, RunRefusal};
 use scope::{Scope, ScopingMode};
 use teluddru::Name;
 
@@ -35,7 +35,7 @@ pub(crate) fn names_report<'a>(
     scoping: ScopingMode,
     pattern: u32,
     list: &mut [u32],
-) -> ReportAnswer {
+) -> Result<(), ReportRefusal> {
     let names = [name];
     teluddru::names_report(
         nodes, children, numbers, &names, strings, text, scope, scoping, pattern, list,
@@ -55,7 +55,7 @@ pub(crate) fn run<'a>(
     value: u32,
     values: &mut [u32],
     plan: &mut [u32],
-) -> RunAnswer {
+) -> Result<RunAnswer, RunRefusal> {
     let names = [name];
     teluddru::run(
         nodes, children, numbers, &names, strings, text, scope, scoping, pattern, value, values,

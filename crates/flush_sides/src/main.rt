@@ -6,8 +6,8 @@ mod calls;
 use operation::{Operation, REGO_V0};
 use planner::{Plan, PlanRefusal};
 use planner::buffer::ENTRY_WORDS;
-use report::ReportAnswer;
-use run::RunAnswer;
+use report::ReportRefusal;
+use run::{RunAnswer, RunRefusal};
 use scope::{Scope, ScopingMode};
 use std::io;
 use teluddru::Name;
@@ -68,7 +68,7 @@ fn plan_rule(plan: &mut [u32]) -> Result<Plan, PlanRefusal> {
     )
 }
 
-fn report_names(list: &mut [u32]) -> ReportAnswer {
+fn report_names(list: &mut [u32]) -> Result<(), ReportRefusal> {
     let nodes = NODES.as_flattened();
     calls::names_report(
         nodes,
@@ -84,7 +84,7 @@ fn report_names(list: &mut [u32]) -> ReportAnswer {
     )
 }
 
-fn run_on(value: u32, values: &mut [u32], plan: &mut [u32]) -> RunAnswer {
+fn run_on(value: u32, values: &mut [u32], plan: &mut [u32]) -> Result<RunAnswer, RunRefusal> {
     let nodes = NODES.as_flattened();
     calls::run(
         nodes,
@@ -127,8 +127,8 @@ fn print_plan(rt: &impl Print) -> io::Result<()> {
 fn print_report(rt: &impl Print) -> io::Result<()> {
     let mut list = [0u32; 1];
     let said = match report_names(&mut list) {
-        ReportAnswer::Reported => "reported",
-        _ => "refused",
+        Ok(()) => "reported",
+        Err(_) => "refused",
     };
     println!(rt; "{said}, w {}", list[0])
 }
@@ -138,9 +138,9 @@ fn print_run(rt: &impl Print, value: u32) -> io::Result<()> {
     let mut values = [0u32; 1];
     let mut plan = [0u32; 3 * ENTRY_WORDS];
     let said = match run_on(value, &mut values, &mut plan) {
-        RunAnswer::Match => "match",
-        RunAnswer::NoMatch => "no match",
-        _ => "refused",
+        Ok(RunAnswer::Match) => "match",
+        Ok(RunAnswer::NoMatch) => "no match",
+        Err(_) => "refused",
     };
     println!(rt; "{said}, w {}", values[0])
 }

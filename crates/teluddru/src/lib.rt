@@ -30,10 +30,10 @@ use common_example::sides::ScopedPattern;
 use name_table::{NameAnswer, NameRefusal};
 use operation::Operation;
 use planner::{Plan, PlanRefusal};
-use report::ReportAnswer;
-use run::RunAnswer;
+use report::ReportRefusal;
+use run::{RunAnswer, RunRefusal};
 use scope::{Scope, ScopingMode};
-use tolerance::ToleranceAnswer;
+use tolerance::{ToleranceAnswer, ToleranceRefusal};
 
 // A range of the rule text.
 #[derive(Clone, Copy)]
@@ -137,7 +137,7 @@ pub fn run<'a>(
     value: u32,
     values: &mut [u32],
     plan: &mut [u32],
-) -> RunAnswer
+) -> Result<RunAnswer, RunRefusal>
     ensures { RanIn values plan (lent_records nodes children numbers names strings text) scope scoping pattern value result }
 {
     run_words(
@@ -172,7 +172,7 @@ pub fn run_with_tolerance<'a>(
     lowest: &[u64],
     highest: &[u64],
     plan: &mut [u32],
-) -> ToleranceAnswer
+) -> Result<ToleranceAnswer, ToleranceRefusal>
     ensures { JudgedIn values lowest highest plan (lent_records nodes children numbers names strings text) scope scoping pattern value result }
 {
     tolerance_words(
@@ -239,7 +239,7 @@ pub fn names_report<'a>(
     scoping: ScopingMode,
     pattern: u32,
     list: &mut [u32],
-) -> ReportAnswer
+) -> Result<(), ReportRefusal>
     ensures { ReportedIn list (lent_records nodes children numbers names strings text) scope scoping pattern result }
 {
     report_words(

@@ -4,7 +4,7 @@ ghost use Rattle.report.specs.Report.{ReportedIn};
 ghost use Rattle.teluddru.specs.code.Copying.{lent_words};
 
 use crate::records::NameWords;
-use report::{ReportAnswer, names_report};
+use report::{ReportRefusal, names_report};
 use scope::{Scope, ScopingMode};
 use table::tables::Tables;
 
@@ -19,7 +19,7 @@ pub(crate) fn report_words<'a>(
     scoping: ScopingMode,
     pattern: u32,
     list: &mut [u32],
-) -> ReportAnswer
+) -> Result<(), ReportRefusal>
     requires { names.count ≤ 129 }
     ensures { ReportedIn list (lent_words nodes children numbers names strings text) scope scoping pattern result }
 {

@@ -4,7 +4,7 @@ ghost use Rattle.run.specs.Operations.{RanIn};
 ghost use Rattle.teluddru.specs.code.Copying.{lent_words};
 
 use crate::records::NameWords;
-use run::{RunAnswer, run};
+use run::{RunAnswer, RunRefusal, run};
 use scope::{Scope, ScopingMode};
 use table::tables::Tables;
 
@@ -21,7 +21,7 @@ pub(crate) fn run_words<'a>(
     value: u32,
     values: &mut [u32],
     plan: &mut [u32],
-) -> RunAnswer
+) -> Result<RunAnswer, RunRefusal>
     requires { names.count ≤ 129 }
     ensures { RanIn values plan (lent_words nodes children numbers names strings text) scope scoping pattern value result }
 {

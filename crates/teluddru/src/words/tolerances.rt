@@ -6,7 +6,7 @@ ghost use Rattle.tolerance.specs.Operations.{JudgedIn};
 use crate::records::NameWords;
 use scope::{Scope, ScopingMode};
 use table::tables::Tables;
-use tolerance::ToleranceAnswer;
+use tolerance::{ToleranceAnswer, ToleranceRefusal};
 
 pub(crate) fn tolerance_words<'a>(
     nodes: &[u32],
@@ -23,7 +23,7 @@ pub(crate) fn tolerance_words<'a>(
     lowest: &[u64],
     highest: &[u64],
     plan: &mut [u32],
-) -> ToleranceAnswer
+) -> Result<ToleranceAnswer, ToleranceRefusal>
     requires { names.count ≤ 129 }
     ensures { JudgedIn values lowest highest plan (lent_words nodes children numbers names strings text) scope scoping pattern value result }
 {
