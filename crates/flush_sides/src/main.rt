@@ -146,12 +146,8 @@ fn print_entries(rt: &impl Print, plan: &[u32]) -> io::Result<()> {
 fn print_plan(rt: &impl Print) -> io::Result<()> {
     let mut plan = [0u32; 3 * ENTRY_WORDS];
     match plan_rule(&mut plan) {
-        Ok(Plan {
-            form,
-            side,
-            entries,
-        }) => print(rt, b"planned\n")?,
-        _ => print(rt, b"refused\n")?,
+        Ok(_) => print(rt, b"planned\n")?,
+        Err(_) => print(rt, b"refused\n")?,
     }
     print_entries(rt, &plan)
 }
