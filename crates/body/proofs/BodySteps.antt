@@ -1,10 +1,10 @@
 -- The lines of a body in turn.
 use Prim.Native.Nat.{ℕ, suc, ◌+◌, ◌-◌, ◌%◌, ◌≤◌, ◌<◌}
 use mathlib.Core.Path.{◌≡◌, refl, sym, ap, subst, ◌∙◌}
-use mathlib.Core.Bool.{Bool, true, false, not, false≢true}
+use mathlib.Core.Bool.{Bool, true, false, false≢true}
 use mathlib.Core.List.{List, [], ◌∷◌}
 use native.Mathlib.Omega.{arith}
-use borrow.Author.Tests.{leb-true, not-true, not-false}
+use borrow.Author.Tests.{leb-true}
 use mir.Val.{Fits}
 use mir.Syntax.{w32}
 use lib.Dec.{eqb, leb}
@@ -12,7 +12,7 @@ use lib.ListN.{length, replicate}
 use Rattle.scope.specs.declared.Scope.{Scope}
 use Rattle.table.specs.Tables.{Tables}
 use Rattle.table.proofs.tests.Bools.{and_true}
-use Rattle.planner.specs.Operations.{Outcome, refused, planned, fits, written}
+use Rattle.planner.specs.Operations.{Outcome, refused, planned, written}
 use Rattle.planner.proofs.buffer.ReadBack.{written_long}
 use Rattle.operation.specs.declared.Operation.{Operation}
 use Rattle.operation.specs.Operation.{operation_outcome}
@@ -23,7 +23,7 @@ use Rattle.body.specs.declared.BodyRefusal.TheVariants.{NotABody}
 use Rattle.body.specs.declared.LinePlanned.{LinePlanned}
 use Rattle.body.specs.Lines.{line_words, line_count, line_at, lines_from, operations_of, is_body}
 use Rattle.body.specs.Body.{unless_too_large, unless_not_ready, line_outcome, bind_plan, BodyOutcome, accepted, unless_refused, body_from, no_plan, body_outcome, line_answered, body_answered, scope_after, body_written, body_line_of, BodyAnswered}
-use Rattle.body.specs.code.Post.{StatesOf, answer_of, scope_from, is_planned, LineDone}
+use Rattle.body.specs.code.Post.{StatesOf, line_answer, line_scope, is_planned, LineDone}
 
 -- of the buffer only the length counts
 module _ (b c : List ℕ) (long : length b ≡ length c) where
@@ -116,7 +116,7 @@ module _ {T : Tables} {s : Scope} {words before : List ℕ} {i : ℕ} {here : Sc
 
     pub line_ends : {x : BodyRefusal} → r ≡ Err x → BodyAnswered (body_outcome T s words before) s before later (record { answer = Err x; scope = s })
     unfolding body_answered scope_after body_written written
-    line_ends {x} met = subst (λ (q : BodyOutcome). BodyAnswered q s before later (record { answer = Err x; scope = s })) (sym whole) (by o (sym done.planned_is ∙ ap is_ok met) (sym (ap (λ (q : Result LinePlanned BodyRefusal). body_line_of (answer_of q)) met) ∙ done.answer) done.plan)
+    line_ends {x} met = subst (λ (q : BodyOutcome). BodyAnswered q s before later (record { answer = Err x; scope = s })) (sym whole) (by o (sym done.planned_is ∙ ap is_ok met) (sym (ap (λ (q : Result LinePlanned BodyRefusal). body_line_of (line_answer q)) met) ∙ done.answer) done.plan)
       where
         by : (q : Outcome) → is_planned q ≡ false → body_line_of (Err x) ≡ line_answered (i + 1) q → later ≡ written q before
             → BodyAnswered (unless_refused (i + 1) q (λ q. body_from T before (i + 1 + 1) (bind_plan T here q) q (lines_from words (i + 1) (line_count words - (i + 1))))) s before later (record { answer = Err x; scope = s })
@@ -124,13 +124,13 @@ module _ {T : Tables} {s : Scope} {words before : List ℕ} {i : ℕ} {here : Sc
         by (planned form which es) e a b = absurd (false≢true (sym e))
 
     pub line_goes_on : {p : LinePlanned} → r ≡ Ok p → BodyLeft T s words before (i + 1) p.scope (Ok p.plan) later learnt
-    line_goes_on {p} met = by o (sym done.planned_is ∙ ap is_ok met) (sym (ap (λ (q : Result LinePlanned BodyRefusal). body_line_of (answer_of q)) met) ∙ done.answer) (sym (ap (scope_from here) met) ∙ done.scope) done.plan onward
+    line_goes_on {p} met = by o (sym done.planned_is ∙ ap is_ok met) (sym (ap (λ (q : Result LinePlanned BodyRefusal). body_line_of (line_answer q)) met) ∙ done.answer) (sym (ap (line_scope here) met) ∙ done.scope) done.plan onward
       where
         by : (q : Outcome) → is_planned q ≡ true → body_line_of (Ok p.plan) ≡ line_answered (i + 1) q → p.scope ≡ bind_plan T here q → later ≡ written q before
             → unless_refused (i + 1) q (λ q. body_from T before (i + 1 + 1) (bind_plan T here q) q (lines_from words (i + 1) (line_count words - (i + 1)))) ≡ body_from T before 1 s no_plan (operations_of words)
             → BodyLeft T s words before (i + 1) p.scope (Ok p.plan) later learnt
         by (refused x) e a t b h = absurd (false≢true e)
-        by (planned form which es) e a t b h = record { is = go.is; some = go.some; few = go.few; long = ap length b ∙ written_long (planned form which es) before; states_are = subst (λ (q : Result LinePlanned BodyRefusal). StatesOf T (scope_from here q) learnt) met d.states_are; last = planned form which es; same = rw t h; answered = λ lt. a; held = λ lt. b }
+        by (planned form which es) e a t b h = record { is = go.is; some = go.some; few = go.few; long = ap length b ∙ written_long (planned form which es) before; states_are = subst (λ (q : Result LinePlanned BodyRefusal). StatesOf T (line_scope here q) learnt) met d.states_are; last = planned form which es; same = rw t h; answered = λ lt. a; held = λ lt. b }
 
   pub body_ends : line_count words ≤ i → BodyAnswered (body_outcome T s words before) s before plan (record { answer = answer; scope = here })
   unfolding body_outcome body_from body_answered scope_after body_written

@@ -27,7 +27,8 @@ use Rattle.planner.specs.Short.{ShortLine}
 use Rattle.operation.specs.declared.Operation.{Operation}
 use Rattle.operation.specs.declared.row.Row.{Row}
 use Rattle.operation.specs.Rows.{row_line, Told}
-use Rattle.body.specs.declared.BodyAnswer.{BodyAnswer}
+use Rattle.std.proofs.Common.{Err}
+use Rattle.body.specs.declared.BodyRefusal.{BodyRefusal}
 use Rattle.body.specs.declared.BodyPlanned.{BodyPlanned}
 use Rattle.body.specs.Lines.{operations_of, is_body}
 use Rattle.body.specs.Body.{BodyOutcome, refused_at, accepted, line_outcome, bind_plan, unless_refused, body_from, no_plan, body_outcome, BodyLine, body_line, body_answered, body_written, scope_after, body_line_of, BodyAnswered}
@@ -135,8 +136,8 @@ module _ (number : ℕ) (s : Scope) (before : List ℕ) where
   marks_kept none e = rw (eq-eqb number 0 none) e
 
 -- the five numbers
-pub body_row_is : (answer : BodyAnswer) {a : BodyAnswer} {row : Row} {n : ℕ} → answer ≡ a → {l : Line} → row_line row ≡ l → body_line l n ≡ body_line_of a → body_line (row_line row) n ≡ body_line_of answer
-body_row_is answer {n = n} e is q = rw (is, e) q
+pub body_row_is : (refusal : BodyRefusal) {a : BodyRefusal} {row : Row} {n : ℕ} → refusal ≡ a → {l : Line} → row_line row ≡ l → body_line l n ≡ body_line_of (Err a) → body_line (row_line row) n ≡ body_line_of (Err refusal)
+body_row_is refusal {n = n} e is q = rw (is, e) q
 
 pub told_with_line : (l : Line) (n : ℕ) {before mid after : List ℕ} {r : ℕ} → Told l before mid r → after ≡ set mid 4 n → ToldBody (body_line l n) before after r
 unfolding told_body

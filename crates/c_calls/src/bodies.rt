@@ -1,7 +1,7 @@
 // The call for a rule body over lent tables.
 ghost use Rattle.table.specs.Contents.{contents};
 ghost use Rattle.table.specs.Lent.{lent};
-ghost use Rattle.std.specs.Prelude.{◌≡◌, cond, eqb};
+ghost use Rattle.std.specs.Prelude.{◌≡◌, Err, cond, eqb};
 ghost use Rattle.base.specs.Refusal.{line, tested_line};
 ghost use Rattle.scope.specs.Bytes.{conversion_of};
 ghost use Rattle.planner.specs.Short.{ShortLine};
@@ -74,6 +74,25 @@ struct BodyRow {
     pub line: u32,
 }
 
+fn refused_row(refusal: BodyRefusal) -> BodyRow
+    ensures { body_line (row_line result.row) result.line ≡ body_line_of (Err refusal) }
+{
+    match refusal {
+        BodyRefusal::NotABody => BodyRow {
+            row: row_from(37, 0, 0, 0),
+            line: 0,
+        },
+        BodyRefusal::LineRefused { line, refusal } => BodyRow {
+            row: refusal_row(refusal),
+            line,
+        },
+        BodyRefusal::NameNotReady { line, name } => BodyRow {
+            row: row_from(38, name as u64, 0, 0),
+            line,
+        },
+    }
+}
+
 fn body_row(answer: Result<Plan, BodyRefusal>) -> BodyRow
     ensures { body_line (row_line result.row) result.line ≡ body_line_of answer }
 {
@@ -82,18 +101,7 @@ fn body_row(answer: Result<Plan, BodyRefusal>) -> BodyRow
             row: row_from(0, plan.form as u64, plan.side as u64, plan.entries as u64),
             line: 0,
         },
-        Err(BodyRefusal::NotABody) => BodyRow {
-            row: row_from(37, 0, 0, 0),
-            line: 0,
-        },
-        Err(BodyRefusal::LineRefused { line, refusal }) => BodyRow {
-            row: refusal_row(refusal),
-            line,
-        },
-        Err(BodyRefusal::NameNotReady { line, name }) => BodyRow {
-            row: row_from(38, name as u64, 0, 0),
-            line,
-        },
+        Err(refusal) => refused_row(refusal),
     }
 }
 

@@ -108,21 +108,21 @@ is_planned (refused r) = false
 is_planned (planned form which es) = true
 
 -- the answer of a line, and the scope after it
-abbrev pub answer_of : Result LinePlanned BodyRefusal → Result Plan BodyRefusal
-answer_of (Ok p) = Ok p.plan
-answer_of (Err r) = Err r
+abbrev pub line_answer : Result LinePlanned BodyRefusal → Result Plan BodyRefusal
+line_answer (Ok p) = Ok p.plan
+line_answer (Err r) = Err r
 
-abbrev pub scope_from : Scope → Result LinePlanned BodyRefusal → Scope
-scope_from s (Ok p) = p.scope
-scope_from s (Err r) = s
+abbrev pub line_scope : Scope → Result LinePlanned BodyRefusal → Scope
+line_scope s (Ok p) = p.scope
+line_scope s (Err r) = s
 
 -- a line that came to an outcome: the answer, the scope with what it binds and what that says of all names, the plan buffer
 pub record LineDone (T : Tables) (s : Scope) (n : ℕ) (o : Outcome) (buffer after known : List ℕ) (r : Result LinePlanned BodyRefusal) : Type 0 where
   pub planned_is : is_ok r ≡ is_planned o
-  pub answer : body_line_of (answer_of r) ≡ line_answered n o
-  pub scope : scope_from s r ≡ bind_plan T s o
+  pub answer : body_line_of (line_answer r) ≡ line_answered n o
+  pub scope : line_scope s r ≡ bind_plan T s o
   pub plan : after ≡ buffer
-  pub states_are : StatesOf T (scope_from s r) known
+  pub states_are : StatesOf T (line_scope s r) known
 
 abbrev pub LineDoneIn : MutSlices → List ℕ → Tables → Scope → Operation → ℕ → Result LinePlanned BodyRefusal → Type 0
 LineDoneIn plan known T s operation n r =

@@ -1,5 +1,5 @@
 use native.Mathlib.Omega.{arith}
-use Rattle.body.proofs.PlanLoops.{next_fits, keys_start, keys_ask, keys_found_lem, keys_on, keys_end}
+use Rattle.body.proofs.PlanLoops.{keys_start, keys_ask, keys_found_lem, keys_on, keys_end}
 use borrow.Author.Rules.{rules}
 use Rattle.body.proofs.ready.keys_unready.Goals as goal
 

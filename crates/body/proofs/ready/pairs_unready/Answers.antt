@@ -1,4 +1,4 @@
-use Rattle.body.proofs.PlanLoops.{next_fits, pairs_start, pairs_ask, pairs_found_lem, pairs_on, pairs_end}
+use Rattle.body.proofs.PlanLoops.{pairs_start, pairs_ask, pairs_found_lem, pairs_on, pairs_end}
 use borrow.Author.Rules.{rules}
 use Rattle.body.proofs.ready.pairs_unready.Goals as goal
 

@@ -1,5 +1,4 @@
 use Rattle.table.specs.Contents.{contents}
-use Rattle.table.specs.Tables.{tables}
 use Rattle.some_in.proofs.Collections.{Looking}
 use Rattle.some_in.proofs.collection.any_fits.Given as goal
 
