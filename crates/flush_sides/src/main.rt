@@ -1,16 +1,14 @@
 // The flush-sides rule, `[w, w]`, by the three calls of teluddru: planned, its names reported, and run on two values. The example of a caller in Rattle.
 #![tactic(auto)]
 
-mod calls;
-
 use operation::{Operation, REGO_V0};
-use planner::{Plan, PlanRefusal};
 use planner::buffer::ENTRY_WORDS;
+use planner::{Plan, PlanRefusal};
 use report::ReportRefusal;
 use run::{RunAnswer, RunRefusal};
 use scope::{Scope, ScopingMode};
 use std::io;
-use teluddru::Name;
+use teluddru::{Name, Rule};
 
 const TEXT: [u8; 24] = *b"[w, w] [18, 16] [18, 18]";
 
@@ -49,15 +47,21 @@ fn scope() -> Scope {
     Scope::new(0, false)
 }
 
+fn rule(names: &[Name]) -> Rule<'_> {
+    Rule {
+        nodes: NODES.as_flattened(),
+        children: &CHILDREN,
+        numbers: &NUMBERS,
+        names,
+        strings: &STRINGS,
+        text: &TEXT,
+    }
+}
+
 fn plan_rule(plan: &mut [u32]) -> Result<Plan, PlanRefusal> {
-    let nodes = NODES.as_flattened();
-    calls::plan(
-        nodes,
-        &CHILDREN,
-        &NUMBERS,
-        w(),
-        &STRINGS,
-        &TEXT,
+    let names = [w()];
+    teluddru::plan(
+        &rule(&names),
         scope(),
         Operation::Pattern {
             scoping: ScopingMode::RespectParent,
@@ -69,14 +73,9 @@ fn plan_rule(plan: &mut [u32]) -> Result<Plan, PlanRefusal> {
 }
 
 fn report_names(list: &mut [u32]) -> Result<(), ReportRefusal> {
-    let nodes = NODES.as_flattened();
-    calls::names_report(
-        nodes,
-        &CHILDREN,
-        &NUMBERS,
-        w(),
-        &STRINGS,
-        &TEXT,
+    let names = [w()];
+    teluddru::names_report(
+        &rule(&names),
         scope(),
         ScopingMode::RespectParent,
         PATTERN,
@@ -85,14 +84,9 @@ fn report_names(list: &mut [u32]) -> Result<(), ReportRefusal> {
 }
 
 fn run_on(value: u32, values: &mut [u32], plan: &mut [u32]) -> Result<RunAnswer, RunRefusal> {
-    let nodes = NODES.as_flattened();
-    calls::run(
-        nodes,
-        &CHILDREN,
-        &NUMBERS,
-        w(),
-        &STRINGS,
-        &TEXT,
+    let names = [w()];
+    teluddru::run(
+        &rule(&names),
         scope(),
         ScopingMode::RespectParent,
         PATTERN,

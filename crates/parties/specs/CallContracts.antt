@@ -1,5 +1,6 @@
 -- What a function gives that meets its contract is what `seen`, `scope_after_call` and `shared_after` say of its call.
 use Rattle.std.specs.Prelude.{ℕ, ◌≡◌, List, Result}
+use Rattle.std.specs.Result.{result_unwrap_or}
 use Rattle.scope.specs.declared.Scope.{Scope}
 use Rattle.scope.specs.declared.ScopingMode.{ScopingMode}
 use Rattle.scope.specs.declared.NameOutside.{NameOutside}
