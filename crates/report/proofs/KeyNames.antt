@@ -245,12 +245,15 @@ pub record MarkingKeys (T : Tables) (states : List ℕ) (n : ℕ) (before : List
   pub asks : WalksChildren T states n at 2 left
   pub same : marked (keys_at T at left) here ≡ marked (key_names (fields_of T n)) before
 
-pub marking_start : (T : Tables) (states before : List ℕ) (n : ℕ) → ObjectAsks T states n → {first size place more : ℕ} → first ≡ first_word_of T.nodes n → size ≡ count_of T.nodes n → first < 2 ^ 32 → size < 2 ^ 32
-    → place ≡ first → more ≡ size → MarkingKeys T states n before place more before
-marking_start T states before n a is_first is_size low few is of = rw (is, of) (record {
-  asks = ask_keys T states before n a.walks refl is_first is_size low few a.object;
-  same = rw (is_first, is_size);
-})
+pub marking_start : (T : Tables) (states before : List ℕ) (n : ℕ) → ObjectAsks T states n → {first size : ℕ} → first ≡ first_word_of T.nodes n → size ≡ count_of T.nodes n → first < 2 ^ 32 → size < 2 ^ 32
+    → MarkingKeys T states n before (first + 0) (size - 0) before
+marking_start T states before n a {first} {size} is_first is_size low few =
+    let p : first + 0 ≡ first = omega arith in
+    let q : size - 0 ≡ size = omega arith in
+    rw (p, q) (record {
+      asks = ask_keys T states before n a.walks refl is_first is_size low few a.object;
+      same = rw (is_first, is_size);
+    })
 
 module _ {T : Tables} {states : List ℕ} {n : ℕ} {before : List ℕ} {at left : ℕ} {here : List ℕ} (go : MarkingKeys T states n before at left here) where
   module _ (more : 0 < left) {key : ℕ} (is_key : key ≡ child_at T.children at) where
