@@ -1,10 +1,10 @@
 -- The lines of a body in turn.
 use Prim.Native.Nat.{ℕ, suc, ◌+◌, ◌-◌, ◌%◌, ◌≤◌, ◌<◌}
 use mathlib.Core.Path.{◌≡◌, refl, sym, ap, subst, ◌∙◌}
-use mathlib.Core.Bool.{Bool, true, false, not, false≢true}
+use mathlib.Core.Bool.{Bool, true, false, false≢true}
 use mathlib.Core.List.{List, [], ◌∷◌}
 use native.Mathlib.Omega.{arith}
-use borrow.Author.Tests.{leb-true, not-true, not-false}
+use borrow.Author.Tests.{leb-true}
 use mir.Val.{Fits}
 use mir.Syntax.{w32}
 use lib.Dec.{eqb, leb}
@@ -12,16 +12,18 @@ use lib.ListN.{length, replicate}
 use Rattle.scope.specs.declared.Scope.{Scope}
 use Rattle.table.specs.Tables.{Tables}
 use Rattle.table.proofs.tests.Bools.{and_true}
-use Rattle.planner.specs.Operations.{Outcome, refused, planned, fits, written}
+use Rattle.planner.specs.Operations.{Outcome, refused, planned, written}
 use Rattle.planner.proofs.buffer.ReadBack.{written_long}
 use Rattle.operation.specs.declared.Operation.{Operation}
 use Rattle.operation.specs.Operation.{operation_outcome}
-use Rattle.body.specs.declared.BodyAnswer.{BodyAnswer}
-use Rattle.body.specs.declared.BodyAnswer.TheVariants.{NotABody}
-use Rattle.body.specs.declared.LineStep.{LineStep}
+use Rattle.std.proofs.Common.{Result, Ok, Err, is_ok}
+use Rattle.planner.specs.declared.Plan.{Plan}
+use Rattle.body.specs.declared.BodyRefusal.{BodyRefusal}
+use Rattle.body.specs.declared.BodyRefusal.TheVariants.{NotABody}
+use Rattle.body.specs.declared.LinePlanned.{LinePlanned}
 use Rattle.body.specs.Lines.{line_words, line_count, line_at, lines_from, operations_of, is_body}
 use Rattle.body.specs.Body.{unless_too_large, unless_not_ready, line_outcome, bind_plan, BodyOutcome, accepted, unless_refused, body_from, no_plan, body_outcome, line_answered, body_answered, scope_after, body_written, body_line_of, BodyAnswered}
-use Rattle.body.specs.code.Post.{StatesOf, is_planned, LineDone}
+use Rattle.body.specs.code.Post.{StatesOf, line_answer, line_scope, is_planned, LineDone}
 
 -- of the buffer only the length counts
 module _ (b c : List ℕ) (long : length b ≡ length c) where
@@ -59,12 +61,12 @@ pub is_body_by : (words : List ℕ) {r : Bool} → r ≡ is_body words → r ≡
 is_body_by words told said = sym told ∙ said
 
 pub no_body : (T : Tables) (s : Scope) (words : List ℕ) {r : Bool} → r ≡ is_body words → r ≡ false → {before after : List ℕ} → after ≡ replicate (length before) 0
-    → BodyAnswered (body_outcome T s words before) s before after (record { answer = NotABody; scope = s })
+    → BodyAnswered (body_outcome T s words before) s before after (record { answer = Err NotABody; scope = s })
 unfolding body_outcome body_answered scope_after body_written
 no_body T s words told no_lines e = let is = sym told ∙ no_lines in rw is (record { answer = refl; scope = refl; buffer = e })
 
 -- the lines from line i on, i from 0, make of what stands here the same as all of them of the start
-pub record BodyLeft (T : Tables) (s : Scope) (words buffer : List ℕ) (i : ℕ) (here : Scope) (answer : BodyAnswer) (plan known : List ℕ) : Type 0 where
+pub record BodyLeft (T : Tables) (s : Scope) (words buffer : List ℕ) (i : ℕ) (here : Scope) (answer : Result Plan BodyRefusal) (plan known : List ℕ) : Type 0 where
   pub is : is_body words ≡ true
   pub some : 1 ≤ line_count words
   pub few : line_count words ≤ 64
@@ -75,16 +77,16 @@ pub record BodyLeft (T : Tables) (s : Scope) (words buffer : List ℕ) (i : ℕ)
   pub answered : 0 < i → body_line_of answer ≡ line_answered 0 last
   pub held : 0 < i → plan ≡ written last buffer
 
-pub body_start : (T : Tables) (s : Scope) (words : List ℕ) → is_body words ≡ true → (before : List ℕ) {states : List ℕ} → StatesOf T s states → BodyLeft T s words before 0 s NotABody before states
+pub body_start : (T : Tables) (s : Scope) (words : List ℕ) → is_body words ≡ true → (before : List ℕ) {states : List ℕ} → StatesOf T s states → BodyLeft T s words before 0 s (Err NotABody) before states
 body_start T s words is before known =
     let z : line_count words - 0 ≡ line_count words = omega arith in
     record { is = is; some = (line_limits words is).0; few = (line_limits words is).1; long = refl; states_are = known; last = no_plan; same = rw z refl; answered = λ lt. absurd (omega arith); held = λ lt. absurd (omega arith) }
 
-module _ {T : Tables} {s : Scope} {words before : List ℕ} {i : ℕ} {here : Scope} {answer : BodyAnswer} {plan known : List ℕ} (go : BodyLeft T s words before i here answer plan known) where
+module _ {T : Tables} {s : Scope} {words before : List ℕ} {i : ℕ} {here : Scope} {answer : Result Plan BodyRefusal} {plan known : List ℕ} (go : BodyLeft T s words before i here answer plan known) where
   pub line_number : i < line_count words → Fits w32 (i + 1)
   line_number more = let f = go.few in record { fits = omega arith }
 
-  module _ (more : i < line_count words) {operation : Operation} (is-line : operation ≡ line_at words i) {n : ℕ} (is-n : n ≡ i + 1) {later learnt : List ℕ} {r : LineStep}
+  module _ (more : i < line_count words) {operation : Operation} (is-line : operation ≡ line_at words i) {n : ℕ} (is-n : n ≡ i + 1) {later learnt : List ℕ} {r : Result LinePlanned BodyRefusal}
       (d : LineDone T here n (line_outcome T plan here operation) (written (line_outcome T plan here operation) plan) later learnt r) where
     o : Outcome
     o = line_outcome T before here (line_at words i)
@@ -112,23 +114,23 @@ module _ {T : Tables} {s : Scope} {words before : List ℕ} {i : ℕ} {here : Sc
     unfolding body_outcome
     whole = rw go.is (sym onward)
 
-    pub line_ends : not r.planned ≡ true → BodyAnswered (body_outcome T s words before) s before later (record { answer = r.answer; scope = s })
+    pub line_ends : {x : BodyRefusal} → r ≡ Err x → BodyAnswered (body_outcome T s words before) s before later (record { answer = Err x; scope = s })
     unfolding body_answered scope_after body_written written
-    line_ends stopped = subst (λ (q : BodyOutcome). BodyAnswered q s before later (record { answer = r.answer; scope = s })) (sym whole) (by o (sym done.planned_is ∙ not-true r.planned stopped) done.answer done.plan)
+    line_ends {x} met = subst (λ (q : BodyOutcome). BodyAnswered q s before later (record { answer = Err x; scope = s })) (sym whole) (by o (sym done.planned_is ∙ ap is_ok met) (sym (ap (λ (q : Result LinePlanned BodyRefusal). body_line_of (line_answer q)) met) ∙ done.answer) done.plan)
       where
-        by : (q : Outcome) → is_planned q ≡ false → body_line_of r.answer ≡ line_answered (i + 1) q → later ≡ written q before
-            → BodyAnswered (unless_refused (i + 1) q (λ q. body_from T before (i + 1 + 1) (bind_plan T here q) q (lines_from words (i + 1) (line_count words - (i + 1))))) s before later (record { answer = r.answer; scope = s })
-        by (refused x) e a b = record { answer = a; scope = refl; buffer = b }
+        by : (q : Outcome) → is_planned q ≡ false → body_line_of (Err x) ≡ line_answered (i + 1) q → later ≡ written q before
+            → BodyAnswered (unless_refused (i + 1) q (λ q. body_from T before (i + 1 + 1) (bind_plan T here q) q (lines_from words (i + 1) (line_count words - (i + 1))))) s before later (record { answer = Err x; scope = s })
+        by (refused y) e a b = record { answer = a; scope = refl; buffer = b }
         by (planned form which es) e a b = absurd (false≢true (sym e))
 
-    pub line_goes_on : not r.planned ≡ false → BodyLeft T s words before (i + 1) r.scope r.answer later learnt
-    line_goes_on stays = by o (sym done.planned_is ∙ not-false r.planned stays) done.answer done.scope done.plan onward
+    pub line_goes_on : {p : LinePlanned} → r ≡ Ok p → BodyLeft T s words before (i + 1) p.scope (Ok p.plan) later learnt
+    line_goes_on {p} met = by o (sym done.planned_is ∙ ap is_ok met) (sym (ap (λ (q : Result LinePlanned BodyRefusal). body_line_of (line_answer q)) met) ∙ done.answer) (sym (ap (line_scope here) met) ∙ done.scope) done.plan onward
       where
-        by : (q : Outcome) → is_planned q ≡ true → body_line_of r.answer ≡ line_answered (i + 1) q → r.scope ≡ bind_plan T here q → later ≡ written q before
+        by : (q : Outcome) → is_planned q ≡ true → body_line_of (Ok p.plan) ≡ line_answered (i + 1) q → p.scope ≡ bind_plan T here q → later ≡ written q before
             → unless_refused (i + 1) q (λ q. body_from T before (i + 1 + 1) (bind_plan T here q) q (lines_from words (i + 1) (line_count words - (i + 1)))) ≡ body_from T before 1 s no_plan (operations_of words)
-            → BodyLeft T s words before (i + 1) r.scope r.answer later learnt
+            → BodyLeft T s words before (i + 1) p.scope (Ok p.plan) later learnt
         by (refused x) e a t b h = absurd (false≢true e)
-        by (planned form which es) e a t b h = record { is = go.is; some = go.some; few = go.few; long = ap length b ∙ written_long (planned form which es) before; states_are = d.states_are; last = planned form which es; same = rw t h; answered = λ lt. a; held = λ lt. b }
+        by (planned form which es) e a t b h = record { is = go.is; some = go.some; few = go.few; long = ap length b ∙ written_long (planned form which es) before; states_are = subst (λ (q : Result LinePlanned BodyRefusal). StatesOf T (line_scope here q) learnt) met d.states_are; last = planned form which es; same = rw t h; answered = λ lt. a; held = λ lt. b }
 
   pub body_ends : line_count words ≤ i → BodyAnswered (body_outcome T s words before) s before plan (record { answer = answer; scope = here })
   unfolding body_outcome body_from body_answered scope_after body_written

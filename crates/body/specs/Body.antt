@@ -1,5 +1,5 @@
 -- A whole rule body (request 14 of document 02): its lines planned in turn from one scope, at version 0; the answer, the scope and the plan buffer afterwards.
-use Rattle.std.specs.Prelude.{ℕ, ◌+◌, ◌≡◌, List, [], ◌∷◌, eqb, length}
+use Rattle.std.specs.Prelude.{ℕ, ◌+◌, ◌≡◌, Result, Ok, Err, List, [], ◌∷◌, eqb, length}
 use Rattle.base.specs.Lent.{MutSlices}
 use Rattle.base.specs.Refusal.{Refusal, plan_too_large, not_a_body, name_not_ready, require_or, Line, line, refusal_line}
 use Rattle.scope.specs.declared.Scope.{Scope}
@@ -9,8 +9,9 @@ use Rattle.planner.specs.Answer.{line_of}
 use Rattle.planner.specs.Operations.{Outcome, refused, planned, require, fits, zeros, written}
 use Rattle.operation.specs.declared.Operation.{Operation}
 use Rattle.operation.specs.Operation.{operation_outcome}
-use Rattle.body.specs.declared.BodyAnswer.{BodyAnswer}
-use Rattle.body.specs.declared.BodyAnswer.TheVariants.{Accepted, NotABody, LineRefused, NameNotReady}
+use Rattle.planner.specs.declared.Plan.{Plan}
+use Rattle.body.specs.declared.BodyRefusal.{BodyRefusal}
+use Rattle.body.specs.declared.BodyRefusal.TheVariants.{NotABody, LineRefused, NameNotReady}
 use Rattle.body.specs.declared.BodyPlanned.{BodyPlanned}
 use Rattle.body.specs.Lines.{operations_of, is_body}
 use Rattle.body.specs.Ready.{names_bound, sides_of, first_not_ready}
@@ -89,11 +90,11 @@ body_written (refused_at n r) buffer = zeros buffer
 body_written (accepted s last) buffer = written last buffer
 
 -- what the code's answer says
-abbrev pub body_line_of : BodyAnswer → BodyLine
-body_line_of (Accepted form which entries) = body_line (line 0 form which entries) 0
-body_line_of NotABody = body_line (refusal_line not_a_body) 0
-body_line_of (LineRefused n answer) = body_line (line_of answer) n
-body_line_of (NameNotReady n name) = body_line (refusal_line (name_not_ready name)) n
+abbrev pub body_line_of : Result Plan BodyRefusal → BodyLine
+body_line_of (Ok p) = body_line (line 0 p.form p.side p.entries) 0
+body_line_of (Err NotABody) = body_line (refusal_line not_a_body) 0
+body_line_of (Err (LineRefused n r)) = body_line (line_of (Err r)) n
+body_line_of (Err (NameNotReady n name)) = body_line (refusal_line (name_not_ready name)) n
 
 pub record BodyAnswered (o : BodyOutcome) (s : Scope) (before after : List ℕ) (r : BodyPlanned) : Type 0 where
   pub answer : body_line_of r.answer ≡ body_answered o

@@ -23,37 +23,25 @@ use planner::{Plan, PlanRefusal};
 use scope::{Scope, ScopingMode};
 use table::tables::Tables;
 
-// A line is counted from 1.
+// Why a body is refused. A line is counted from 1.
 #[derive(Clone, Copy)]
-pub enum BodyAnswer {
-    Accepted {
-        form: u32,
-        side: u32,
-        entries: usize,
-    },
+pub enum BodyRefusal {
     NotABody,
-    LineRefused {
-        line: u32,
-        answer: Result<Plan, PlanRefusal>,
-    },
-    NameNotReady {
-        line: u32,
-        name: u32,
-    },
+    LineRefused { line: u32, refusal: PlanRefusal },
+    NameNotReady { line: u32, name: u32 },
 }
 
-// The answer beside the scope afterwards.
+// The last line's plan or the refusal, beside the scope afterwards.
 #[derive(Clone, Copy)]
 pub struct BodyPlanned {
-    pub answer: BodyAnswer,
+    pub answer: Result<Plan, BodyRefusal>,
     pub scope: Scope,
 }
 
-// What a body has come to with a line, and whether the line is planned.
+// A line's plan, and the scope with what it binds.
 #[derive(Clone, Copy)]
-struct LineStep {
-    pub planned: bool,
-    pub answer: BodyAnswer,
+struct LinePlanned {
+    pub plan: Plan,
     pub scope: Scope,
 }
 
@@ -64,33 +52,27 @@ fn settle_line(
     states: &mut [u8; 128],
     operation: Operation,
     line: u32,
-    form: u32,
-    side: u32,
-    entries: usize,
+    planned: Plan,
     plan: &mut [u32],
-) -> LineStep
-    requires { PlanHeld (contents tables.now) scope states.old plan.old entries }
-    ensures { SettledIn plan states.new (contents tables.now) scope operation line form side entries result }
+) -> Result<LinePlanned, BodyRefusal>
+    requires { PlanHeld (contents tables.now) scope states.old plan.old planned.entries }
+    ensures { SettledIn plan states.new (contents tables.now) scope operation line planned result }
 {
+    let Plan {
+        form,
+        side,
+        entries,
+    } = planned;
     let name = line_unready(tables, scope, *states, operation, form, side, plan, entries);
     if name != 0 {
         clear(plan);
-        return LineStep {
-            planned: false,
-            answer: BodyAnswer::NameNotReady { line, name },
-            scope,
-        };
+        return Err(BodyRefusal::NameNotReady { line, name });
     }
     let next = bind_plan(tables.nodes, scope, states, plan, entries);
-    LineStep {
-        planned: true,
-        answer: BodyAnswer::Accepted {
-            form,
-            side,
-            entries,
-        },
+    Ok(LinePlanned {
+        plan: planned,
         scope: next,
-    }
+    })
 }
 
 // One line: its own refusals come before a name that is not ready.
@@ -101,28 +83,14 @@ fn plan_line(
     operation: Operation,
     line: u32,
     plan: &mut [u32],
-) -> LineStep
+) -> Result<LinePlanned, BodyRefusal>
     requires { StatesOf (contents tables.now) scope states.old }
     ensures { LineDoneIn plan states.new (contents tables.now) scope operation line result }
 {
-    let answer = operation::plan(tables, scope, operation, REGO_V0, plan);
-    let Ok(
-        Plan {
-            form,
-            side,
-            entries,
-        },
-    ) = answer
-    else {
-        return LineStep {
-            planned: false,
-            answer: BodyAnswer::LineRefused { line, answer },
-            scope,
-        };
-    };
-    settle_line(
-        tables, scope, states, operation, line, form, side, entries, plan,
-    )
+    match operation::plan(tables, scope, operation, REGO_V0, plan) {
+        Ok(planned) => settle_line(tables, scope, states, operation, line, planned, plan),
+        Err(refusal) => Err(BodyRefusal::LineRefused { line, refusal }),
+    }
 }
 
 // The lines of a body in turn, up to one that is refused.
@@ -133,20 +101,21 @@ fn plan_lines(tables: &Tables<'_>, scope: Scope, lines: &[u32], plan: &mut [u32]
     let count = lines.len() / LINE_WORDS;
     let mut here = scope;
     let mut states = name_states(tables.names, tables.text, scope, ScopingMode::RespectParent);
-    let mut answer = BodyAnswer::NotABody;
+    let mut answer = Err(BodyRefusal::NotABody);
     for i in 0..count {
         let operation = line_at(lines, i);
-        let step = plan_line(tables, here, &mut states, operation, (i + 1) as u32, plan);
-        let reached = step.answer;
-        if !step.planned {
-            return BodyPlanned {
-                answer: reached,
-                scope,
-            };
+        match plan_line(tables, here, &mut states, operation, (i + 1) as u32, plan) {
+            Ok(planned) => {
+                answer = Ok(planned.plan);
+                here = planned.scope;
+            }
+            Err(refusal) => {
+                return BodyPlanned {
+                    answer: Err(refusal),
+                    scope,
+                };
+            }
         }
-        let next = step.scope;
-        answer = reached;
-        here = next;
     }
     BodyPlanned {
         answer,
@@ -163,7 +132,7 @@ pub fn plan_body(tables: &Tables<'_>, scope: Scope, lines: &[u32], plan: &mut [u
     }
     clear(plan);
     BodyPlanned {
-        answer: BodyAnswer::NotABody,
+        answer: Err(BodyRefusal::NotABody),
         scope,
     }
 }

@@ -14,9 +14,8 @@ use Rattle.base.specs.Lists.{tabulate}
 use Rattle.base.proofs.Filling.{length_tabulate, get_d_tabulate}
 use Rattle.scope.specs.declared.Scope.{Scope}
 use Rattle.scope.specs.declared.ByteScope.{ByteScope}
-use Rattle.scope.specs.declared.Converted.{Converted}
-use Rattle.scope.specs.declared.ConversionAnswer.{ConversionAnswer}
-use Rattle.scope.specs.declared.ConversionAnswer.TheVariants.{Done, MarkOutside}
+use Rattle.scope.specs.declared.MarkOutside.{MarkOutside}
+use Rattle.std.specs.Prelude.{Result, Ok, Err}
 use Rattle.scope.specs.Bytes as Bytes
 use Rattle.scope.specs.Bytes.{conversion_of, ConvertedFrom, convertible, marks_ok}
 use Rattle.table.specs.Tables.{Tables}
@@ -28,12 +27,14 @@ use Rattle.planner.specs.Short.{ShortLine}
 use Rattle.operation.specs.declared.Operation.{Operation}
 use Rattle.operation.specs.declared.row.Row.{Row}
 use Rattle.operation.specs.Rows.{row_line, Told}
-use Rattle.body.specs.declared.BodyAnswer.{BodyAnswer}
+use Rattle.std.proofs.Common.{Err}
+use Rattle.body.specs.declared.BodyRefusal.{BodyRefusal}
 use Rattle.body.specs.declared.BodyPlanned.{BodyPlanned}
 use Rattle.body.specs.Lines.{operations_of, is_body}
 use Rattle.body.specs.Body.{BodyOutcome, refused_at, accepted, line_outcome, bind_plan, unless_refused, body_from, no_plan, body_outcome, BodyLine, body_line, body_answered, body_written, scope_after, body_line_of, BodyAnswered}
 use Rattle.body.proofs.Shortness.{body_short}
-use Rattle.c_calls.specs.Given.{byte_scope_of, scope_of}
+use Rattle.c_calls.specs.Given.{byte_scope_of, scope_of, given_scope}
+use Rattle.scope.proofs.Agreeing.{converted_or_empty}
 use Rattle.body.specs.code.Post.{is_planned}
 use Rattle.c_calls.proofs.Called.{no_refusal}
 use Rattle.c_calls.specs.Bodies.{words_first, marks_first, body_call, told_body, mark_at, marks_in, marks_after, ToldBody, BodyCalled}
@@ -59,10 +60,10 @@ module _ (T : Tables) {w : Bool} (limits : w ≡ within_limits T) where
   unfolding marks_first
   limits_over made t = let e = sym limits ∙ t in rw e refl
 
-  pub limits_made : (made : ConversionAnswer) {n : ℕ} → w ≡ true → n ≡ (tested_line (conversion_of made)).number → line n 0 0 0 ≡ tested_line (marks_first T (conversion_of made))
+  pub limits_made : (made : Result Scope MarkOutside) {n : ℕ} → w ≡ true → n ≡ (tested_line (conversion_of made)).number → line n 0 0 0 ≡ tested_line (marks_first T (conversion_of made))
   unfolding marks_first
-  limits_made Done t e = let q = sym limits ∙ t in rw (q, e) refl
-  limits_made MarkOutside t e = let q = sym limits ∙ t in rw (q, e) refl
+  limits_made (Ok s) t e = let q = sym limits ∙ t in rw (q, e) refl
+  limits_made (Err o) t e = let q = sym limits ∙ t in rw (q, e) refl
 
 -- marks that are put
 pub record Putting (all before here : List ℕ) (i : ℕ) : Type 0 where
@@ -135,8 +136,8 @@ module _ (number : ℕ) (s : Scope) (before : List ℕ) where
   marks_kept none e = rw (eq-eqb number 0 none) e
 
 -- the five numbers
-pub body_row_is : (answer : BodyAnswer) {a : BodyAnswer} {row : Row} {n : ℕ} → answer ≡ a → {l : Line} → row_line row ≡ l → body_line l n ≡ body_line_of a → body_line (row_line row) n ≡ body_line_of answer
-body_row_is answer {n = n} e is q = rw (is, e) q
+pub body_row_is : (refusal : BodyRefusal) {a : BodyRefusal} {row : Row} {n : ℕ} → refusal ≡ a → {l : Line} → row_line row ≡ l → body_line l n ≡ body_line_of (Err a) → body_line (row_line row) n ≡ body_line_of (Err refusal)
+body_row_is refusal {n = n} e is q = rw (is, e) q
 
 pub told_with_line : (l : Line) (n : ℕ) {before mid after : List ℕ} {r : ℕ} → Told l before mid r → after ≡ set mid 4 n → ToldBody (body_line l n) before after r
 unfolding told_body
@@ -192,19 +193,19 @@ words_small scheduler words {n} e = go (leb scheduler 1) (is_body words) (ap (λ
     go true false h = omega arith
     go false b h = omega arith
 
-marks_small : (T : Tables) (made : ConversionAnswer) {n : ℕ} → line n 0 0 0 ≡ tested_line (marks_first T (conversion_of made)) → n ≤ 37
+marks_small : (T : Tables) (made : Result Scope MarkOutside) {n : ℕ} → line n 0 0 0 ≡ tested_line (marks_first T (conversion_of made)) → n ≤ 37
 unfolding marks_first
 marks_small T made {n} e = go (within_limits T) made (ap (λ (l : Line). l.number) e)
   where
-    go : (a : Bool) (made : ConversionAnswer) → n ≡ (tested_line (cond a (conversion_of made) (Refusal.refused Refusal.over_limit))).number → n ≤ 37
-    go true Done h = omega arith
-    go true MarkOutside h = omega arith
+    go : (a : Bool) (made : Result Scope MarkOutside) → n ≡ (tested_line (cond a (conversion_of made) (Refusal.refused Refusal.over_limit))).number → n ≤ 37
+    go true (Ok s) h = omega arith
+    go true (Err o) h = omega arith
     go false made h = omega arith
 
 pub words_fit : (scheduler : ℕ) (words : List ℕ) {n : ℕ} {row : Row} → line n 0 0 0 ≡ tested_line (words_first scheduler words) → row_line row ≡ line n 0 0 0 → ShortLine (row_line row)
 words_fit scheduler words t e = number_fits (words_small scheduler words t) e
 
-pub marks_fit : (T : Tables) (made : ConversionAnswer) {n : ℕ} {row : Row} → line n 0 0 0 ≡ tested_line (marks_first T (conversion_of made)) → row_line row ≡ line n 0 0 0 → ShortLine (row_line row)
+pub marks_fit : (T : Tables) (made : Result Scope MarkOutside) {n : ℕ} {row : Row} → line n 0 0 0 ≡ tested_line (marks_first T (conversion_of made)) → row_line row ≡ line n 0 0 0 → ShortLine (row_line row)
 marks_fit T made t e = number_fits (marks_small T made t) e
 
 -- a refusal before the body
@@ -221,7 +222,7 @@ module _ (T : Tables) (marks : List ℕ) (scheduler : ℕ) (lines : List ℕ) {u
   unfolding body_call
   call_unread some is z d = refused_body 0 (words_first scheduler lines) _ told-words some is z d
 
-  module _ (none : unread ≡ 0) {made : Converted} (from : ConvertedFrom (byte_scope_of marks scheduler) made) {before : ℕ} (told-marks : line before 0 0 0 ≡ tested_line (marks_first T (conversion_of made.answer))) where
+  module _ (none : unread ≡ 0) {made : Result Scope MarkOutside} (from : ConvertedFrom (byte_scope_of marks scheduler) made) {before : ℕ} (told-marks : line before 0 0 0 ≡ tested_line (marks_first T (conversion_of made))) where
     read : words_first scheduler lines ≡ passed
     read = no_refusal (words_first scheduler lines) (rw none at told-words)
 
@@ -246,20 +247,20 @@ module _ (T : Tables) (marks : List ℕ) (scheduler : ℕ) (lines : List ℕ) {u
           go true false p h = never (cc)
           go false b p h = never (cc)
 
-      scope_is : made.scope ≡ scope_of marks scheduler
-      scope_is = from.scope ∙ rw marks_ok_lem refl
+      scope_is : {s : Scope} → s ≡ given_scope made → s ≡ scope_of marks scheduler
+      scope_is e = converted_or_empty (byte_scope_of marks scheduler) from refl e ∙ rw marks_ok_lem refl
 
       pub call_done : {done : BodyPlanned} {row : Row} {n : ℕ} {buffer bufferExit marksExit words wordsExit : List ℕ} {r : ℕ}
-          → BodyAnswered (body_outcome T made.scope lines buffer) made.scope buffer bufferExit done
+          → {s : Scope} → s ≡ given_scope made → BodyAnswered (body_outcome T s lines buffer) s buffer bufferExit done
           → body_line (row_line row) n ≡ body_line_of done.answer
           → marksExit ≡ cond (eqb row.number 0) (marks_in done.scope marks) marks
           → ToldBody (body_line (row_line row) n) words wordsExit r
           → BodyCalled (body_call T marks scheduler lines buffer) marks buffer words marksExit bufferExit wordsExit r
       unfolding body_call
-      call_done {done} {row} {n} {buffer} {bufferExit} {marksExit} {words} {wordsExit} {r} was is m d =
+      call_done {done} {row} {n} {buffer} {bufferExit} {marksExit} {words} {wordsExit} {r} given was is m d =
           let sc = scope_of marks scheduler in
           let o = body_outcome T sc lines buffer in
-          let body : BodyAnswered o sc buffer bufferExit done = subst (λ (s : Scope). BodyAnswered (body_outcome T s lines buffer) s buffer bufferExit done) scope_is was in
+          let body : BodyAnswered o sc buffer bufferExit done = subst (λ (s : Scope). BodyAnswered (body_outcome T s lines buffer) s buffer bufferExit done) (scope_is given) was in
           let line_is : body_line (row_line row) n ≡ body_answered o = is ∙ body.answer in
           let number_is : row.number ≡ (body_answered o).numbers.number = ap (λ (l : BodyLine). l.numbers.number) line_is in
           rw (read, first_passed) (record {

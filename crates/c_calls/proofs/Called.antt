@@ -10,7 +10,8 @@ use Rattle.base.specs.Refusal.{over_limit, breaks_rules, layout_broken, Tested, 
 use Rattle.scope.specs.declared.Scope.{Scope}
 use Rattle.scope.specs.declared.ScopingMode.{ScopingMode}
 use Rattle.scope.specs.declared.ByteScope.{ByteScope}
-use Rattle.scope.specs.declared.Converted.{Converted}
+use Rattle.scope.specs.declared.MarkOutside.{MarkOutside}
+use Rattle.scope.proofs.Agreeing.{converted_or_empty}
 use Rattle.scope.specs.Scope.{known}
 use Rattle.scope.specs.Bytes.{marks_ok, of_bytes, conversion_of, convertible, ConvertedFrom}
 use Rattle.table.specs.Tables.{Tables}
@@ -22,11 +23,13 @@ use Rattle.planner.specs.Answer.{line_of}
 use Rattle.planner.specs.Operations as Plan
 use Rattle.planner.specs.Operations.{Outcome, answered, written, Answered}
 use Rattle.planner.specs.Short.{ShortLine}
+use Rattle.std.proofs.Common.{Result}
 use Rattle.run.specs.declared.RunAnswer.{RunAnswer}
+use Rattle.run.specs.declared.RunRefusal.{RunRefusal}
 use Rattle.run.specs.Answer.{result_of}
 use Rattle.run.specs.Operations as Run
 use Rattle.run.specs.Operations.{RunOutcome, run_outcome, run_answer, plan_after, planned_name, values_after, Ran}
-use Rattle.report.specs.declared.ReportAnswer.{ReportAnswer}
+use Rattle.report.specs.declared.ReportRefusal.{ReportRefusal}
 use Rattle.report.specs.Answer.{report_line}
 use Rattle.report.specs.Report.{ReportedBy}
 use Rattle.operation.specs.declared.Operation.{Operation}
@@ -35,7 +38,7 @@ use Rattle.operation.specs.declared.row.Row.{Row}
 use Rattle.operation.specs.Numbers.{are_listed, scoping_of, operation_of}
 use Rattle.operation.specs.Version.{version_outcome}
 use Rattle.operation.specs.Rows.{row_line, Told}
-use Rattle.c_calls.specs.Given.{byte_scope_of, scope_of, pattern_numbers, tested_first, given_first, GivenTold}
+use Rattle.c_calls.specs.Given.{byte_scope_of, scope_of, given_scope, pattern_numbers, tested_first, given_first, GivenTold}
 use Rattle.c_calls.specs.Calls.{plan_call, PlanCalled, ran_line, run_call, names_set, RunCalled, ReportCalled}
 use Rattle.c_calls.proofs.Shortness.{plan_short, run_short, report_short}
 
@@ -60,7 +63,7 @@ pub run_fits :
     (pattern value : ℕ)
     {names : ℕ → Bool}
     {values buffer valuesExit bufferExit : List ℕ}
-    {answer : RunAnswer}
+    {answer : Result RunAnswer RunRefusal}
     {row : Row}
     → Ran names (run_outcome T s mode pattern value values) values buffer valuesExit bufferExit answer
     → row_line row ≡ ran_line (result_of answer)
@@ -74,7 +77,7 @@ pub report_fits :
     (mode : ScopingMode)
     (root : ℕ)
     {before after : List ℕ}
-    {answer : ReportAnswer}
+    {answer : Result Unit ReportRefusal}
     {row : Row}
     → ReportedBy T s mode root before after answer
     → row_line row ≡ report_line answer
@@ -101,7 +104,7 @@ given_passed T b o e = go (are_listed o) (within_limits T) (marks_ok b) refl ref
     go true false m p q r = let h : refused over_limit ≡ passed = rw (p, q) at e in cc
     go false w m p q r = let h : refused layout_broken ≡ passed = rw p at e in cc
 
-module _ (T : Tables) (b : ByteScope) (o : OperationNumbers) {made : Converted} (from : ConvertedFrom b made) {before : ℕ} (told : GivenTold T (conversion_of made.answer) o before) where
+module _ (T : Tables) (b : ByteScope) (o : OperationNumbers) {made : Result Scope MarkOutside} (from : ConvertedFrom b made) {before : ℕ} (told : GivenTold T (conversion_of made) o before) where
   first_told : line before 0 0 0 ≡ tested_line (tested_first T (convertible b) o)
   first_told = rw from.answer at told.told
 
@@ -109,8 +112,8 @@ module _ (T : Tables) (b : ByteScope) (o : OperationNumbers) {made : Converted} 
     first_passed : tested_first T (convertible b) o ≡ passed
     first_passed = no_refusal (tested_first T (convertible b) o) (rw none at first_told)
 
-    made_scope : made.scope ≡ of_bytes b
-    made_scope = from.scope ∙ simp (given_passed T b o first_passed)
+    made_scope : {s : Scope} → s ≡ given_scope made → s ≡ of_bytes b
+    made_scope e = converted_or_empty b from refl e ∙ simp (given_passed T b o first_passed)
 
 -- a refusal of it: zeros in the plan, a run's list as it was, zeros in a report's list
 module _ (t : Tested) {n : ℕ} (e : line n 0 0 0 ≡ tested_line t) (some : n ≡ 0 → ⊥) where
@@ -129,8 +132,8 @@ module _ (t : Tested) {n : ℕ} (e : line n 0 0 0 ≡ tested_line t) (some : n �
       record { answer = subst (λ (l : Line). Told l words wordsExit r) (e ∙ ap tested_line is) done; plan = zeros; list = refl }
 
 -- planning
-module _ (T : Tables) (marks : List ℕ) (o : OperationNumbers) {made : Converted} (from : ConvertedFrom (byte_scope_of marks o.scheduler) made) {before : ℕ}
-    (told : GivenTold T (conversion_of made.answer) o before) where
+module _ (T : Tables) (marks : List ℕ) (o : OperationNumbers) {made : Result Scope MarkOutside} (from : ConvertedFrom (byte_scope_of marks o.scheduler) made) {before : ℕ}
+    (told : GivenTold T (conversion_of made) o before) where
   pub plan_refused :
       (version : ℕ)
       {buffer bufferExit words wordsExit : List ℕ}
@@ -150,21 +153,23 @@ module _ (T : Tables) (marks : List ℕ) (o : OperationNumbers) {made : Converte
       {answer : Result Plan PlanRefusal}
       {row : Row}
       {r : ℕ}
+      {s : Scope}
       → before ≡ 0
+      → s ≡ given_scope made
       → operation ≡ operation_of o
-      → Answered (version_outcome T made.scope version operation) buffer bufferExit answer
+      → Answered (version_outcome T s version operation) buffer bufferExit answer
       → row_line row ≡ line_of answer
       → Told (row_line row) words wordsExit r
       → PlanCalled (plan_call T marks o version) buffer words bufferExit wordsExit r
-  plan_done version none e was is done =
-      let planned = rw (made_scope T (byte_scope_of marks o.scheduler) o from told none, e) at was in
+  plan_done version none given e was is done =
+      let planned = rw (made_scope T (byte_scope_of marks o.scheduler) o from told none given, e) at was in
       let said = rw (is ∙ planned.answer) at done in
       rw (first_passed T (byte_scope_of marks o.scheduler) o from told none) (record { answer = said; plan = planned.buffer })
 
 -- run and report
-module _ (T : Tables) (marks : List ℕ) (scheduler scoping pattern : ℕ) {o : OperationNumbers} (asked : o ≡ pattern_numbers scheduler scoping pattern) {made : Converted}
-    (from : ConvertedFrom (byte_scope_of marks scheduler) made) {before : ℕ} (told : GivenTold T (conversion_of made.answer) o before) where
-  told_pattern : GivenTold T (conversion_of made.answer) (pattern_numbers scheduler scoping pattern) before
+module _ (T : Tables) (marks : List ℕ) (scheduler scoping pattern : ℕ) {o : OperationNumbers} (asked : o ≡ pattern_numbers scheduler scoping pattern) {made : Result Scope MarkOutside}
+    (from : ConvertedFrom (byte_scope_of marks scheduler) made) {before : ℕ} (told : GivenTold T (conversion_of made) o before) where
+  told_pattern : GivenTold T (conversion_of made) (pattern_numbers scheduler scoping pattern) before
   told_pattern = rw asked at told
 
   pub pattern_first : line before 0 0 0 ≡ tested_line (given_first T marks (pattern_numbers scheduler scoping pattern))
@@ -173,7 +178,7 @@ module _ (T : Tables) (marks : List ℕ) (scheduler scoping pattern : ℕ) {o : 
   pub pattern_passed : before ≡ 0 → given_first T marks (pattern_numbers scheduler scoping pattern) ≡ passed
   pattern_passed = first_passed T (byte_scope_of marks scheduler) (pattern_numbers scheduler scoping pattern) from told_pattern
 
-  pub pattern_scope : before ≡ 0 → made.scope ≡ scope_of marks scheduler
+  pub pattern_scope : before ≡ 0 → {s : Scope} → s ≡ given_scope made → s ≡ scope_of marks scheduler
   pattern_scope = made_scope T (byte_scope_of marks scheduler) (pattern_numbers scheduler scoping pattern) from told_pattern
 
   pub run_refused :
@@ -192,17 +197,19 @@ module _ (T : Tables) (marks : List ℕ) (scheduler scoping pattern : ℕ) {o : 
       (value : ℕ)
       {values buffer valuesExit bufferExit words wordsExit : List ℕ}
       {mode : ScopingMode}
-      {answer : RunAnswer}
+      {answer : Result RunAnswer RunRefusal}
       {row : Row}
       {r : ℕ}
+      {s : Scope}
       → before ≡ 0
+      → s ≡ given_scope made
       → mode ≡ scoping_of scoping
-      → Ran (planned_name (known made.scope mode) (expr T pattern)) (run_outcome T made.scope mode pattern value values) values buffer valuesExit bufferExit answer
+      → Ran (planned_name (known s mode) (expr T pattern)) (run_outcome T s mode pattern value values) values buffer valuesExit bufferExit answer
       → row_line row ≡ ran_line (result_of answer)
       → Told (row_line row) words wordsExit r
       → RunCalled (names_set T marks scheduler scoping pattern) (run_call T marks scheduler scoping pattern value values) values buffer words valuesExit bufferExit wordsExit r
-  run_done value none m ran is done =
-      let was = rw (pattern_scope none, m) at ran in
+  run_done value none given m ran is done =
+      let was = rw (pattern_scope none given, m) at ran in
       let said = rw (is ∙ ap ran_line was.answer) at done in
       rw (pattern_passed none) (record { answer = said; plan = was.plan; list = was.list })
 
@@ -222,16 +229,18 @@ module _ (T : Tables) (marks : List ℕ) (scheduler scoping pattern : ℕ) {o : 
   pub report_done :
       {list after words wordsExit : List ℕ}
       {mode : ScopingMode}
-      {answer : ReportAnswer}
+      {answer : Result Unit ReportRefusal}
       {row : Row}
       {r : ℕ}
+      {s : Scope}
       → before ≡ 0
+      → s ≡ given_scope made
       → mode ≡ scoping_of scoping
-      → ReportedBy T made.scope mode pattern list after answer
+      → ReportedBy T s mode pattern list after answer
       → row_line row ≡ report_line answer
       → Told (row_line row) words wordsExit r
       → ReportCalled T marks scheduler scoping pattern list words after wordsExit r
-  report_done none m was is done =
-      let reported = rw (pattern_scope none, m) at was in
+  report_done none given m was is done =
+      let reported = rw (pattern_scope none given, m) at was in
       let e = pattern_passed none in
       record { answer = rw e (rw (is ∙ reported.answer) at done); list = rw e reported.list }

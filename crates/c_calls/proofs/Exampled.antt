@@ -10,9 +10,9 @@ use lib.Dec.{leb}
 use lib.ListN.{length, replicate}
 use Rattle.base.specs.Refusal as Refusal
 use Rattle.base.specs.Refusal.{layout_broken, breaks_rules, over_limit, value_too_large, Tested, passed, require, tested_or, Line, line, refusal_line, tested_line}
-use Rattle.scope.specs.declared.Converted.{Converted}
-use Rattle.scope.specs.declared.ConversionAnswer.{ConversionAnswer}
-use Rattle.scope.specs.declared.ConversionAnswer.TheVariants.{Done, MarkOutside}
+use Rattle.scope.specs.declared.Scope.{Scope}
+use Rattle.scope.specs.declared.MarkOutside.{MarkOutside}
+use Rattle.scope.proofs.Agreeing.{converted_or_empty}
 use Rattle.scope.specs.declared.ScopingMode.{ScopingMode}
 use Rattle.scope.specs.Bytes.{marks_ok, conversion_of, ConvertedFrom}
 use Rattle.table.specs.declared.TableRefusal.{TableRefusal}
@@ -41,7 +41,7 @@ use Rattle.common_example.specs.Operations.{PatternSide, side_checked, child_ent
 use Rattle.common_example.specs.Common.{example_refused, example_result, pattern_side, Gives, example_tested, SideChecked}
 use Rattle.common_example.proofs.written.Sizes.{entries_size}
 use Rattle.c_calls.specs.declared.examples.HostSide.{HostSide}
-use Rattle.c_calls.specs.Given.{byte_scope_of, scope_of, pattern_numbers, tested_first, given_first, GivenTold}
+use Rattle.c_calls.specs.Given.{byte_scope_of, scope_of, given_scope, pattern_numbers, tested_first, given_first, GivenTold}
 use Rattle.c_calls.specs.Examples.{GivenSide, numbers_in, side_in, example_call, example_line, ExampleCalled, OfHost, ExampleFirst, SecondRefused, marked_outcome}
 use Rattle.c_calls.proofs.Called.{no_refusal}
 
@@ -59,10 +59,10 @@ pub example_side : (answer : Result (Option Example) ExampleRefusal) {x : SideRe
 example_side answer e is = rw e is
 
 -- 2. a side as it is given
-pub host_is : (marks : List ℕ) (scheduler scoping pattern : ℕ) {c : Converted} {o : OperationNumbers} {mode : ScopingMode} → ConvertedFrom (byte_scope_of marks scheduler) c
-    → o ≡ pattern_numbers scheduler scoping pattern → mode ≡ scoping_of scoping
-    → OfHost marks scheduler scoping pattern (record { made = c.answer; asked = o; pattern = record { scope = c.scope; scoping = mode; root = pattern } })
-host_is marks scheduler scoping pattern from asked mode = record { made = from.answer; scope = from.scope; scoping_is = mode; root = refl; asked = asked }
+pub host_is : (marks : List ℕ) (scheduler scoping pattern : ℕ) {c : Result Scope MarkOutside} {s : Scope} {o : OperationNumbers} {mode : ScopingMode} → ConvertedFrom (byte_scope_of marks scheduler) c
+    → s ≡ given_scope c → o ≡ pattern_numbers scheduler scoping pattern → mode ≡ scoping_of scoping
+    → OfHost marks scheduler scoping pattern (record { made = c; asked = o; pattern = record { scope = s; scoping = mode; root = pattern } })
+host_is marks scheduler scoping pattern from given asked mode = record { made = from.answer; scope = converted_or_empty (byte_scope_of marks scheduler) from refl given; scoping_is = mode; root = refl; asked = asked }
 
 -- 3. what comes first
 module _ (T : Tables) {h₁ h₂ : HostSide} {l : Bool} (listed : l ≡ are_listed h₂.asked) where
@@ -81,11 +81,11 @@ module _ {T : Tables} {s : PatternSide} {c : Result Unit ExampleRefusal} (i : Si
   second_marks e = let h = sym i.answer ∙ ap example_tested e in record { answer = rw h refl }
 
 module _ {T : Tables} (s₁ s₂ : PatternSide) {out kids out' kids' : List ℕ} where
-  pub given_done : {r : Result (Option Example) ExampleRefusal} (made : ConversionAnswer) → made ≡ Done → Gives T (example_outcome T s₁ s₂) out kids out' kids' r → Gives T (marked_outcome T s₁ (conversion_of made) s₂) out kids out' kids' r
+  pub given_done : {r : Result (Option Example) ExampleRefusal} (made : Result Scope MarkOutside) {s : Scope} → made ≡ Ok s → Gives T (example_outcome T s₁ s₂) out kids out' kids' r → Gives T (marked_outcome T s₁ (conversion_of made) s₂) out kids out' kids' r
   unfolding example_outcome
   given_done made e g = rw e g
 
-  pub given_marked : {r : ExampleRefusal} (made : ConversionAnswer) → made ≡ MarkOutside → SecondRefused T s₁ r → out' ≡ replicate (length out) 0 → kids' ≡ replicate (length kids) 0
+  pub given_marked : {r : ExampleRefusal} (made : Result Scope MarkOutside) {o : MarkOutside} → made ≡ Err o → SecondRefused T s₁ r → out' ≡ replicate (length out) 0 → kids' ≡ replicate (length kids) 0
       → Gives T (marked_outcome T s₁ (conversion_of made) s₂) out kids out' kids' (Err r)
   unfolding example_answer nodes_after children_after
   given_marked {r} made e i f g = rw e (go (side_checked T s₁) i.answer)

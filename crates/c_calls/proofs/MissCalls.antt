@@ -6,11 +6,12 @@ use mathlib.Core.Logic.{inl, inr}
 use native.Mathlib.Omega.{arith}
 use lib.Dec.{T as True}
 use Rattle.base.specs.Lists.{elem}
-use Rattle.base.specs.Refusal.{Line, line, tested_or, tested_line, Tested, passed}
+use Rattle.base.specs.Refusal.{Line, line, tested_or, tested_line, Tested, passed, refusal_line}
 use Rattle.base.specs.Refusal as Tested
 use Rattle.scope.specs.declared.Scope.{Scope}
 use Rattle.scope.specs.declared.ScopingMode.{ScopingMode}
-use Rattle.scope.specs.declared.Converted.{Converted}
+use Rattle.scope.specs.declared.MarkOutside.{MarkOutside}
+use Rattle.std.specs.Prelude.{Result}
 use Rattle.scope.specs.Bytes.{ConvertedFrom, conversion_of}
 use Rattle.table.specs.Tables.{Tables}
 use Rattle.table.specs.Decode.{expr}
@@ -24,9 +25,9 @@ use Rattle.operation.specs.declared.numbers.OperationNumbers.{OperationNumbers}
 use Rattle.operation.specs.declared.row.Row.{Row}
 use Rattle.operation.specs.Numbers.{scoping_of}
 use Rattle.operation.specs.Rows.{row_line, Told}
-use Rattle.run.specs.declared.RunAnswer.{RunAnswer}
-use Rattle.run.specs.Answer as Run
-use Rattle.run.specs.Answer.{RunResult}
+use Rattle.std.proofs.Common.{Option, Result, Ok, Err}
+use Rattle.run.specs.declared.RunRefusal.{RunRefusal}
+use Rattle.run.specs.Answer.{run_refusal}
 use Rattle.run.specs.Operations.{RunOutcome, run_outcome}
 use Rattle.run.specs.code.Post.{RunAsks}
 use Rattle.run.proofs.Running.{run_table}
@@ -34,33 +35,25 @@ use Rattle.run.proofs.Refusing.{Verdict, verdict}
 use Rattle.first_miss.specs.declared.Why.{Why}
 use Rattle.first_miss.specs.declared.Why.TheVariants.{NameDiffers, LiteralDiffers, NoArray, OtherLength, NoObject, KeyMissing, KeyTooMany}
 use Rattle.first_miss.specs.declared.Miss.{Miss}
-use Rattle.first_miss.specs.declared.MissAnswer.{MissAnswer}
-use Rattle.first_miss.specs.declared.MissAnswer.TheVariants.{Refused}
 use Rattle.first_miss.specs.Miss.{MissOutcome, matched, missed, fault}
-use Rattle.first_miss.specs.Answer.{MissResult, turned_back_lem, no_match_lem, refused_by, miss_result_of}
+use Rattle.first_miss.specs.Answer.{MissResult, turned_back_lem, no_match_lem, miss_result_of}
 use Rattle.first_miss.specs.Operations.{carried_result, after_checks, miss_found, miss_result, MissTold}
 use Rattle.first_miss.proofs.Answered.{no_fault, result_is}
 use Rattle.first_miss.proofs.Promised.{promised}
-use Rattle.c_calls.specs.Given.{byte_scope_of, scope_of, pattern_numbers, given_first, GivenTold}
-use Rattle.c_calls.specs.Calls.{ran_line}
+use Rattle.c_calls.specs.Given.{byte_scope_of, scope_of, given_scope, pattern_numbers, given_first, GivenTold}
 use Rattle.c_calls.specs.Misses.{why_number, miss_line, miss_call, MissCalled}
 use Rattle.c_calls.proofs.Shortness.{ShortRun, run_outcome_short}
 use Rattle.c_calls.proofs.Called.{some_refusal, pattern_first, pattern_passed, pattern_scope}
 
 -- 1. The four numbers
-as_run : (q : RunResult) → ran_line q ≡ miss_line (refused_by q)
-as_run (Run.turned_back_lem r) = refl
-as_run Run.a_match = refl
-as_run Run.no_match_lem = refl
-
-pub miss_is : (answer : MissAnswer) {a : MissAnswer} {l : Line} → answer ≡ a → l ≡ miss_line (miss_result_of a) → l ≡ miss_line (miss_result_of answer)
+pub miss_is : (answer : Result (Option Miss) RunRefusal) {a : Result (Option Miss) RunRefusal} {l : Line} → answer ≡ a → l ≡ miss_line (miss_result_of a) → l ≡ miss_line (miss_result_of answer)
 miss_is answer e is = rw e is
 
 pub missed_is : (m : Miss) {n : ℕ} {l : Line} → n ≡ why_number m.why → l ≡ line 100 m.value m.pattern n → l ≡ miss_line (no_match_lem m)
 missed_is m n is = is ∙ ap (line 100 m.value m.pattern) n
 
-pub miss_run : (answer : MissAnswer) {x : RunAnswer} {l : Line} → answer ≡ Refused x → l ≡ ran_line (Run.result_of x) → l ≡ miss_line (miss_result_of answer)
-miss_run answer {x} e is = rw e (is ∙ as_run (Run.result_of x))
+pub miss_run : (answer : Result (Option Miss) RunRefusal) {x : RunRefusal} {l : Line} → answer ≡ Err x → l ≡ refusal_line (run_refusal x) → l ≡ miss_line (miss_result_of answer)
+miss_run answer e is = rw e is
 
 -- 2. They fit in the words
 why_small : (w : Why) → why_number w ≤ 7
@@ -104,13 +97,13 @@ module _ (T : Tables) (s : Scope) (mode : ScopingMode) (pattern value : ℕ) (va
               let z = why_small m.why in
               subst Short (sym q) (short (omega arith) (omega arith) (omega arith) (omega arith))
 
-pub miss_fits : (T : Tables) (s : Scope) (mode : ScopingMode) (pattern value : ℕ) {values : List ℕ} {answer : MissAnswer} {row : Row} → MissTold T s mode pattern value values answer
+pub miss_fits : (T : Tables) (s : Scope) (mode : ScopingMode) (pattern value : ℕ) {values : List ℕ} {answer : Result (Option Miss) RunRefusal} {row : Row} → MissTold T s mode pattern value values answer
     → row_line row ≡ miss_line (miss_result_of answer) → ShortLine (row_line row)
 miss_fits T s mode pattern value {values} t is = subst ShortLine (sym (is ∙ ap miss_line t.answer)) (miss_short T s mode pattern value values)
 
 -- 3. The call
-module _ (T : Tables) (marks : List ℕ) (scheduler scoping pattern : ℕ) {o : OperationNumbers} (asked : o ≡ pattern_numbers scheduler scoping pattern) {made : Converted}
-    (from : ConvertedFrom (byte_scope_of marks scheduler) made) {before : ℕ} (told : GivenTold T (conversion_of made.answer) o before) (value : ℕ) (values : List ℕ) where
+module _ (T : Tables) (marks : List ℕ) (scheduler scoping pattern : ℕ) {o : OperationNumbers} (asked : o ≡ pattern_numbers scheduler scoping pattern) {made : Result Scope MarkOutside}
+    (from : ConvertedFrom (byte_scope_of marks scheduler) made) {before : ℕ} (told : GivenTold T (conversion_of made) o before) (value : ℕ) (values : List ℕ) where
   pub miss_refused : {words wordsExit : List ℕ} {r : ℕ} → (before ≡ 0 → ⊥) → Told (line before 0 0 0) words wordsExit r → MissCalled (miss_call T marks scheduler scoping pattern value values) words wordsExit r
   miss_refused {words} {wordsExit} {r} some done = go (given_first T marks (pattern_numbers scheduler scoping pattern)) refl
     where
@@ -120,11 +113,11 @@ module _ (T : Tables) (marks : List ℕ) (scheduler scoping pattern : ℕ) {o : 
           let q : miss_call T marks scheduler scoping pattern value values ≡ turned_back_lem x = ap (λ (t : Tested). tested_or turned_back_lem t (miss_result T (scope_of marks scheduler) (scoping_of scoping) pattern value values)) is in
           record { answer = subst (λ (l : Line). Told l words wordsExit r) (pattern_first T marks scheduler scoping pattern asked from told ∙ (ap tested_line is ∙ sym (ap miss_line q))) done }
 
-  pub miss_done : {words wordsExit : List ℕ} {mode : ScopingMode} {answer : MissAnswer} {row : Row} {r : ℕ} → before ≡ 0 → mode ≡ scoping_of scoping
-      → MissTold T made.scope mode pattern value values answer → row_line row ≡ miss_line (miss_result_of answer) → Told (row_line row) words wordsExit r
+  pub miss_done : {words wordsExit : List ℕ} {mode : ScopingMode} {answer : Result (Option Miss) RunRefusal} {row : Row} {r : ℕ} {s : Scope} → before ≡ 0 → s ≡ given_scope made → mode ≡ scoping_of scoping
+      → MissTold T s mode pattern value values answer → row_line row ≡ miss_line (miss_result_of answer) → Told (row_line row) words wordsExit r
       → MissCalled (miss_call T marks scheduler scoping pattern value values) words wordsExit r
-  miss_done {words} {wordsExit} {r = r} none m t is done =
-      let was = rw (pattern_scope T marks scheduler scoping pattern asked from told none, m) at t in
+  miss_done {words} {wordsExit} {r = r} none given m t is done =
+      let was = rw (pattern_scope T marks scheduler scoping pattern asked from told none given, m) at t in
       let q : miss_call T marks scheduler scoping pattern value values ≡ miss_result T (scope_of marks scheduler) (scoping_of scoping) pattern value values =
       ap (λ (t : Tested). tested_or turned_back_lem t (miss_result T (scope_of marks scheduler) (scoping_of scoping) pattern value values)) (pattern_passed T marks scheduler scoping pattern asked from told none) in
       record { answer = subst (λ (l : Line). Told l words wordsExit r) (is ∙ (ap miss_line was.answer ∙ sym (ap miss_line q))) done }

@@ -8,9 +8,9 @@ use lib.Dec.{eqb}
 use lib.ListN.{get_or}
 use Rattle.base.specs.Refusal.{Tested, tested_line}
 use Rattle.base.proofs.Filling.{Filling, filling_ends}
-use Rattle.scope.specs.declared.Converted.{Converted}
-use Rattle.scope.specs.declared.ConversionAnswer.{ConversionAnswer}
-use Rattle.scope.specs.declared.ConversionAnswer.TheVariants.{Done, MarkOutside}
+use Rattle.scope.specs.declared.Scope.{Scope}
+use Rattle.scope.specs.declared.MarkOutside.{MarkOutside}
+use Rattle.std.specs.Prelude.{Result, Ok, Err}
 use Rattle.scope.specs.Bytes.{conversion_of, ConvertedFrom}
 use Rattle.table.specs.Tables.{Tables}
 use Rattle.table.specs.Rules.{within_limits}
@@ -26,7 +26,7 @@ pub scope_is :
     (marks : List ℕ)
     (scheduler : ℕ)
     {all : List ℕ}
-    {r : Converted}
+    {r : Result Scope MarkOutside}
     → all ≡ marks_of marks
     → ConvertedFrom (record { marks = all; underscore = 0; scheduler = eqb scheduler 1 }) r
     → ConvertedFrom (byte_scope_of marks scheduler) r
@@ -43,7 +43,7 @@ module _ (T : Tables) (o : OperationNumbers) {l : Bool} (listed : l ≡ are_list
     unfolding tested_first
     given_over made u = record { told = rw (told_yes listed t, told_no limits u); small = omega arith }
 
-    pub given_made : (made : ConversionAnswer) {n : ℕ} → not w ≡ false → n ≡ (tested_line (conversion_of made)).number → GivenTold T (conversion_of made) o n
+    pub given_made : (made : Result Scope MarkOutside) {n : ℕ} → not w ≡ false → n ≡ (tested_line (conversion_of made)).number → GivenTold T (conversion_of made) o n
     unfolding tested_first
-    given_made Done u e = record { told = rw (told_yes listed t, told_yes limits u, e); small = omega arith }
-    given_made MarkOutside u e = record { told = rw (told_yes listed t, told_yes limits u, e); small = omega arith }
+    given_made (Ok s) u e = record { told = rw (told_yes listed t, told_yes limits u, e); small = omega arith }
+    given_made (Err o) u e = record { told = rw (told_yes listed t, told_yes limits u, e); small = omega arith }

@@ -7,11 +7,12 @@ use mathlib.Core.Bool.{Bool, true, false, cond}
 use native.Mathlib.Omega.{arith}
 use lib.Dec.{T as True}
 use lib.ListN.{length, replicate}
-use Rattle.base.specs.Refusal.{plan_too_large, require_or, Line, line, tested_or, tested_line, Tested, passed, range_wrong}
+use Rattle.base.specs.Refusal.{plan_too_large, require_or, Line, line, tested_or, tested_line, Tested, passed, range_wrong, refusal_line}
 use Rattle.base.specs.Refusal as Tested
 use Rattle.scope.specs.declared.Scope.{Scope}
 use Rattle.scope.specs.declared.ScopingMode.{ScopingMode}
-use Rattle.scope.specs.declared.Converted.{Converted}
+use Rattle.scope.specs.declared.MarkOutside.{MarkOutside}
+use Rattle.std.specs.Prelude.{Result}
 use Rattle.scope.specs.Bytes.{ConvertedFrom, conversion_of}
 use Rattle.table.specs.Tables.{Tables}
 use Rattle.planner.specs.Layout.{top, entries}
@@ -22,34 +23,30 @@ use Rattle.operation.specs.declared.numbers.OperationNumbers.{OperationNumbers}
 use Rattle.operation.specs.declared.row.Row.{Row}
 use Rattle.operation.specs.Numbers.{scoping_of}
 use Rattle.operation.specs.Rows.{row_line, Told}
-use Rattle.run.specs.declared.RunAnswer.{RunAnswer}
-use Rattle.run.specs.Answer as Run
-use Rattle.run.specs.Answer.{RunResult, a_match, no_match_lem}
+use Rattle.std.proofs.Common.{Result, Ok, Err}
+use Rattle.run.specs.declared.RunRefusal.{RunRefusal}
+use Rattle.run.specs.Answer.{run_refusal}
 use Rattle.run.specs.Operations.{RunOutcome, run_outcome}
 use Rattle.tolerance.specs.declared.ToleranceAnswer.{ToleranceAnswer}
-use Rattle.tolerance.specs.declared.ToleranceAnswer.TheVariants.{Refused}
+use Rattle.tolerance.specs.declared.ToleranceRefusal.{ToleranceRefusal}
+use Rattle.tolerance.specs.declared.ToleranceRefusal.TheVariants.{Run}
 use Rattle.tolerance.specs.Tolerance.{Answer, always, sometimes, never}
-use Rattle.tolerance.specs.Answer.{turned_back_lem, answers, refused_by, tolerance_result_of}
+use Rattle.tolerance.specs.Answer.{turned_back_lem, answers, tolerance_result_of}
 use Rattle.tolerance.specs.Operations as Tolerance
 use Rattle.tolerance.specs.Operations.{ToleranceOutcome, judged, after_checks, with_lowest, ranges_ok, tolerance_outcome, tolerance_result, plan_left, values_left, is_judged, Judged}
 use Rattle.run.proofs.Refusing.{run_passed, Verdict, verdict}
-use Rattle.c_calls.specs.Given.{byte_scope_of, scope_of, pattern_numbers, given_first, GivenTold}
-use Rattle.c_calls.specs.Calls.{ran_line, names_set}
+use Rattle.c_calls.specs.Given.{byte_scope_of, scope_of, given_scope, pattern_numbers, given_first, GivenTold}
+use Rattle.c_calls.specs.Calls.{names_set}
 use Rattle.c_calls.specs.Tolerating.{tolerance_line, tolerance_call, Tolerated}
 use Rattle.c_calls.proofs.Shortness.{ShortRun, run_outcome_short}
 use Rattle.c_calls.proofs.Called.{some_refusal, pattern_first, pattern_passed, pattern_scope}
 
 -- 1. The four numbers
-as_run : (q : RunResult) → ran_line q ≡ tolerance_line (refused_by q)
-as_run (Run.turned_back_lem r) = refl
-as_run a_match = refl
-as_run no_match_lem = refl
-
-pub tolerance_is : (answer : ToleranceAnswer) {a : ToleranceAnswer} {l : Line} → answer ≡ a → l ≡ tolerance_line (tolerance_result_of a) → l ≡ tolerance_line (tolerance_result_of answer)
+pub tolerance_is : (answer : Result ToleranceAnswer ToleranceRefusal) {a : Result ToleranceAnswer ToleranceRefusal} {l : Line} → answer ≡ a → l ≡ tolerance_line (tolerance_result_of a) → l ≡ tolerance_line (tolerance_result_of answer)
 tolerance_is answer e is = rw e is
 
-pub tolerance_run : (answer : ToleranceAnswer) {x : RunAnswer} {l : Line} → answer ≡ Refused x → l ≡ ran_line (Run.result_of x) → l ≡ tolerance_line (tolerance_result_of answer)
-tolerance_run answer {x} e is = rw e (is ∙ as_run (Run.result_of x))
+pub tolerance_run : (answer : Result ToleranceAnswer ToleranceRefusal) {x : RunRefusal} {l : Line} → answer ≡ Err (Run x) → l ≡ refusal_line (run_refusal x) → l ≡ tolerance_line (tolerance_result_of answer)
+tolerance_run answer e is = rw e is
 
 -- 2. They fit in the words
 module _ (T : Tables) (s : Scope) (mode : ScopingMode) (pattern value : ℕ) (values lows highs : List ℕ) (a : Answer) (buffer : List ℕ) where
@@ -85,14 +82,14 @@ module _ (T : Tables) (s : Scope) (mode : ScopingMode) (pattern value : ℕ) (va
           subst (λ (o : RunOutcome). Short (after_checks o (behind (ranges_ok T s mode value values lows highs)))) (sym (run_passed asks))
           (behind_short (subst ShortRun (run_passed asks) (run_outcome_short T s mode pattern value values)) (ranges_ok T s mode value values lows highs))
 
-pub tolerance_fits : (T : Tables) (s : Scope) (mode : ScopingMode) (pattern value : ℕ) {values lows highs buffer valuesExit bufferExit : List ℕ} {answer : ToleranceAnswer} {row : Row}
+pub tolerance_fits : (T : Tables) (s : Scope) (mode : ScopingMode) (pattern value : ℕ) {values lows highs buffer valuesExit bufferExit : List ℕ} {answer : Result ToleranceAnswer ToleranceRefusal} {row : Row}
     → Judged T s mode pattern value values lows highs buffer valuesExit bufferExit answer → row_line row ≡ tolerance_line (tolerance_result_of answer) → ShortLine (row_line row)
 tolerance_fits T s mode pattern value {values} {lows} {highs} {buffer} j is =
     subst ShortLine (sym (is ∙ ap tolerance_line j.told)) (tolerance_short T s mode pattern value values lows highs j.answer buffer)
 
 -- 3. The call
-module _ (T : Tables) (marks : List ℕ) (scheduler scoping pattern : ℕ) {o : OperationNumbers} (asked : o ≡ pattern_numbers scheduler scoping pattern) {made : Converted}
-    (from : ConvertedFrom (byte_scope_of marks scheduler) made) {before : ℕ} (told : GivenTold T (conversion_of made.answer) o before) (value : ℕ) {values lows highs buffer : List ℕ} where
+module _ (T : Tables) (marks : List ℕ) (scheduler scoping pattern : ℕ) {o : OperationNumbers} (asked : o ≡ pattern_numbers scheduler scoping pattern) {made : Result Scope MarkOutside}
+    (from : ConvertedFrom (byte_scope_of marks scheduler) made) {before : ℕ} (told : GivenTold T (conversion_of made) o before) (value : ℕ) {values lows highs buffer : List ℕ} where
   pub tolerance_refused : {bufferExit words wordsExit : List ℕ} {r : ℕ} → (before ≡ 0 → ⊥) → bufferExit ≡ replicate (length buffer) 0 → Told (line before 0 0 0) words wordsExit r
       → Tolerated T marks scheduler scoping pattern value values lows highs buffer words values bufferExit wordsExit r
   unfolding tolerance_result plan_left values_left
@@ -111,11 +108,11 @@ module _ (T : Tables) (marks : List ℕ) (scheduler scoping pattern : ℕ) {o : 
             list = sym (ap (λ (o : ToleranceOutcome). values_left (names_set T marks scheduler scoping pattern) o buffer values) q);
           }
 
-  pub tolerance_done : {valuesExit bufferExit words wordsExit : List ℕ} {mode : ScopingMode} {answer : ToleranceAnswer} {row : Row} {r : ℕ} → before ≡ 0 → mode ≡ scoping_of scoping
-      → Judged T made.scope mode pattern value values lows highs buffer valuesExit bufferExit answer → row_line row ≡ tolerance_line (tolerance_result_of answer) → Told (row_line row) words wordsExit r
+  pub tolerance_done : {valuesExit bufferExit words wordsExit : List ℕ} {mode : ScopingMode} {answer : Result ToleranceAnswer ToleranceRefusal} {row : Row} {r : ℕ} {s : Scope} → before ≡ 0 → s ≡ given_scope made → mode ≡ scoping_of scoping
+      → Judged T s mode pattern value values lows highs buffer valuesExit bufferExit answer → row_line row ≡ tolerance_line (tolerance_result_of answer) → Told (row_line row) words wordsExit r
       → Tolerated T marks scheduler scoping pattern value values lows highs buffer words valuesExit bufferExit wordsExit r
-  tolerance_done {valuesExit} {bufferExit} {words} {wordsExit} {r = r} none m j is done =
-      let was = rw (pattern_scope T marks scheduler scoping pattern asked from told none, m) at j in
+  tolerance_done {valuesExit} {bufferExit} {words} {wordsExit} {r = r} none given m j is done =
+      let was = rw (pattern_scope T marks scheduler scoping pattern asked from told none given, m) at j in
       let q : tolerance_call T marks scheduler scoping pattern value values lows highs was.answer ≡ tolerance_outcome T (scope_of marks scheduler) (scoping_of scoping) pattern value values lows highs was.answer =
       ap (λ (t : Tested). tested_or Tolerance.refused t (tolerance_outcome T (scope_of marks scheduler) (scoping_of scoping) pattern value values lows highs was.answer)) (pattern_passed T marks scheduler scoping pattern asked from told none) in
       record {

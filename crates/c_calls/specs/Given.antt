@@ -1,10 +1,13 @@
 -- What a C host gives beside the tables: marks as bytes, the operation as the six numbers of a sheet's line 2.
-use Rattle.std.specs.Prelude.{ℕ, ◌≤◌, ◌≡◌, List, eqb, get_or}
+use Rattle.std.specs.Prelude.{ℕ, ◌≤◌, ◌≡◌, List, eqb, get_or, Result}
+use Rattle.std.specs.Result.{result_unwrap_or}
 use Rattle.base.specs.Lists.{tabulate}
 use Rattle.base.specs.Refusal.{over_limit, layout_broken, Tested, require, line, tested_line}
 use Rattle.scope.specs.declared.Scope.{Scope}
 use Rattle.scope.specs.declared.ByteScope.{ByteScope}
+use Rattle.scope.specs.declared.MarkOutside.{MarkOutside}
 use Rattle.scope.specs.Bytes.{of_bytes, convertible}
+use Rattle.scope.specs.Scope.{new_scope}
 use Rattle.table.specs.Tables.{Tables}
 use Rattle.table.specs.Rules.{within_limits}
 use Rattle.operation.specs.declared.numbers.OperationNumbers.{OperationNumbers}
@@ -20,6 +23,10 @@ byte_scope_of marks scheduler = record { marks = marks_of marks; underscore = 0;
 
 abbrev pub scope_of : List ℕ → ℕ → Scope
 scope_of marks scheduler = of_bytes (byte_scope_of marks scheduler)
+
+-- the scope of a conversion, or an empty one in its place, which nothing reads
+abbrev pub given_scope : Result Scope MarkOutside → Scope
+given_scope made = result_unwrap_or made (new_scope 0 false)
 
 abbrev pub given_numbers : ℕ → ℕ → ℕ → ℕ → ℕ → ℕ → OperationNumbers
 given_numbers operation scheduler scoping first second key =

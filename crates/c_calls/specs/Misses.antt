@@ -7,10 +7,9 @@ use Rattle.operation.specs.Numbers.{scoping_of}
 use Rattle.operation.specs.Rows.{Told}
 use Rattle.first_miss.specs.declared.Why.{Why}
 use Rattle.first_miss.specs.declared.Why.TheVariants.{NameDiffers, LiteralDiffers, NoArray, OtherLength, NoObject, KeyMissing, KeyTooMany}
-use Rattle.first_miss.specs.Answer.{MissResult, turned_back_lem, a_match, no_match_lem, of_run}
+use Rattle.first_miss.specs.Answer.{MissResult, turned_back_lem, a_match, no_match_lem}
 use Rattle.first_miss.specs.Operations.{miss_result}
 use Rattle.c_calls.specs.Given.{scope_of, pattern_numbers, given_first}
-use Rattle.c_calls.specs.Calls.{ran_line}
 
 abbrev pub why_number : Why → ℕ
 why_number NameDiffers = 1
@@ -25,7 +24,6 @@ abbrev pub miss_line : MissResult → Line
 miss_line (turned_back_lem r) = refusal_line r
 miss_line a_match = line 0 0 0 0
 miss_line (no_match_lem m) = line 100 m.value m.pattern (why_number m.why)
-miss_line (of_run r) = ran_line r
 
 abbrev pub miss_call : Tables → List ℕ → ℕ → ℕ → ℕ → ℕ → List ℕ → MissResult
 miss_call T marks scheduler scoping pattern value values =

@@ -6,18 +6,17 @@ use Rattle.table.specs.Tables.{Tables}
 use Rattle.operation.specs.Numbers.{scoping_of}
 use Rattle.operation.specs.Rows.{Told}
 use Rattle.tolerance.specs.Tolerance.{Answer, always, sometimes, never}
-use Rattle.tolerance.specs.Answer.{ToleranceResult, turned_back_lem, answers, of_run}
+use Rattle.tolerance.specs.Answer.{ToleranceResult, turned_back_lem, answers}
 use Rattle.tolerance.specs.Operations as Tolerance
 use Rattle.tolerance.specs.Operations.{ToleranceOutcome, IsAnswer, tolerance_outcome, tolerance_result, plan_left, values_left, is_judged}
 use Rattle.c_calls.specs.Given.{scope_of, pattern_numbers, given_first}
-use Rattle.c_calls.specs.Calls.{ran_line, names_set}
+use Rattle.c_calls.specs.Calls.{names_set}
 
 abbrev pub tolerance_line : ToleranceResult → Line
 tolerance_line (turned_back_lem r) = refusal_line r
 tolerance_line (answers always) = line 0 0 0 0
 tolerance_line (answers sometimes) = line 101 0 0 0
 tolerance_line (answers never) = line 100 0 0 0
-tolerance_line (of_run r) = ran_line r
 
 module _ (T : Tables) (marks : List ℕ) (scheduler scoping pattern value : ℕ) (values lows highs : List ℕ) where
   abbrev pub tolerance_call : Answer → ToleranceOutcome

@@ -1,7 +1,7 @@
 // The call for a rule body over lent tables.
 ghost use Rattle.table.specs.Contents.{contents};
 ghost use Rattle.table.specs.Lent.{lent};
-ghost use Rattle.std.specs.Prelude.{◌≡◌, cond, eqb};
+ghost use Rattle.std.specs.Prelude.{◌≡◌, Err, cond, eqb};
 ghost use Rattle.base.specs.Refusal.{line, tested_line};
 ghost use Rattle.scope.specs.Bytes.{conversion_of};
 ghost use Rattle.planner.specs.Short.{ShortLine};
@@ -9,11 +9,12 @@ ghost use Rattle.operation.specs.Rows.{row_line};
 ghost use Rattle.body.specs.Body.{body_line, body_line_of};
 ghost use Rattle.c_calls.specs.Bodies.{words_first, marks_first, marks_in, ToldBody, BodyCalledIn};
 
-use crate::given::{conversion_number, scope_of};
+use crate::given::{conversion_number, given_scope, scope_of};
 use body::lines::is_body;
-use body::{BodyAnswer, plan_body};
+use body::{BodyRefusal, plan_body};
 use operation::inner::{put_word, tell};
-use operation::row::{Row, row_from, row_of};
+use operation::row::{Row, refusal_row, row_from};
+use planner::Plan;
 use planner::buffer::clear;
 use scope::{MarkOutside, Scope};
 use table::limits::within_limits;
@@ -73,30 +74,34 @@ struct BodyRow {
     pub line: u32,
 }
 
-fn body_row(answer: BodyAnswer) -> BodyRow
-    ensures { body_line (row_line result.row) result.line ≡ body_line_of answer }
+fn refused_row(refusal: BodyRefusal) -> BodyRow
+    ensures { body_line (row_line result.row) result.line ≡ body_line_of (Err refusal) }
 {
-    match answer {
-        BodyAnswer::Accepted {
-            form,
-            side,
-            entries,
-        } => BodyRow {
-            row: row_from(0, form as u64, side as u64, entries as u64),
-            line: 0,
-        },
-        BodyAnswer::NotABody => BodyRow {
+    match refusal {
+        BodyRefusal::NotABody => BodyRow {
             row: row_from(37, 0, 0, 0),
             line: 0,
         },
-        BodyAnswer::LineRefused { line, answer } => BodyRow {
-            row: row_of(answer),
+        BodyRefusal::LineRefused { line, refusal } => BodyRow {
+            row: refusal_row(refusal),
             line,
         },
-        BodyAnswer::NameNotReady { line, name } => BodyRow {
+        BodyRefusal::NameNotReady { line, name } => BodyRow {
             row: row_from(38, name as u64, 0, 0),
             line,
         },
+    }
+}
+
+fn body_row(answer: Result<Plan, BodyRefusal>) -> BodyRow
+    ensures { body_line (row_line result.row) result.line ≡ body_line_of answer }
+{
+    match answer {
+        Ok(plan) => BodyRow {
+            row: row_from(0, plan.form as u64, plan.side as u64, plan.entries as u64),
+            line: 0,
+        },
+        Err(refusal) => refused_row(refusal),
     }
 }
 
@@ -127,13 +132,12 @@ pub fn teluddru_plan_body(
         return tell_body(answer, row_from(unread as u64, 0, 0, 0), 0);
     }
     let made = scope_of(marks, scheduler);
-    let converted = made.answer;
-    let scope = made.scope;
-    let before = marks_first(tables, converted);
+    let before = marks_first(tables, made);
     if before != 0 {
         clear(plan);
         return tell_body(answer, row_from(before as u64, 0, 0, 0), 1);
     }
+    let scope = given_scope(made);
     let done = plan_body(tables, scope, lines, plan);
     let reached = done.answer;
     let after = done.scope;

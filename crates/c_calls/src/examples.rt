@@ -10,7 +10,7 @@ ghost use Rattle.common_example.specs.Common.{example_result};
 ghost use Rattle.c_calls.specs.Examples.{example_line, OfHost, ExampleFirst, SecondRefusedIn, MarkedIn, given_side, ExampleCalledIn};
 
 use crate::answer::refuse;
-use crate::given::{pattern_numbers, refused_first, scope_of};
+use crate::given::{given_scope, pattern_numbers, refused_first, scope_of};
 use common_example::example::{Example, ExampleRefusal};
 use common_example::sides::{ScopedPattern, SideRefusal};
 use common_example::{common_example, refused_side};
@@ -18,7 +18,7 @@ use operation::inner::tell;
 use operation::numbers::{OperationNumbers, are_listed, scoping_of};
 use operation::row::{Row, row_from};
 use planner::buffer::clear;
-use scope::ConversionAnswer;
+use scope::{MarkOutside, Scope};
 use table::tables::Tables;
 use table::{TableRefusal, refusal_number};
 
@@ -53,7 +53,7 @@ fn example_row(answer: Result<Option<Example>, ExampleRefusal>) -> Row
 // A side as a C host gives it: what the conversion of its marks answered, its numbers as an operation, and its pattern.
 #[derive(Clone, Copy)]
 struct HostSide {
-    pub made: ConversionAnswer,
+    pub made: Result<Scope, MarkOutside>,
     pub asked: OperationNumbers,
     pub pattern: ScopedPattern,
 }
@@ -61,12 +61,10 @@ struct HostSide {
 fn host_side(marks: &[u8], scheduler: u32, scoping: u32, pattern: u32) -> HostSide
     ensures { OfHost marks.now scheduler scoping pattern result }
 {
-    let converted = scope_of(marks, scheduler);
-    let made = converted.answer;
-    let scope = converted.scope;
+    let made = scope_of(marks, scheduler);
     let asked = pattern_numbers(scheduler, scoping, pattern);
     let scoped = ScopedPattern {
-        scope: scope,
+        scope: given_scope(made),
         scoping: scoping_of(scoping),
         root: pattern,
     };
@@ -105,7 +103,7 @@ fn example_given(
     tables: &Tables<'_>,
     first: ScopedPattern,
     values1: &[u32],
-    made: ConversionAnswer,
+    made: Result<Scope, MarkOutside>,
     second: ScopedPattern,
     values2: &[u32],
     example_nodes: &mut [u32],
@@ -114,7 +112,7 @@ fn example_given(
     ensures { let T = contents tables.now in
         MarkedIn T first values1 (conversion_of made) second values2 example_nodes example_children result }
 {
-    if let ConversionAnswer::Done = made {
+    if let Ok(_) = made {
         return common_example(
             tables,
             first,

@@ -6,12 +6,13 @@ ghost use Rattle.operation.specs.Rows.{row_line};
 ghost use Rattle.first_miss.specs.Answer.{no_match_lem, miss_result_of};
 ghost use Rattle.c_calls.specs.Misses.{why_number, miss_line, MissCalledIn};
 
-use crate::answer::{refuse, run_row};
-use crate::given::{pattern_numbers, refused_first, scope_of};
-use first_miss::{Miss, MissAnswer, Why, first_miss};
+use crate::answer::{refuse, run_refusal_row};
+use crate::given::{given_scope, pattern_numbers, refused_first, scope_of};
+use first_miss::{Miss, Why, first_miss};
 use operation::inner::tell;
 use operation::numbers::scoping_of;
 use operation::row::{Row, row_from};
+use run::RunRefusal;
 use table::tables::Tables;
 
 fn why_number(why: Why) -> u64
@@ -36,13 +37,13 @@ fn missed_row(miss: Miss) -> Row
     row_from(100, miss.value as u64, miss.pattern as u64, number)
 }
 
-fn miss_row(answer: MissAnswer) -> Row
+fn miss_row(answer: Result<Option<Miss>, RunRefusal>) -> Row
     ensures { row_line result ≡ miss_line (miss_result_of answer) }
 {
     match answer {
-        MissAnswer::Match => row_from(0, 0, 0, 0),
-        MissAnswer::NoMatch(miss) => missed_row(miss),
-        MissAnswer::Refused(refused) => run_row(refused),
+        Ok(None) => row_from(0, 0, 0, 0),
+        Ok(Some(miss)) => missed_row(miss),
+        Err(refused) => run_refusal_row(refused),
     }
 }
 
@@ -65,6 +66,7 @@ pub fn teluddru_first_miss(
     if before != 0 {
         return refuse(answer, before);
     }
+    let scope = given_scope(made);
     let missed = first_miss(tables, scope, scoping_of(scoping), pattern, value, values);
     tell(answer, miss_row(missed))
 }

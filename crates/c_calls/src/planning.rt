@@ -4,7 +4,7 @@ ghost use Rattle.table.specs.Lent.{lent};
 ghost use Rattle.c_calls.specs.Calls.{PlanCalledIn};
 
 use crate::answer::refuse;
-use crate::given::{refused_first, scope_of};
+use crate::given::{given_scope, refused_first, scope_of};
 use operation::inner::tell;
 use operation::numbers::{OperationNumbers, operation_of};
 use operation::row::row_of;
@@ -41,6 +41,7 @@ pub fn teluddru_plan(
         clear(plan);
         return refuse(answer, before);
     }
+    let scope = given_scope(made);
     let planned = operation::plan(tables, scope, operation_of(asked), version, plan);
     tell(answer, row_of(planned))
 }

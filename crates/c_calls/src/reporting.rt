@@ -4,7 +4,7 @@ ghost use Rattle.table.specs.Lent.{lent};
 ghost use Rattle.c_calls.specs.Calls.{ReportCalledIn};
 
 use crate::answer::{refuse, report_row};
-use crate::given::{pattern_numbers, refused_first, scope_of};
+use crate::given::{given_scope, pattern_numbers, refused_first, scope_of};
 use operation::inner::tell;
 use operation::numbers::scoping_of;
 use planner::buffer::clear;
@@ -30,6 +30,7 @@ pub fn teluddru_names_report(
         clear(list);
         return refuse(answer, before);
     }
+    let scope = given_scope(made);
     let reported = names_report(tables, scope, scoping_of(scoping), pattern, list);
     tell(answer, report_row(reported))
 }

@@ -4,7 +4,7 @@ ghost use Rattle.table.specs.Lent.{lent};
 ghost use Rattle.c_calls.specs.Calls.{RunCalledIn};
 
 use crate::answer::{refuse, run_row};
-use crate::given::{pattern_numbers, refused_first, scope_of};
+use crate::given::{given_scope, pattern_numbers, refused_first, scope_of};
 use operation::inner::tell;
 use operation::numbers::scoping_of;
 use planner::buffer::clear;
@@ -32,6 +32,7 @@ pub fn teluddru_run(
         clear(plan);
         return refuse(answer, before);
     }
+    let scope = given_scope(made);
     let ran = run(
         tables,
         scope,

@@ -4,7 +4,7 @@ ghost use Rattle.table.specs.Lent.{lent};
 ghost use Rattle.c_calls.specs.Tolerating.{ToleratedIn};
 
 use crate::answer::{refuse, tolerance_row};
-use crate::given::{pattern_numbers, refused_first, scope_of};
+use crate::given::{given_scope, pattern_numbers, refused_first, scope_of};
 use operation::inner::tell;
 use operation::numbers::scoping_of;
 use planner::buffer::clear;
@@ -34,6 +34,7 @@ pub fn teluddru_run_with_tolerance(
         clear(plan);
         return refuse(answer, before);
     }
+    let scope = given_scope(made);
     let ran = run_with_tolerance(
         tables,
         scope,

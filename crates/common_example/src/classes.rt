@@ -77,14 +77,10 @@ fn join_items(
     requires { LinksAsks 4 heads.now links.now classes.old at from count }
     ensures { ItemsJoined heads.now links.now classes.old at from count classes.new }
 {
-    let mut first = at;
-    let mut second = from;
-    let mut left = count;
-    while 0 < left {
+    for i in 0..count {
+        let first = at + i * 4;
+        let second = from + i * 4;
         join_pair(heads, classes, links[first], links[second]);
-        first += 4;
-        second += 4;
-        left -= 1;
     }
 }
 
@@ -100,17 +96,13 @@ fn join_fields(
     requires { LinksAsks 8 heads.now links.now classes.old at from count }
     ensures { FieldsJoined heads.now links.now classes.old at from count classes.new result }
 {
-    let mut first = at;
-    let mut second = from;
-    let mut left = count;
-    while 0 < left {
+    for i in 0..count {
+        let first = at + i * 8;
+        let second = from + i * 8;
         if links[first + 2] != links[second + 2] {
             return false;
         }
         join_pair(heads, classes, links[first + 4], links[second + 4]);
-        first += 8;
-        second += 8;
-        left -= 1;
     }
     true
 }
@@ -225,9 +217,7 @@ fn join_round(
     requires { RoundAsks heads.now links.now classes.old }
     ensures { RoundDone heads.now links.now classes.old classes.new result }
 {
-    let mut left: u32 = 2048;
-    while 0 < left {
-        left -= 1;
+    for left in (0..2048).rev() {
         if !meet_class(heads, links, classes, left + 4) {
             return false;
         }
@@ -251,9 +241,7 @@ fn count_classes(classes: &[u32; PLACES]) -> u32
     ensures { result ≡ class_count_in classes.now 2048 }
 {
     let mut total: u32 = 0;
-    let mut left: u32 = 2048;
-    while 0 < left {
-        left -= 1;
+    for left in (0..2048).rev() {
         total += names_class(class_of(classes, left + 4), left + 4);
     }
     total
@@ -269,8 +257,7 @@ pub(crate) fn close_classes(
     ensures { CloseDone heads.now links.now classes.old classes.new result }
 {
     let mut before = count_classes(classes);
-    let mut left: u32 = 2049;
-    while 0 < left {
+    for _round in 0u32..2049 {
         if !join_round(heads, links, classes) {
             return false;
         }
@@ -279,7 +266,6 @@ pub(crate) fn close_classes(
             return true;
         }
         before = after;
-        left -= 1;
     }
     false
 }

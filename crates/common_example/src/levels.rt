@@ -44,15 +44,13 @@ fn sum_sizes(
 {
     let mut total = start;
     let mut link = at;
-    let mut left = count;
-    while 0 < left {
+    for _part in 0..count {
         let size = size_at(sizes, links[link]);
         if size == 0 {
             return 0;
         }
         total = capped(total, size);
         link += step;
-        left -= 1;
     }
     total
 }
@@ -122,7 +120,7 @@ pub(crate) fn settle(
     ensures { Settled heads.now links.now classes.now levels sizes.new }
 {
     *sizes = [0u16; PLACES];
-    for done in 0..levels {
+    for _done in 0..levels {
         next_sizes(heads, links, classes, sizes, next);
         if same_sizes(sizes, next) {
             return;

@@ -80,16 +80,14 @@ fn number_parts(
     ensures { children.new ≡ sets children.old entry (part_numbers links.now sizes.now step link count before) }
 {
     let mut from = link;
-    let mut left = count;
     let mut node = before;
     let mut to = entry;
-    while 0 < left {
+    for _part in 0..count {
         let value = number_key(step, node, to, children);
         node = node + key_count(step) + size_at(sizes, links[from]);
         children[value as usize] = node;
         to = value + 1;
         from += step;
-        left -= 1;
     }
 }
 
@@ -196,10 +194,9 @@ fn write_parts(
     ensures { PartsWrittenIn nodes heads links classes sizes step link count rest before entries at entry out children result }
 {
     let mut from = link;
-    let mut left = count;
     let mut to = at;
     let mut end = entry;
-    while 0 < left {
+    for _part in 0..count {
         let value = write_key(nodes, links, step, from, to, out);
         write_place(
             nodes,
@@ -220,7 +217,6 @@ fn write_parts(
         to = value + size;
         end += size - 1;
         from += step;
-        left -= 1;
     }
     end
 }

@@ -1,16 +1,14 @@
 // The flush-sides rule, `[w, w]`, by the three calls of teluddru: planned, its names reported, and run on two values. The example of a caller in Rattle.
 #![tactic(auto)]
 
-mod calls;
-
 use operation::{Operation, REGO_V0};
-use planner::{Plan, PlanRefusal};
 use planner::buffer::ENTRY_WORDS;
-use report::ReportAnswer;
-use run::RunAnswer;
+use planner::{Plan, PlanRefusal};
+use report::ReportRefusal;
+use run::{RunAnswer, RunRefusal};
 use scope::{Scope, ScopingMode};
 use std::io;
-use teluddru::Name;
+use teluddru::{Name, Rule};
 
 const TEXT: [u8; 24] = *b"[w, w] [18, 16] [18, 18]";
 
@@ -49,15 +47,21 @@ fn scope() -> Scope {
     Scope::new(0, false)
 }
 
+fn rule(names: &[Name]) -> Rule<'_> {
+    Rule {
+        nodes: NODES.as_flattened(),
+        children: &CHILDREN,
+        numbers: &NUMBERS,
+        names,
+        strings: &STRINGS,
+        text: &TEXT,
+    }
+}
+
 fn plan_rule(plan: &mut [u32]) -> Result<Plan, PlanRefusal> {
-    let nodes = NODES.as_flattened();
-    calls::plan(
-        nodes,
-        &CHILDREN,
-        &NUMBERS,
-        w(),
-        &STRINGS,
-        &TEXT,
+    let names = [w()];
+    teluddru::plan(
+        &rule(&names),
         scope(),
         Operation::Pattern {
             scoping: ScopingMode::RespectParent,
@@ -68,15 +72,10 @@ fn plan_rule(plan: &mut [u32]) -> Result<Plan, PlanRefusal> {
     )
 }
 
-fn report_names(list: &mut [u32]) -> ReportAnswer {
-    let nodes = NODES.as_flattened();
-    calls::names_report(
-        nodes,
-        &CHILDREN,
-        &NUMBERS,
-        w(),
-        &STRINGS,
-        &TEXT,
+fn report_names(list: &mut [u32]) -> Result<(), ReportRefusal> {
+    let names = [w()];
+    teluddru::names_report(
+        &rule(&names),
         scope(),
         ScopingMode::RespectParent,
         PATTERN,
@@ -84,15 +83,10 @@ fn report_names(list: &mut [u32]) -> ReportAnswer {
     )
 }
 
-fn run_on(value: u32, values: &mut [u32], plan: &mut [u32]) -> RunAnswer {
-    let nodes = NODES.as_flattened();
-    calls::run(
-        nodes,
-        &CHILDREN,
-        &NUMBERS,
-        w(),
-        &STRINGS,
-        &TEXT,
+fn run_on(value: u32, values: &mut [u32], plan: &mut [u32]) -> Result<RunAnswer, RunRefusal> {
+    let names = [w()];
+    teluddru::run(
+        &rule(&names),
         scope(),
         ScopingMode::RespectParent,
         PATTERN,
@@ -127,8 +121,8 @@ fn print_plan(rt: &impl Print) -> io::Result<()> {
 fn print_report(rt: &impl Print) -> io::Result<()> {
     let mut list = [0u32; 1];
     let said = match report_names(&mut list) {
-        ReportAnswer::Reported => "reported",
-        _ => "refused",
+        Ok(()) => "reported",
+        Err(_) => "refused",
     };
     println!(rt; "{said}, w {}", list[0])
 }
@@ -138,9 +132,9 @@ fn print_run(rt: &impl Print, value: u32) -> io::Result<()> {
     let mut values = [0u32; 1];
     let mut plan = [0u32; 3 * ENTRY_WORDS];
     let said = match run_on(value, &mut values, &mut plan) {
-        RunAnswer::Match => "match",
-        RunAnswer::NoMatch => "no match",
-        _ => "refused",
+        Ok(RunAnswer::Match) => "match",
+        Ok(RunAnswer::NoMatch) => "no match",
+        Err(_) => "refused",
     };
     println!(rt; "{said}, w {}", values[0])
 }

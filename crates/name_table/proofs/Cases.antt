@@ -12,7 +12,7 @@ use Rattle.base.specs.Lists.{part}
 use Rattle.base.specs.Refusal.{over_limit, Tested, passed, refused, require, require_or, no_place}
 use Rattle.scope.specs.declared.Scope.{Scope}
 use Rattle.scope.specs.Scope.{new_scope}
-use Rattle.std.proofs.Common.{Result, Ok, Err}
+use Rattle.std.proofs.Common.{Option, Some, None, Result, Ok, Err}
 use Rattle.std.specs.Result.{IsErrAnd}
 use Rattle.std.proofs.lemmas.Result.{err_from_is_err_and}
 use Rattle.table.specs.declared.TableRefusal.{TableRefusal}
@@ -27,7 +27,7 @@ use Rattle.name_table.specs.declared.NameAnswer.{NameAnswer}
 use Rattle.name_table.specs.declared.NameAnswer.TheVariants as Name
 use Rattle.name_table.specs.declared.NameRefusal.{NameRefusal}
 use Rattle.name_table.specs.declared.NameRefusal.TheVariants as No
-use Rattle.name_table.specs.Adding.{in_use, in_use_within_limits, has_names, checked_in_use, allowed, number_from, added, at_end, add_outcome}
+use Rattle.name_table.specs.Adding.{in_use, in_use_within_limits, has_names, checked_in_use, allowed, number_from, number_or_none, added, at_end, existing_or_added, add_outcome}
 use Rattle.name_table.specs.Adding as Adding
 use Rattle.name_table.specs.Answer.{NameAdded}
 
@@ -123,8 +123,11 @@ module _ {names text bytes : List ℕ} {used x : ℕ} (go : Seeking names text b
     seeking_step = let a : used + 1 - x ≡ suc (used + 1 - (x + 1)) = omega arith in ap (λ (k : ℕ). number_from names text bytes x k) a
 
     module _ {here : List ℕ} {r : Bool} (is : here ≡ name_bytes names text x) (told : r ≡ same_bytes here bytes) where
-      pub seeking_found : r ≡ true → x ≡ number_from names text bytes 1 used
-      seeking_found told-so = sym (sym go.same ∙ (seeking_step ∙ rw (← is) (simp (sym told ∙ told-so))))
+      pub seeking_found : r ≡ true → Some x ≡ number_or_none (number_from names text bytes 1 used)
+      seeking_found told-so =
+          let low = go.low in
+          let e : x ≡ number_from names text bytes 1 used = sym (sym go.same ∙ (seeking_step ∙ rw (← is) (simp (sym told ∙ told-so)))) in
+          rw (← e, ne_eqb x 0 (λ z. omega arith))
 
       pub seeking_on : r ≡ false → Seeking names text bytes used (x + 1)
       seeking_on no_more = record {
@@ -134,12 +137,12 @@ module _ {names text bytes : List ℕ} {used x : ℕ} (go : Seeking names text b
         same = sym (seeking_step ∙ rw (← is) (simp (sym told ∙ no_more))) ∙ go.same;
       }
 
-  pub seeking_ends : used < x → 0 ≡ number_from names text bytes 1 used
+  pub seeking_ends : used < x → None ≡ number_or_none (number_from names text bytes 1 used)
   unfolding number_from
   seeking_ends past =
       let h = go.high in
       let a : used + 1 - x ≡ 0 = omega arith in
-      rw a at go.same
+      ap number_or_none (rw a at go.same)
 
 -- a name at the end
 module _ (names : List ℕ) (used start size : ℕ) where
@@ -199,15 +202,29 @@ module _ (nodes ch nums names strings text : List ℕ) (used start size : ℕ) {
             let b = and_true (leb size 255) _ a.1 in
             leb-true (start + size) (length text) b.1
 
-        module _ {x : ℕ} (seen : x ≡ number_from names text (take (start + size - start) (drop start text)) 1 used) where
-          found : x ≡ number_from names text (part text start size) 1 used
-          found = seen ∙ ap (λ (bytes : List ℕ). number_from names text bytes 1 used) (part_whole text start size)
+        module _ {x : Option ℕ} (seen : x ≡ number_or_none (number_from names text (take (start + size - start) (drop start text)) 1 used)) where
+          found : x ≡ number_or_none (number_from names text (part text start size) 1 used)
+          found = seen ∙ ap (λ (bytes : List ℕ). number_or_none (number_from names text bytes 1 used)) (part_whole text start size)
 
-          pub add_existing : (x ≡ 0 → ⊥) → NameAdded (add_outcome (tables nodes ch nums names strings text) used start size) used start size names names (Ok (Name.Existing x))
+          pub add_existing : {y : ℕ} → x ≡ Some y → NameAdded (add_outcome (tables nodes ch nums names strings text) used start size) used start size names names (Ok (Name.Existing y))
           unfolding add_outcome
-          add_existing some = rw (passes, told_yes may t, ← found, ne_eqb x 0 some) (record { answer = refl; names = refl })
+          add_existing {y} is = rw (passes, told_yes may t) (go (number_from names text (part text start size) 1 used) (sym is ∙ found))
+            where
+              go : (n : ℕ) → Some y ≡ number_or_none n → NameAdded (existing_or_added names used n) used start size names names (Ok (Name.Existing y))
+              go n e = by (eqb n 0) e
+                where
+                  by : (b : Bool) → Some y ≡ cond b None (Some n) → NameAdded (cond b (at_end names used) (Adding.existing n)) used start size names names (Ok (Name.Existing y))
+                  by true q = never (cc)
+                  by false q = let z : y ≡ n = cc in rw z (record { answer = refl; names = refl })
 
-          pub add_new : {after : List ℕ} {r : Result NameAnswer NameRefusal} → x ≡ 0 → NameAdded (at_end names used) used start size names after r
+          pub add_new : x ≡ None → {after : List ℕ} {r : Result NameAnswer NameRefusal} → NameAdded (at_end names used) used start size names after r
               → NameAdded (add_outcome (tables nodes ch nums names strings text) used start size) used start size names after r
           unfolding add_outcome
-          add_new none done = rw (passes, told_yes may t, ← found, none) done
+          add_new none {after} {r} done = rw (passes, told_yes may t) (go (number_from names text (part text start size) 1 used) (sym none ∙ found))
+            where
+              go : (n : ℕ) → None ≡ number_or_none n → NameAdded (existing_or_added names used n) used start size names after r
+              go n e = by (eqb n 0) e
+                where
+                  by : (b : Bool) → None ≡ cond b None (Some n) → NameAdded (cond b (at_end names used) (Adding.existing n)) used start size names after r
+                  by true q = done
+                  by false q = never (cc)

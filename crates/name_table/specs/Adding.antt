@@ -1,5 +1,5 @@
 -- Request 8 of document 02: adding a name to the lent name table.
-use Rattle.std.specs.Prelude.{ℕ, zero, suc, ◌+◌, ◌*◌, ◌/◌, ◌%◌, Bool, false, cond, ◌&&◌, List, [], ◌∷◌, ◌++◌, eqb, leb, ltb, length, take, drop}
+use Rattle.std.specs.Prelude.{ℕ, zero, suc, ◌+◌, ◌*◌, ◌/◌, ◌%◌, Bool, false, cond, ◌&&◌, List, [], ◌∷◌, ◌++◌, eqb, leb, ltb, length, take, drop, Option, Some, None}
 use Rattle.base.specs.Lists.{part}
 use Rattle.base.specs.Refusal.{Refusal, over_limit, breaks_rules, Tested, require, require_or, tested_or, Line, line, refusal_line, no_place}
 use Rattle.scope.specs.Scope.{new_scope}
@@ -43,6 +43,10 @@ allowed text start size = name_ok (tables [] [] [] (start ∷ (size ∷ [])) [] 
 unfoldable pub number_from : List ℕ → List ℕ → List ℕ → ℕ → ℕ → ℕ
 number_from names text bytes x zero = 0
 number_from names text bytes x (suc k) = cond (same_bytes (name_bytes names text x) bytes) x (number_from names text bytes (x + 1) k)
+
+-- the number as the code has it: none for 0
+abbrev pub number_or_none : ℕ → Option ℕ
+number_or_none x = cond (eqb x 0) None (Some x)
 
 -- the name in use that has the bytes of a range of the text, or 0
 abbrev pub number_with_bytes : Tables → ℕ → ℕ → ℕ → ℕ

@@ -6,7 +6,7 @@ ghost use Rattle.table.specs.Lent.{lent};
 ghost use Rattle.table.specs.Tables.{tables};
 ghost use Rattle.table.specs.Check.{tested_of};
 ghost use Rattle.std.specs.Prelude.{◌≡◌, ◌≤◌};
-ghost use Rattle.name_table.specs.Adding.{has_names, checked_in_use, allowed, number_from, at_end, add_outcome};
+ghost use Rattle.name_table.specs.Adding.{has_names, checked_in_use, allowed, number_from, number_or_none, at_end, add_outcome};
 ghost use Rattle.name_table.specs.Answer.{NameAddedIn};
 
 use scope::Scope;
@@ -81,17 +81,17 @@ fn is_allowed(text: &[u8], start: u32, size: u32) -> bool
     start as usize + size as usize <= text.len()
 }
 
-// The first of the names in use that has these bytes, or 0.
-fn number_of(names: &[u32], text: &[u8], used: u32, bytes: &[u8]) -> u32
+// The first of the names in use that has these bytes.
+fn number_of(names: &[u32], text: &[u8], used: u32, bytes: &[u8]) -> Option<u32>
     requires { used ≤ 128 }
-    ensures { result ≡ number_from names.now text.now bytes.now 1 used }
+    ensures { result ≡ number_or_none (number_from names.now text.now bytes.now 1 used) }
 {
     for name in 1..=used {
         if same_bytes(name_bytes(names, text, name), bytes) {
-            return name;
+            return Some(name);
         }
     }
-    0
+    None
 }
 
 // Puts a name into the first free place, if there is one and it is no 129th name.
@@ -139,8 +139,7 @@ pub fn add_name<'a>(
     }
     let from = start as usize;
     let end = from + size as usize;
-    let name = number_of(names, text, used, &text[from..end]);
-    if name != 0 {
+    if let Some(name) = number_of(names, text, used, &text[from..end]) {
         return Ok(NameAnswer::Existing { name });
     }
     put_name(names, used, start, size)

@@ -28,7 +28,7 @@ pub fn row_from(number: u64, second: u64, third: u64, fourth: u64) -> Row
 }
 
 // Of a refusal.
-fn refusal_row(refusal: PlanRefusal) -> Row
+pub fn refusal_row(refusal: PlanRefusal) -> Row
     ensures { row_line result ≡ line_of (Err refusal) }
 {
     match refusal {

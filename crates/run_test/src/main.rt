@@ -14,8 +14,8 @@ ghost use Rattle.std.specs.Prelude.{◌≤◌};
 
 use input::read_full;
 use parse::{NO_NODE, Parsed, STRINGS, byte_at, parse};
-use report::{ReportAnswer, names_report};
-use run::{RunAnswer, run};
+use report::{ReportRefusal, names_report};
+use run::{RunAnswer, RunRefusal, run};
 use scope::{ByteScope, Scope, ScopingMode};
 use std::io;
 use table::tables::Tables;
@@ -105,7 +105,7 @@ fn start_list(parsed: &Parsed, names: usize) -> [u32; 16] {
     list
 }
 
-fn carried_out(line: &[u8], parsed: &Parsed, list: &mut [u32], plan: &mut [u32]) -> RunAnswer {
+fn carried_out(line: &[u8], parsed: &Parsed, list: &mut [u32], plan: &mut [u32]) -> Result<RunAnswer, RunRefusal> {
     let names = names();
     let tables = Tables {
         nodes: parsed.nodes.as_flattened(),
@@ -126,7 +126,7 @@ fn carried_out(line: &[u8], parsed: &Parsed, list: &mut [u32], plan: &mut [u32])
     )
 }
 
-fn reported(line: &[u8], parsed: &Parsed, list: &mut [u32]) -> ReportAnswer {
+fn reported(line: &[u8], parsed: &Parsed, list: &mut [u32]) -> Result<(), ReportRefusal> {
     let names = names();
     let tables = Tables {
         nodes: parsed.nodes.as_flattened(),
@@ -158,26 +158,26 @@ fn number_of(answer: TableRefusal) -> u64 {
     refusal_number(answer) as u64
 }
 
-fn print_run(rt: &impl Print, answer: RunAnswer) -> io::Result<()> {
+fn print_run(rt: &impl Print, answer: Result<RunAnswer, RunRefusal>) -> io::Result<()> {
     match answer {
-        RunAnswer::Match => print!(rt; "match"),
-        RunAnswer::NoMatch => print!(rt; "no match"),
-        RunAnswer::TableRefused(of) => print_refusal(rt, number_of(of)),
-        RunAnswer::RootOutside => print_refusal(rt, 5),
-        RunAnswer::ListTooShort => print_refusal(rt, 20),
-        RunAnswer::PatternNotSimple => print_refusal(rt, 21),
-        RunAnswer::NotAValue => print_refusal(rt, 22),
-        RunAnswer::NameWithoutValue => print_refusal(rt, 23),
-        RunAnswer::PlanTooLarge { needed } => print_needed(rt, needed),
+        Ok(RunAnswer::Match) => print!(rt; "match"),
+        Ok(RunAnswer::NoMatch) => print!(rt; "no match"),
+        Err(RunRefusal::TableRefused(of)) => print_refusal(rt, number_of(of)),
+        Err(RunRefusal::RootOutside) => print_refusal(rt, 5),
+        Err(RunRefusal::ListTooShort) => print_refusal(rt, 20),
+        Err(RunRefusal::PatternNotSimple) => print_refusal(rt, 21),
+        Err(RunRefusal::NotAValue) => print_refusal(rt, 22),
+        Err(RunRefusal::NameWithoutValue) => print_refusal(rt, 23),
+        Err(RunRefusal::PlanTooLarge { needed }) => print_needed(rt, needed),
     }
 }
 
-fn print_report(rt: &impl Print, answer: ReportAnswer) -> io::Result<()> {
+fn print_report(rt: &impl Print, answer: Result<(), ReportRefusal>) -> io::Result<()> {
     match answer {
-        ReportAnswer::Reported => print!(rt; "reported"),
-        ReportAnswer::TableRefused(of) => print_refusal(rt, number_of(of)),
-        ReportAnswer::RootOutside => print_refusal(rt, 5),
-        ReportAnswer::ListTooShort => print_refusal(rt, 20),
+        Ok(()) => print!(rt; "reported"),
+        Err(ReportRefusal::TableRefused(of)) => print_refusal(rt, number_of(of)),
+        Err(ReportRefusal::RootOutside) => print_refusal(rt, 5),
+        Err(ReportRefusal::ListTooShort) => print_refusal(rt, 20),
     }
 }
 

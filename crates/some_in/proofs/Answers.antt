@@ -1,11 +1,11 @@
 -- `some .. in`, answer by answer.
 use Rattle.table.specs.declared.TableRefusal.{TableRefusal}
-use Prim.Native.Nat.{ℕ}
-use mathlib.Core.Path.{◌≡◌, sym, ◌∙◌}
+use Prim.Native.Nat.{ℕ, ◌+◌, ◌≤◌}
+use mathlib.Core.Path.{◌≡◌, sym, ap, ◌∙◌}
 use mathlib.Core.Bool.{Bool, true, false, cond, not}
 use mathlib.Core.List.{List, [], ◌∷◌, ◌++◌}
 use native.Mathlib.Omega.{arith}
-use borrow.Author.Tests.{ne_eqb, not-true, not-false}
+use borrow.Author.Tests.{eq-eqb, ne_eqb, not-true, not-false}
 use lib.Dec.{eqb}
 use lib.ListN.{length, replicate}
 use Rattle.scope.specs.declared.Scope.{Scope}
@@ -17,18 +17,19 @@ use Rattle.table.specs.Decode.{expr}
 use Rattle.planner.specs.declared.Plan.{Plan}
 use Rattle.planner.specs.declared.PlanRefusal.{PlanRefusal}
 use Rattle.planner.specs.declared.PlanRefusal.TheVariants.{RootOutside, VariableAlreadyDefined, ArrayLengthMismatch, ObjectLiteralKeysMismatch}
-use Rattle.base.specs.Refusal.{passed}
+use Rattle.base.specs.Refusal.{passed, variable_already_defined}
 use Rattle.planner.specs.Layout.{Entry, top, entries}
 use Rattle.planner.specs.Entries.{Wrote, Closed}
-use Rattle.planner.specs.Operations.{planned, plan_of, Answered}
+use Rattle.planner.specs.Operations.{Outcome, require, planned, plan_of, validated, unless_defined, Answered}
+use Rattle.planner.specs.Answer.{line_of}
 use Rattle.planner.specs.code.Post.{PatternPlanned}
 use Rattle.planner.specs.code.Validation.{first_defined}
-use Rattle.planner.proofs.laws.Operations.{check_passes, roots_refuse, roots_pass}
+use Rattle.planner.proofs.laws.Operations.{refuses, check_passes, roots_refuse, roots_pass}
 use Rattle.planner.proofs.buffer.Copies.{wrote_long, wrote_none, wrote_append, wrote_closed}
 use Rattle.planner.proofs.laws.Validating.{validated_by}
 use Rattle.checks.specs.declared.LiteralStructureCheck.{LiteralStructureCheck}
 use Rattle.checks.specs.declared.LiteralStructureCheck.TheVariants.{Match, Unknown, ArrayMismatch, ObjectMismatch}
-use Rattle.checks.proofs.Refused.{passes_match, passes_unknown, refuses_array, refuses_object, passes_undefined, refuses_defined}
+use Rattle.checks.proofs.Refused.{passes_match, passes_unknown, refuses_array, refuses_object}
 use Rattle.checks.specs.declared.Reading.{Reading}
 use Rattle.some_in.specs.SomeIn.{collection_structure, roots, some_in_planned, some_in_outcome}
 use Rattle.some_in.specs.code.Post.{PlaceAsks, Validated, SomeInClosed, ValueAnswered, KeyAsks}
@@ -39,8 +40,38 @@ cleared w z = let long = wrote_long w in rw long at z
 
 -- a pattern's plan, and its names
 module _ (T : Tables) (s : Scope) (root : ℕ) {at : ℕ} (a : PlaceAsks T root at) where
-  pub plan_validated : {before binders later : List ℕ} {end name : ℕ} → PatternPlanned T s RespectParent root at before binders later end → name ≡ first_defined T s binders root → Validated T s root at before later end name
-  plan_validated p is = record { wrote = p.wrote; few = p.few; defined = is ∙ validated_by T s RespectParent root (record { table = a.table; node = a.node }) p }
+  module _ {before binders later : List ℕ} {end name : ℕ} (p : PatternPlanned T s RespectParent root at before binders later end) (is : name ≡ first_defined T s binders root) where
+    defined : name ≡ validated T s RespectParent root
+    defined = is ∙ validated_by T s RespectParent root (record { table = a.table; node = a.node }) p
+
+    pub plan_refused : (name ≡ 0 → ⊥) → Validated T s root at before later (Err (VariableAlreadyDefined name))
+    plan_refused d = let e = ne_eqb name 0 d in record { end = end; wrote = p.wrote; few = p.few; told = rw (← defined) (simp e) }
+
+    pub plan_validated : name ≡ 0 → Validated T s root at before later (Ok end)
+    plan_validated none = let e = eq-eqb name 0 none in record { end = end; wrote = p.wrote; few = p.few; told = rw (← defined) (simp e) }
+
+-- by the name, what the answer says
+module _ {T : Tables} {s : Scope} {root at : ℕ} {before after : List ℕ} {r : Result ℕ PlanRefusal} (p : Validated T s root at before after r) where
+  ended_by : (o : Outcome) {start later : List ℕ} {q : Result Plan PlanRefusal} → {end : ℕ} → r ≡ Ok end → ((p.end ≡ end) → Answered o start later q) → Answered (unless_defined (validated T s RespectParent root) o) start later q
+  ended_by o {start} {later} {q} {end} e next = go (eqb (validated T s RespectParent root) 0) (sym e ∙ p.told)
+    where
+      go : (b : Bool) → Ok end ≡ cond b (Ok p.end) (Err (VariableAlreadyDefined (validated T s RespectParent root))) → Answered (require b (variable_already_defined (validated T s RespectParent root)) o) start later q
+      go true h = next (let z : p.end ≡ end = cc in z)
+      go false h = let z : ◌≡◌ {A = ℕ} 0 1 = cc in absurd (omega arith)
+
+  pub ended_low : {end : ℕ} → r ≡ Ok end → end ≤ at + 512
+  ended_low {end} e = go (eqb (validated T s RespectParent root) 0) (sym e ∙ p.told)
+    where
+      go : (b : Bool) → Ok end ≡ cond b (Ok p.end) (Err (VariableAlreadyDefined (validated T s RespectParent root))) → end ≤ at + 512
+      go true h = let z : end ≡ p.end = cc in let f = p.few in omega arith
+      go false h = let z : ◌≡◌ {A = ℕ} 0 1 = cc in absurd (omega arith)
+
+  refused_by : (o : Outcome) {start later : List ℕ} {x : PlanRefusal} → r ≡ Err x → later ≡ replicate (length start) 0 → Answered (unless_defined (validated T s RespectParent root) o) start later (Err x)
+  refused_by o {start} {later} {x} e z = go (eqb (validated T s RespectParent root) 0) (sym e ∙ p.told)
+    where
+      go : (b : Bool) → Err x ≡ cond b (Ok p.end) (Err (VariableAlreadyDefined (validated T s RespectParent root))) → Answered (require b (variable_already_defined (validated T s RespectParent root)) o) start later (Err x)
+      go true h = let q : ◌≡◌ {A = ℕ} 0 1 = cc in absurd (omega arith)
+      go false h = let q : x ≡ VariableAlreadyDefined (validated T s RespectParent root) = cc in refuses (variable_already_defined (validated T s RespectParent root)) (ap (λ (y : PlanRefusal). line_of (Err y)) q) z
 
 -- the entries in the buffer, by the check
 module _ (form : ℕ) {c : LiteralStructureCheck} {end : ℕ} {mid later : List ℕ} where
@@ -58,25 +89,25 @@ module _ (form : ℕ) {c : LiteralStructureCheck} {end : ℕ} {mid later : List 
     closed_object e = record { told = λ before es w. refuses_object (planned form 0 es) e (cleared w z) }
 
 -- the value's
-module _ (T : Tables) (s : Scope) (value collection : ℕ) {at : ℕ} {mid last : List ℕ} {end name : ℕ} (p : Validated T s value at mid last end name) (form : ℕ) (reading : Reading) {later : List ℕ} where
-  pub value_refused : (name ≡ 0 → ⊥) → later ≡ replicate (length last) 0 → ValueAnswered T s value collection form reading at mid later (Err (VariableAlreadyDefined name))
-  value_refused d z = record { told = λ before ks w. rw (← p.defined) (refuses_defined _ d (cleared (wrote_append w p.wrote) z)) }
+module _ (T : Tables) (s : Scope) (value collection : ℕ) {at : ℕ} {mid last : List ℕ} {ended_at : Result ℕ PlanRefusal} (p : Validated T s value at mid last ended_at) (form : ℕ) (reading : Reading) {later : List ℕ} where
+  pub value_refused : {x : PlanRefusal} → ended_at ≡ Err x → later ≡ replicate (length last) 0 → ValueAnswered T s value collection form reading at mid later (Err x)
+  value_refused e z = record { told = λ before ks w. refused_by p _ e (cleared (wrote_append w p.wrote) z) }
 
-  pub value_closed : {r : Result Plan PlanRefusal} → name ≡ 0 → {c : LiteralStructureCheck} → c ≡ collection_structure reading (expr T collection) (expr T value) → SomeInClosed form c end last later r → ValueAnswered T s value collection form reading at mid later r
-  value_closed none-defined is d = record {
-    told = λ before ks w. rw (← p.defined) (passes_undefined _ none-defined (rw (← is) (d.told before (ks ++ entries (plan_of T s RespectParent value) top) (wrote_append w p.wrote))));
+  pub value_closed : {end : ℕ} → ended_at ≡ Ok end → {r : Result Plan PlanRefusal} {c : LiteralStructureCheck} → c ≡ collection_structure reading (expr T collection) (expr T value) → SomeInClosed form c end last later r → ValueAnswered T s value collection form reading at mid later r
+  value_closed e is d = record {
+    told = λ before ks w. ended_by p _ e (λ h. rw (← is) (d.told before (ks ++ entries (plan_of T s RespectParent value) top) (rw h at (wrote_append w p.wrote))));
   }
 
 -- the key's
 a_key : {T : Tables} {value collection key : ℕ} → KeyAsks T value collection key → eqb key 0 ≡ false
 a_key {key = key} a = let l = a.node.low in ne_eqb key 0 (λ e. omega arith)
 
-module _ (T : Tables) (s : Scope) (value collection key : ℕ) (reading : Reading) (a : KeyAsks T value collection key) {before mid : List ℕ} {end name : ℕ} (p : Validated T s key 0 before mid end name) {later : List ℕ} where
-  pub key_refused : (name ≡ 0 → ⊥) → later ≡ replicate (length mid) 0 → Answered (some_in_planned T s value collection key reading) before later (Err (VariableAlreadyDefined name))
-  key_refused d z = let k = a_key a in rw (k, ← p.defined) (refuses_defined _ d (cleared p.wrote z))
+module _ (T : Tables) (s : Scope) (value collection key : ℕ) (reading : Reading) (a : KeyAsks T value collection key) {before mid : List ℕ} {ended_at : Result ℕ PlanRefusal} (p : Validated T s key 0 before mid ended_at) {later : List ℕ} where
+  pub key_refused : {x : PlanRefusal} → ended_at ≡ Err x → later ≡ replicate (length mid) 0 → Answered (some_in_planned T s value collection key reading) before later (Err x)
+  key_refused e z = let k = a_key a in rw k (refused_by p _ e (cleared p.wrote z))
 
-  pub key_answered : {r : Result Plan PlanRefusal} → name ≡ 0 → ValueAnswered T s value collection 1 reading end mid later r → Answered (some_in_planned T s value collection key reading) before later r
-  key_answered none-defined v = let k = a_key a in rw (k, ← p.defined) (passes_undefined _ none-defined (v.told before (entries (plan_of T s RespectParent key) top) p.wrote))
+  pub key_answered : {end : ℕ} → ended_at ≡ Ok end → {r : Result Plan PlanRefusal} → ValueAnswered T s value collection 1 reading end mid later r → Answered (some_in_planned T s value collection key reading) before later r
+  key_answered {end} e v = let k = a_key a in rw k (ended_by p _ e (λ h. v.told before (entries (plan_of T s RespectParent key) top) (rw h at p.wrote)))
 
 -- no key
 pub without_key : (T : Tables) (s : Scope) (value collection : ℕ) (reading : Reading) {before later : List ℕ} {r : Result Plan PlanRefusal} → ValueAnswered T s value collection 0 reading 0 before later r → Answered (some_in_planned T s value collection 0 reading) before later r

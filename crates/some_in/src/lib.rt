@@ -21,22 +21,16 @@ use table::check;
 use table::reading::is_node;
 use table::tables::Tables;
 
-// A pattern's plan in the buffer: the place after its entries, and the first name that is defined already, or 0.
-#[derive(Clone, Copy)]
-struct ValidatedPlan {
-    pub end: usize,
-    pub name: u32,
-}
-
+// A pattern's plan in the buffer: the place after its entries, or its first name that is defined already.
 fn plan_validated(
     tables: &Tables<'_>,
     scope: Scope,
     root: u32,
     plan: &mut [u32],
     at: usize,
-) -> ValidatedPlan
+) -> Result<usize, PlanRefusal>
     requires { PlaceAsks (contents tables.now) root at }
-    ensures { Validated (contents tables.now) scope root at plan.old plan.new result.end result.name }
+    ensures { Validated (contents tables.now) scope root at plan.old plan.new result }
 {
     let mut binders = [0u32; 128];
     let planned = plan_pattern(
@@ -48,9 +42,11 @@ fn plan_validated(
         plan,
         at,
     );
-    let end = planned.next;
     let name = validate_pattern_bindings(tables, scope, &binders, root);
-    ValidatedPlan { end, name }
+    if name != 0 {
+        return Err(PlanRefusal::VariableAlreadyDefined { name });
+    }
+    Ok(planned.next)
 }
 
 // The entries that stand before `end`, unless the collection's items are a mismatch.
@@ -98,15 +94,16 @@ fn plan_value(
     requires { ValueAsks (contents tables.now) value collection at }
     ensures { ValueAnswered (contents tables.now) scope value collection form reading at plan.old plan.new result }
 {
-    let value_plan = plan_validated(tables, scope, value, plan, at);
-    if value_plan.name != 0 {
-        clear(plan);
-        return Err(PlanRefusal::VariableAlreadyDefined {
-            name: value_plan.name,
-        });
+    match plan_validated(tables, scope, value, plan, at) {
+        Ok(end) => {
+            let check = check_collection(tables, value, collection, reading);
+            deliver_some_in(plan, form, check, end)
+        }
+        Err(refusal) => {
+            clear(plan);
+            Err(refusal)
+        }
     }
-    let check = check_collection(tables, value, collection, reading);
-    deliver_some_in(plan, form, check, value_plan.end)
 }
 
 fn plan_key(
@@ -121,23 +118,13 @@ fn plan_key(
     requires { KeyAsks (contents tables.now) value collection key }
     ensures { AnsweredIn plan (some_in_planned (contents tables.now) scope value collection key reading) result }
 {
-    let key_plan = plan_validated(tables, scope, key, plan, 0);
-    if key_plan.name != 0 {
-        clear(plan);
-        return Err(PlanRefusal::VariableAlreadyDefined {
-            name: key_plan.name,
-        });
+    match plan_validated(tables, scope, key, plan, 0) {
+        Ok(end) => plan_value(tables, scope, value, collection, 1, reading, plan, end),
+        Err(refusal) => {
+            clear(plan);
+            Err(refusal)
+        }
     }
-    plan_value(
-        tables,
-        scope,
-        value,
-        collection,
-        1,
-        reading,
-        plan,
-        key_plan.end,
-    )
 }
 
 fn plan_without_key(

@@ -3,8 +3,8 @@ use Rattle.std.specs.Prelude.{ℕ, List, [], ◌∷◌}
 use Rattle.std.specs.Borrow.{Bor}
 use denote.Triple.Both.{Both}
 use Rattle.table.specs.Tables.{Tables, tables}
-use Rattle.base.specs.Lent.{Slices}
 use Rattle.teluddru.specs.declared.Name.{Name}
+use Rattle.teluddru.specs.declared.Rule.{Rule}
 
 -- start, length, start, length, ..
 unfoldable pub name_words : List Name → List ℕ
@@ -19,5 +19,5 @@ abbrev pub records_in : Records → List Name
 records_in names = names.entry.now
 
 -- the tables that a function is lent, the names as records
-abbrev pub lent_records : Slices → Slices → Slices → Records → Slices → Slices → Tables
-lent_records nodes children numbers names strings text = tables nodes.entry.now children.entry.now numbers.entry.now (name_words (records_in names)) strings.entry.now text.entry.now
+abbrev pub lent_records : Rule → Tables
+lent_records r = tables r.nodes.now r.children.now r.numbers.now (name_words r.names.now) r.strings.now r.text.now

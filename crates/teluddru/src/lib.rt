@@ -2,7 +2,6 @@
 #![tactic(auto)]
 
 mod records;
-mod words;
 
 ghost use Rattle.body.specs.Body.{body_outcome, BodyAnsweredIn};
 ghost use Rattle.common_example.specs.Common.{CommonIn};
@@ -10,30 +9,27 @@ ghost use Rattle.name_table.specs.Adding.{add_outcome};
 ghost use Rattle.planner.specs.Operations.{AnsweredIn};
 ghost use Rattle.report.specs.Report.{ReportedIn};
 ghost use Rattle.run.specs.Operations.{RanIn};
+ghost use Rattle.std.specs.Prelude.{◌≡◌, ◌≤◌};
+ghost use Rattle.table.specs.Contents.{contents};
 ghost use Rattle.table.specs.Tables.{tables};
+ghost use Rattle.teluddru.specs.code.Copying.{held, over_names};
 ghost use Rattle.teluddru.specs.Records.{name_words, lent_records};
 ghost use Rattle.teluddru.specs.Adding.{NameAddedTo};
 ghost use Rattle.operation.specs.Version.{version_outcome};
 ghost use Rattle.tolerance.specs.Operations.{JudgedIn};
 
-use crate::records::{copy_names, name_of, place_of, put_name};
-use crate::words::adding::add_words;
-use crate::words::bodies::body_words;
-use crate::words::examples::example_words;
-use crate::words::plans::plan_words;
-use crate::words::reports::report_words;
-use crate::words::runs::run_words;
-use crate::words::tolerances::tolerance_words;
+use crate::records::{NameWords, copy_names, name_of, place_of, put_name};
 use body::BodyPlanned;
 use common_example::example::{Example, ExampleRefusal};
 use common_example::sides::ScopedPattern;
 use name_table::{NameAnswer, NameRefusal};
 use operation::Operation;
 use planner::{Plan, PlanRefusal};
-use report::ReportAnswer;
-use run::RunAnswer;
+use report::ReportRefusal;
+use run::{RunAnswer, RunRefusal};
 use scope::{Scope, ScopingMode};
-use tolerance::ToleranceAnswer;
+use table::tables::Tables;
+use tolerance::{ToleranceAnswer, ToleranceRefusal};
 
 // A range of the rule text.
 #[derive(Clone, Copy)]
@@ -42,33 +38,47 @@ pub struct Name {
     pub length: u32,
 }
 
+// The lent tables of a rule, with the names as records. The others are as in `Tables`.
+#[derive(Clone, Copy)]
+pub struct Rule<'a> {
+    pub nodes: &'a [u32],
+    pub children: &'a [u32],
+    pub numbers: &'a [u64],
+    pub names: &'a [Name],
+    pub strings: &'a [u8],
+    pub text: &'a [u8],
+}
+
+impl Rule<'_> {
+    // The tables with the names that were copied.
+    fn over_copied<'b>(&'b self, names: &'b NameWords) -> Tables<'b>
+        requires { names.now.count ≤ 129 }
+        ensures { contents result ≡ over_names self.now (held names.now) }
+    {
+        Tables {
+            nodes: self.nodes,
+            children: self.children,
+            numbers: self.numbers,
+            names: names.pairs(),
+            strings: self.strings,
+            text: self.text,
+        }
+    }
+}
+
 // The planning call, for a version of Rego: any but 1 is version 0.
-pub fn plan<'a>(
-    nodes: &[u32],
-    children: &[u32],
-    numbers: &[u64],
-    names: &[Name],
-    strings: &'a [u8],
-    text: &'a [u8],
+pub fn plan(
+    rule: &Rule<'_>,
     scope: Scope,
     operation: Operation,
     version: u32,
     plan: &mut [u32],
 ) -> Result<Plan, PlanRefusal>
-    ensures { AnsweredIn plan (version_outcome (lent_records nodes children numbers names strings text) scope version operation) result }
+    ensures { AnsweredIn plan (version_outcome (lent_records rule.now) scope version operation) result }
 {
-    plan_words(
-        nodes,
-        children,
-        numbers,
-        copy_names(names),
-        strings,
-        text,
-        scope,
-        operation,
-        version,
-        plan,
-    )
+    let names = copy_names(rule.names);
+    let tables = rule.over_copied(&names);
+    operation::plan(&tables, scope, operation, version, plan)
 }
 
 // Adds the name that stands at a range of the text. The first `used` records hold names, the others are free.
@@ -86,9 +96,19 @@ pub fn add_name<'a>(
     ensures { let T = tables nodes.now children.now numbers.now (name_words names.old) strings.now text.now in
         NameAddedTo names (add_outcome T used start length) used start length result }
 {
-    let words = copy_names(names);
-    let answer = add_words(
-        nodes, children, numbers, words, strings, text, used, start, length,
+    let mut copied = copy_names(names);
+    let end = copied.count * 2;
+    let words = &mut copied.words[..];
+    let answer = name_table::add_name(
+        nodes,
+        children,
+        numbers,
+        &mut words[..end],
+        strings,
+        text,
+        used,
+        start,
+        length,
     );
     let place = place_of(answer, used);
     let name = name_of(start, length);
@@ -97,73 +117,34 @@ pub fn add_name<'a>(
 }
 
 // Plans a body's lines in turn. The plan buffer then holds the last line's plan; a refusal leaves it all zeros and returns the scope as given.
-pub fn plan_body<'a>(
-    nodes: &[u32],
-    children: &[u32],
-    numbers: &[u64],
-    names: &[Name],
-    strings: &'a [u8],
-    text: &'a [u8],
-    scope: Scope,
-    lines: &[u32],
-    plan: &mut [u32],
-) -> BodyPlanned
-    ensures { BodyAnsweredIn plan scope (body_outcome (lent_records nodes children numbers names strings text) scope lines.now plan.old) result }
+pub fn plan_body(rule: &Rule<'_>, scope: Scope, lines: &[u32], plan: &mut [u32]) -> BodyPlanned
+    ensures { BodyAnsweredIn plan scope (body_outcome (lent_records rule.now) scope lines.now plan.old) result }
 {
-    body_words(
-        nodes,
-        children,
-        numbers,
-        copy_names(names),
-        strings,
-        text,
-        scope,
-        lines,
-        plan,
-    )
+    let names = copy_names(rule.names);
+    let tables = rule.over_copied(&names);
+    body::plan_body(&tables, scope, lines, plan)
 }
 
 // Plans the pattern into the buffer and carries the plan out on the value. `values` has for each name number the node of its value, or 0.
-pub fn run<'a>(
-    nodes: &[u32],
-    children: &[u32],
-    numbers: &[u64],
-    names: &[Name],
-    strings: &'a [u8],
-    text: &'a [u8],
+pub fn run(
+    rule: &Rule<'_>,
     scope: Scope,
     scoping: ScopingMode,
     pattern: u32,
     value: u32,
     values: &mut [u32],
     plan: &mut [u32],
-) -> RunAnswer
-    ensures { RanIn values plan (lent_records nodes children numbers names strings text) scope scoping pattern value result }
+) -> Result<RunAnswer, RunRefusal>
+    ensures { RanIn values plan (lent_records rule.now) scope scoping pattern value result }
 {
-    run_words(
-        nodes,
-        children,
-        numbers,
-        copy_names(names),
-        strings,
-        text,
-        scope,
-        scoping,
-        pattern,
-        value,
-        values,
-        plan,
-    )
+    let names = copy_names(rule.names);
+    let tables = rule.over_copied(&names);
+    run::run(&tables, scope, scoping, pattern, value, values, plan)
 }
 
 // Runs the pattern on the value for all choices of a number from the lowest to the highest of each node, two words a node in each list.
-pub fn run_with_tolerance<'a>(
-    nodes: &[u32],
-    children: &[u32],
-    numbers: &[u64],
-    names: &[Name],
-    strings: &'a [u8],
-    text: &'a [u8],
+pub fn run_with_tolerance(
+    rule: &Rule<'_>,
     scope: Scope,
     scoping: ScopingMode,
     pattern: u32,
@@ -172,35 +153,19 @@ pub fn run_with_tolerance<'a>(
     lowest: &[u64],
     highest: &[u64],
     plan: &mut [u32],
-) -> ToleranceAnswer
-    ensures { JudgedIn values lowest highest plan (lent_records nodes children numbers names strings text) scope scoping pattern value result }
+) -> Result<ToleranceAnswer, ToleranceRefusal>
+    ensures { JudgedIn values lowest highest plan (lent_records rule.now) scope scoping pattern value result }
 {
-    tolerance_words(
-        nodes,
-        children,
-        numbers,
-        copy_names(names),
-        strings,
-        text,
-        scope,
-        scoping,
-        pattern,
-        value,
-        values,
-        lowest,
-        highest,
-        plan,
+    let names = copy_names(rule.names);
+    let tables = rule.over_copied(&names);
+    tolerance::run_with_tolerance(
+        &tables, scope, scoping, pattern, value, values, lowest, highest, plan,
     )
 }
 
 // A value that both patterns match, or none; each side is a pattern in its scope and the values of its own names. The example's nodes go on from the tables' and its child entries from their child list.
-pub fn common_example<'a>(
-    nodes: &[u32],
-    children: &[u32],
-    numbers: &[u64],
-    names: &[Name],
-    strings: &'a [u8],
-    text: &'a [u8],
+pub fn common_example(
+    rule: &Rule<'_>,
     first: ScopedPattern,
     values1: &[u32],
     second: ScopedPattern,
@@ -208,16 +173,13 @@ pub fn common_example<'a>(
     example_nodes: &mut [u32],
     example_children: &mut [u32],
 ) -> Result<Option<Example>, ExampleRefusal>
-    ensures { let T = lent_records nodes children numbers names strings text in
+    ensures { let T = lent_records rule.now in
         CommonIn T first values1 second values2 example_nodes example_children result }
 {
-    example_words(
-        nodes,
-        children,
-        numbers,
-        copy_names(names),
-        strings,
-        text,
+    let names = copy_names(rule.names);
+    let tables = rule.over_copied(&names);
+    common_example::common_example(
+        &tables,
         first,
         values1,
         second,
@@ -228,30 +190,16 @@ pub fn common_example<'a>(
 }
 
 // For each name 1 bound in the pattern's plan, 2 met or a computed key but not bound there, else 0.
-pub fn names_report<'a>(
-    nodes: &[u32],
-    children: &[u32],
-    numbers: &[u64],
-    names: &[Name],
-    strings: &'a [u8],
-    text: &'a [u8],
+pub fn names_report(
+    rule: &Rule<'_>,
     scope: Scope,
     scoping: ScopingMode,
     pattern: u32,
     list: &mut [u32],
-) -> ReportAnswer
-    ensures { ReportedIn list (lent_records nodes children numbers names strings text) scope scoping pattern result }
+) -> Result<(), ReportRefusal>
+    ensures { ReportedIn list (lent_records rule.now) scope scoping pattern result }
 {
-    report_words(
-        nodes,
-        children,
-        numbers,
-        copy_names(names),
-        strings,
-        text,
-        scope,
-        scoping,
-        pattern,
-        list,
-    )
+    let names = copy_names(rule.names);
+    let tables = rule.over_copied(&names);
+    report::names_report(&tables, scope, scoping, pattern, list)
 }

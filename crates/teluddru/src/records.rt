@@ -1,6 +1,6 @@
 // Names from records to pairs of words, and a new name into the records.
-ghost use Rattle.std.specs.Prelude.{◌≡◌, ◌+◌, ◌*◌, ◌<◌, min, length, set};
-ghost use Rattle.teluddru.specs.code.Copying.{name_at, Copied};
+ghost use Rattle.std.specs.Prelude.{◌≡◌, ◌+◌, ◌*◌, ◌<◌, ◌≤◌, min, length, set};
+ghost use Rattle.teluddru.specs.code.Copying.{held, name_at, Copied};
 ghost use Rattle.teluddru.specs.code.Placing.{a_name, place_of};
 
 use crate::Name;
@@ -11,6 +11,16 @@ use name_table::{NameAnswer, NameRefusal};
 pub(crate) struct NameWords {
     pub words: [u32; 258],
     pub count: usize,
+}
+
+impl NameWords {
+    pub fn pairs(&self) -> &[u32]
+        requires { self.now.count ≤ 129 }
+        ensures { result.now ≡ held self.now }
+    {
+        let words = &self.words[..];
+        &words[..self.count * 2]
+    }
 }
 
 fn name_at(names: &[Name], i: usize) -> Name

@@ -1,3 +1,4 @@
+use mathlib.Core.Path.{refl}
 use Rattle.body.proofs.BodySteps.{body_start, line_number, line_ends, line_goes_on, body_ends}
 use borrow.Author.Rules.{rules}
 use Rattle.body.proofs.plan_lines.Goals as goal
@@ -8,11 +9,11 @@ loop-i-init c = search (body_start, rules)
 pub overflow_cast-i : goal.overflow_cast-i
 overflow_cast-i c = search (line_number, rules)
 
-pub returns-then-not-step : goal.returns-then-not-step
-returns-then-not-step c = search (line_ends c.loop-i.invariant c.loop-i-test.true c.line_at-operation.ensures, c.plan_line-step.ensures, c.if-not-step.true, rules)
-
 pub loop-i-preserved : goal.loop-i-preserved
-loop-i-preserved c = search (line_goes_on c.loop-i.invariant c.loop-i-test.true c.line_at-operation.ensures, c.plan_line-step.ensures, c.if-not-step.false, rules)
+loop-i-preserved c = line_goes_on c.loop-i.invariant c.loop-i-test.true c.line_at-operation.ensures refl c.plan_line.ensures c.in-Ok.is
+
+pub returns-in-Err : goal.returns-in-Err
+returns-in-Err c = line_ends c.loop-i.invariant c.loop-i-test.true c.line_at-operation.ensures refl c.plan_line.ensures c.in-Err.is
 
 pub returns : goal.returns
 returns c = search (body_ends, rules)

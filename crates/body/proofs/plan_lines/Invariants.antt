@@ -1,6 +1,4 @@
 use Rattle.table.specs.Contents.{contents}
-use Prim.Native.Nat.{◌-◌}
-use Rattle.table.specs.Tables.{tables}
 use Rattle.body.proofs.BodySteps.{BodyLeft}
 use Rattle.body.proofs.plan_lines.Given as goal
 

@@ -1,5 +1,5 @@
 -- What the functions of a body's check ask and leave.
-use Rattle.std.specs.Prelude.{ℕ, ◌-◌, ◌*◌, ◌≤◌, ◌<◌, ◌≡◌, Bool, true, false, cond, List, [], ◌∷◌, eqb, length, get_or, set}
+use Rattle.std.specs.Prelude.{ℕ, ◌-◌, ◌*◌, ◌≤◌, ◌<◌, ◌≡◌, Bool, true, false, cond, Result, Ok, Err, is_ok, List, [], ◌∷◌, eqb, length, get_or, set}
 use Rattle.base.specs.Lent.{MutSlices}
 use Rattle.base.specs.Refusal.{passed}
 use Rattle.scope.specs.declared.Scope.{Scope}
@@ -14,7 +14,9 @@ use Rattle.planner.specs.Operations.{Outcome, refused, planned, zeros, written}
 use Rattle.operation.specs.declared.Operation.{Operation}
 use Rattle.operation.specs.declared.Operation.TheVariants.{Pattern, ColonEquals, Equals, SomeIn, Index, Parameter}
 use Rattle.body.specs.declared.sides.Sides.{Sides}
-use Rattle.body.specs.declared.LineStep.{LineStep}
+use Rattle.planner.specs.declared.Plan.{Plan}
+use Rattle.body.specs.declared.BodyRefusal.{BodyRefusal}
+use Rattle.body.specs.declared.LinePlanned.{LinePlanned}
 use Rattle.body.specs.Ready.{side, one_side, first_in, first_not_ready, pair_sides, computed_key_sides, value_sides, sides_of}
 use Rattle.body.specs.Body.{unless_not_ready, line_outcome, bind_all, bind_plan, line_answered, body_line_of}
 
@@ -105,15 +107,24 @@ abbrev pub is_planned : Outcome → Bool
 is_planned (refused r) = false
 is_planned (planned form which es) = true
 
--- a line that came to an outcome: the answer, the scope with what it binds and what that says of all names, the plan buffer
-pub record LineDone (T : Tables) (s : Scope) (n : ℕ) (o : Outcome) (buffer after known : List ℕ) (r : LineStep) : Type 0 where
-  pub planned_is : r.planned ≡ is_planned o
-  pub answer : body_line_of r.answer ≡ line_answered n o
-  pub scope : r.scope ≡ bind_plan T s o
-  pub plan : after ≡ buffer
-  pub states_are : StatesOf T r.scope known
+-- the answer of a line, and the scope after it
+abbrev pub line_answer : Result LinePlanned BodyRefusal → Result Plan BodyRefusal
+line_answer (Ok p) = Ok p.plan
+line_answer (Err r) = Err r
 
-abbrev pub LineDoneIn : MutSlices → List ℕ → Tables → Scope → Operation → ℕ → LineStep → Type 0
+abbrev pub line_scope : Scope → Result LinePlanned BodyRefusal → Scope
+line_scope s (Ok p) = p.scope
+line_scope s (Err r) = s
+
+-- a line that came to an outcome: the answer, the scope with what it binds and what that says of all names, the plan buffer
+pub record LineDone (T : Tables) (s : Scope) (n : ℕ) (o : Outcome) (buffer after known : List ℕ) (r : Result LinePlanned BodyRefusal) : Type 0 where
+  pub planned_is : is_ok r ≡ is_planned o
+  pub answer : body_line_of (line_answer r) ≡ line_answered n o
+  pub scope : line_scope s r ≡ bind_plan T s o
+  pub plan : after ≡ buffer
+  pub states_are : StatesOf T (line_scope s r) known
+
+abbrev pub LineDoneIn : MutSlices → List ℕ → Tables → Scope → Operation → ℕ → Result LinePlanned BodyRefusal → Type 0
 LineDoneIn plan known T s operation n r =
     let o = line_outcome T plan.entry.now s operation in
     LineDone T s n o (written o plan.entry.now) plan.exit.now known r
@@ -122,7 +133,7 @@ LineDoneIn plan known T s operation n r =
 abbrev pub cleared : Outcome → List ℕ → List ℕ
 cleared o buffer = cond (is_planned o) buffer (zeros buffer)
 
-abbrev pub SettledIn : MutSlices → List ℕ → Tables → Scope → Operation → ℕ → ℕ → ℕ → ℕ → LineStep → Type 0
-SettledIn plan known T s operation n form which count r =
-    let o = unless_not_ready T s operation (planned form which (read_entries plan.entry.now 0 count)) in
+abbrev pub SettledIn : MutSlices → List ℕ → Tables → Scope → Operation → ℕ → Plan → Result LinePlanned BodyRefusal → Type 0
+SettledIn plan known T s operation n p r =
+    let o = unless_not_ready T s operation (planned p.form p.side (read_entries plan.entry.now 0 p.entries)) in
     LineDone T s n o (cleared o plan.entry.now) plan.exit.now known r

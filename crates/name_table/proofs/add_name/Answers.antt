@@ -11,11 +11,11 @@ returns-then-not-is_allowed c = search (add_barred, c.in_ok-check_in_use.was, ru
 pub slice_bounds-number_of-end : goal.slice_bounds-number_of-end
 slice_bounds-number_of-end c = search (range_inside, c.in_ok-check_in_use.was, rules)
 
-pub number_of-name-requires : goal.number_of-name-requires
-number_of-name-requires c = search (few_used, c.in_ok-check_in_use.was, rules)
+pub number_of-requires : goal.number_of-requires
+number_of-requires c = search (few_used, c.in_ok-check_in_use.was, rules)
 
-pub returns-then-name-ne0 : goal.returns-then-name-ne0
-returns-then-name-ne0 c = search (add_existing, c.in_ok-check_in_use.was, rules)
+pub returns-in-Some : goal.returns-in-Some
+returns-in-Some c = search (add_existing, c.in_ok-check_in_use.was, rules)
 
 pub returns : goal.returns
 returns c = search (add_new, c.in_ok-check_in_use.was, rules)

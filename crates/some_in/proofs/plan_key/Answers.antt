@@ -1,9 +1,12 @@
-use Rattle.some_in.proofs.Answers.{key_refused, key_answered}
+use Rattle.some_in.proofs.Answers.{key_refused, ended_low, key_answered}
 use borrow.Author.Rules.{rules}
 use Rattle.some_in.proofs.plan_key.Goals as goal
 
-pub returns-then-key_plan-ne0 : goal.returns-then-key_plan-ne0
-returns-then-key_plan-ne0 c = search (key_refused, rules)
+pub plan_value-requires : goal.plan_value-requires
+plan_value-requires c = search (ended_low, rules)
 
-pub returns : goal.returns
-returns c = search (key_answered, rules)
+pub returns-in-Ok : goal.returns-in-Ok
+returns-in-Ok c = search (key_answered, rules)
+
+pub returns-in-Err : goal.returns-in-Err
+returns-in-Err c = search (key_refused, rules)

@@ -1,11 +1,12 @@
 -- What the crate's own functions ask and say.
-use Rattle.std.specs.Prelude.{ℕ, ◌+◌, ◌^◌, ◌≤◌, ◌<◌, ◌≡◌, List, Result}
+use Rattle.std.specs.Prelude.{ℕ, ◌+◌, ◌^◌, ◌≤◌, ◌<◌, ◌≡◌, cond, eqb, List, Result, Ok, Err}
 use Rattle.scope.specs.declared.Scope.{Scope}
 use Rattle.scope.specs.declared.ScopingMode.TheVariants.{RespectParent}
 use Rattle.table.specs.Tables.{Tables, child_at}
 use Rattle.table.specs.code.Sound.{Node, WellFormed}
 use Rattle.planner.specs.declared.Plan.{Plan}
 use Rattle.planner.specs.declared.PlanRefusal.{PlanRefusal}
+use Rattle.planner.specs.declared.PlanRefusal.TheVariants.{VariableAlreadyDefined}
 use Rattle.planner.specs.Layout.{Entry, top, entries}
 use Rattle.planner.specs.Entries.{Wrote}
 use Rattle.planner.specs.Operations.{plan_of, planned, validated, Answered}
@@ -28,11 +29,16 @@ pub record PlaceAsks (T : Tables) (root at : ℕ) : Type 0 where
   pub node : Node T root
   pub low : at ≤ 512
 
--- its plan's entries from that place on, and its first name that is defined already, or 0
-pub record Validated (T : Tables) (s : Scope) (root at : ℕ) (before after : List ℕ) (end name : ℕ) : Type 0 where
+-- the place after the entries, or the refusal of a name that is defined already; name 0 says that there is none
+abbrev pub ended : ℕ → ℕ → Result ℕ PlanRefusal
+ended end name = cond (eqb name 0) (Ok end) (Err (VariableAlreadyDefined name))
+
+-- its plan's entries from that place on, and its first name that is defined already
+pub record Validated (T : Tables) (s : Scope) (root at : ℕ) (before after : List ℕ) (r : Result ℕ PlanRefusal) : Type 0 where
+  pub end : ℕ
   pub wrote : Wrote before at (entries (plan_of T s RespectParent root) top) after end
   pub few : end ≤ at + 512
-  pub defined : name ≡ validated T s RespectParent root
+  pub told : r ≡ ended end (validated T s RespectParent root)
 
 -- the value and the collection, and the place after the key's entries
 pub record ValueAsks (T : Tables) (value collection at : ℕ) : Type 0 where

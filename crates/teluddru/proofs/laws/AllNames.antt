@@ -28,12 +28,15 @@ use Rattle.common_example.specs.declared.sides.ScopedPattern.{ScopedPattern}
 use Rattle.common_example.specs.Operations as Example
 use Rattle.common_example.specs.Operations.{PatternSide, side_checked, ExampleOutcome, example_outcome, example_answer, nodes_after, children_after}
 use Rattle.common_example.specs.Common.{Gives, pattern_side}
-use Rattle.report.specs.declared.ReportAnswer.{ReportAnswer}
+use Rattle.std.proofs.Common.{Result}
+use Rattle.report.specs.declared.ReportRefusal.{ReportRefusal}
 use Rattle.report.specs.Report as Report
 use Rattle.report.specs.Report.{ReportOutcome, report_outcome, report_answer, report_list, ReportedBy}
 use Rattle.run.specs.declared.RunAnswer.{RunAnswer}
+use Rattle.run.specs.declared.RunRefusal.{RunRefusal}
 use Rattle.run.specs.Operations.{RunOutcome, refused, run_outcome, planned_name, Ran, values_after}
 use Rattle.tolerance.specs.declared.ToleranceAnswer.{ToleranceAnswer}
+use Rattle.tolerance.specs.declared.ToleranceRefusal.{ToleranceRefusal}
 use Rattle.tolerance.specs.Tolerance.{Answer}
 use Rattle.tolerance.specs.Operations as Tolerance
 use Rattle.tolerance.specs.Operations.{ToleranceOutcome, tolerance_outcome, tolerance_result, plan_left, values_left, is_judged, Judged}
@@ -61,7 +64,7 @@ report_refused : (T : Tables) (s : Scope) (pattern : ℕ) (list : List ℕ) → 
 report_refused T s pattern list e = simp e
 
 -- a refused run sets no name
-sets_none : (names names' : ℕ → Bool) {a : Refusal} {values buffer valuesExit bufferExit : List ℕ} {r : RunAnswer}
+sets_none : (names names' : ℕ → Bool) {a : Refusal} {values buffer valuesExit bufferExit : List ℕ} {r : Result RunAnswer RunRefusal}
     → Ran names (refused a) values buffer valuesExit bufferExit r → Ran names' (refused a) values buffer valuesExit bufferExit r
 unfolding values_after
 sets_none names names' ran = record { answer = ran.answer; plan = ran.plan; list = ran.list }
@@ -83,7 +86,7 @@ tolerance_refused : (T : Tables) (s : Scope) (mode : ScopingMode) (pattern value
 tolerance_refused T s mode pattern value values lows highs a e = simp e
 
 module _ (T T' : Tables) (s : Scope) (mode : ScopingMode) (pattern value : ℕ) (values lows highs : List ℕ) (e : checked T s ≡ Refusal.refused over_limit) (e' : checked T' s ≡ Refusal.refused over_limit) where
-  judged_same : {buffer valuesExit bufferExit : List ℕ} {r : ToleranceAnswer} → Judged T s mode pattern value values lows highs buffer valuesExit bufferExit r → Judged T' s mode pattern value values lows highs buffer valuesExit bufferExit r
+  judged_same : {buffer valuesExit bufferExit : List ℕ} {r : Result ToleranceAnswer ToleranceRefusal} → Judged T s mode pattern value values lows highs buffer valuesExit bufferExit r → Judged T' s mode pattern value values lows highs buffer valuesExit bufferExit r
   unfolding values_left
   judged_same {buffer} j =
       let o = tolerance_refused T s mode pattern value values lows highs j.answer e in
@@ -139,7 +142,7 @@ module _ (over : List ℕ → Tables) (counts : (names : List ℕ) → name_coun
     abbrev outcome : ℕ → List ℕ → List ℕ → RunOutcome
     outcome value values ws = run_outcome (over ws) s mode pattern value values
 
-    pub run_all : (value : ℕ) (ns : List Name) (names : NameWords) → Copied ns names → {values buffer valuesExit bufferExit : List ℕ} {r : RunAnswer}
+    pub run_all : (value : ℕ) (ns : List Name) (names : NameWords) → Copied ns names → {values buffer valuesExit bufferExit : List ℕ} {r : Result RunAnswer RunRefusal}
         → Ran (to_set (held names)) (outcome value values (held names)) values buffer valuesExit bufferExit r → Ran (to_set (name_words ns)) (outcome value values (name_words ns)) values buffer valuesExit bufferExit r
     run_all value ns names copied {values} {buffer} {valuesExit} {bufferExit} {r} =
         as_all (λ ws. Ran (to_set ws) (outcome value values ws) values buffer valuesExit bufferExit r)
@@ -147,13 +150,13 @@ module _ (over : List ℕ → Tables) (counts : (names : List ℕ) → name_coun
         (sets_none (to_set ws) (to_set ws') (subst (λ (o : RunOutcome). Ran (to_set ws) o values buffer valuesExit bufferExit r) (run_refused (over ws) s mode pattern value values (too_many ws l)) ran)))
         ns names copied
 
-    pub tolerance_all : (value : ℕ) (lows highs : List ℕ) (ns : List Name) (names : NameWords) → Copied ns names → {values buffer valuesExit bufferExit : List ℕ} {r : ToleranceAnswer}
+    pub tolerance_all : (value : ℕ) (lows highs : List ℕ) (ns : List Name) (names : NameWords) → Copied ns names → {values buffer valuesExit bufferExit : List ℕ} {r : Result ToleranceAnswer ToleranceRefusal}
         → Judged (over (held names)) s mode pattern value values lows highs buffer valuesExit bufferExit r → Judged (over (name_words ns)) s mode pattern value values lows highs buffer valuesExit bufferExit r
     tolerance_all value lows highs ns names copied {values} {buffer} {valuesExit} {bufferExit} {r} =
         as_all (λ ws. Judged (over ws) s mode pattern value values lows highs buffer valuesExit bufferExit r)
         (λ ws ws' l l'. judged_same (over ws) (over ws') s mode pattern value values lows highs (too_many ws l) (too_many ws' l')) ns names copied
 
-    pub report_all : (ns : List Name) (names : NameWords) → Copied ns names → {before later : List ℕ} {r : ReportAnswer}
+    pub report_all : (ns : List Name) (names : NameWords) → Copied ns names → {before later : List ℕ} {r : Result Unit ReportRefusal}
         → ReportedBy (over (held names)) s mode pattern before later r → ReportedBy (over (name_words ns)) s mode pattern before later r
     report_all ns names copied {before} {later} {r} =
         as_all (λ ws. ReportedBy (over ws) s mode pattern before later r)

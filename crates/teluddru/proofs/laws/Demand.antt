@@ -20,7 +20,9 @@ use Rattle.planner.specs.Operations.{Outcome, planned, plan_of, pattern_planned,
 use Rattle.planner.specs.Simple.{simple}
 use Rattle.value.specs.Value.{is_value}
 use Rattle.assignment.proofs.laws.PairsAnswered.{pairs_demand}
+use Rattle.std.proofs.Common.{Result}
 use Rattle.run.specs.declared.RunAnswer.{RunAnswer}
+use Rattle.run.specs.declared.RunRefusal.{RunRefusal}
 use Rattle.run.specs.Answer.{RunResult}
 use Rattle.run.specs.Operations.{RunOutcome, refused, carried_out, require, table_first, ran, run_inside, run_checked, run_outcome, values_listed, known_listed, plan_after}
 use Rattle.run.specs.Demand as Run
@@ -72,7 +74,7 @@ module _ (T : Tables) (s : Scope) (mode : ScopingMode) (pattern value : ℕ) (va
         leaves = ap (λ (o : RunOutcome). plan_after o buffer) whole ∙ sym (ap (λ (o : Outcome). written o buffer) call);
       }
 
-  keeps : (r : RunAnswer) (after plan : List ℕ) → Run.Hypotheses T s mode pattern value values buffer → Meets T s mode pattern value values buffer r after plan → Kept T s mode pattern value values buffer r after plan
+  keeps : (r : Result RunAnswer RunRefusal) (after plan : List ℕ) → Run.Hypotheses T s mode pattern value values buffer → Meets T s mode pattern value values buffer r after plan → Kept T s mode pattern value values buffer r after plan
   keeps r after plan h m = record {
     promised = subst (λ (told : RunResult). Run.Promised T s mode pattern value values buffer told after) (sym m.answer)
         (subst (λ (list : List ℕ). Run.Promised T s mode pattern value values buffer (Run.answer T s mode pattern value values buffer) list) (sym m.list) ((Proved.demand).runs T s mode pattern value values buffer h));

@@ -1,6 +1,5 @@
 use Rattle.table.specs.Contents.{contents}
 use Prim.Native.Nat.{◌-◌}
-use Rattle.table.specs.Tables.{tables}
 use Rattle.assignment.proofs.keys.KeySearch.{Searching}
 use Rattle.assignment.proofs.keys.find_value.Given as goal
 

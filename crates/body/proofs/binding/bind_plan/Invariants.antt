@@ -1,4 +1,3 @@
-use Prim.Native.Nat.{◌-◌}
 use Rattle.body.proofs.PlanLoops.{BindLeft}
 use Rattle.body.proofs.binding.bind_plan.Given as goal
 

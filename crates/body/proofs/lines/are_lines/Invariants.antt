@@ -1,4 +1,4 @@
-use Prim.Native.Nat.{◌-◌, ◌≤◌}
+use Prim.Native.Nat.{◌≤◌}
 use Rattle.table.proofs.tests.Scan.{Scan}
 use Rattle.body.specs.Lines.{line_count, is_line_at}
 use Rattle.body.proofs.lines.are_lines.Given as goal

@@ -1,5 +1,5 @@
 use native.Mathlib.Omega.{arith}
-use Rattle.body.proofs.PlanLoops.{next_fits, keys_start, keys_ask, keys_found_lem, keys_on, keys_end}
+use Rattle.body.proofs.PlanLoops.{keys_start, keys_ask, keys_found_lem, keys_on, keys_end}
 use borrow.Author.Rules.{rules}
 use Rattle.body.proofs.ready.keys_unready.Goals as goal
 
@@ -11,9 +11,6 @@ first_unknown-found-requires c = keys_ask c.loop-i.invariant
 
 pub returns-then-found-ne0 : goal.returns-then-found-ne0
 returns-then-found-ne0 c = search (keys_found_lem, rules)
-
-pub overflow_add-i : goal.overflow_add-i
-overflow_add-i c = next_fits c.loop-i.invariant.asks c.loop-i-test.true
 
 pub loop-i-smaller : goal.loop-i-smaller
 loop-i-smaller c = let more = c.loop-i-test.true in

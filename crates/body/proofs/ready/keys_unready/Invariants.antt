@@ -1,6 +1,4 @@
 use Rattle.table.specs.Contents.{contents}
-use Prim.Native.Nat.{◌-◌}
-use Rattle.table.specs.Tables.{tables}
 use Rattle.body.proofs.PlanLoops.{KeysLeft}
 use Rattle.body.proofs.ready.keys_unready.Given as goal
 

@@ -1,4 +1,4 @@
-use Rattle.body.proofs.PlanLoops.{next_fits, pairs_start, pairs_ask, pairs_found_lem, pairs_on, pairs_end}
+use Rattle.body.proofs.PlanLoops.{pairs_start, pairs_ask, pairs_found_lem, pairs_on, pairs_end}
 use borrow.Author.Rules.{rules}
 use Rattle.body.proofs.ready.pairs_unready.Goals as goal
 
@@ -10,9 +10,6 @@ first_unknown-found-requires c = pairs_ask c.loop-i.invariant
 
 pub returns-then-found-ne0 : goal.returns-then-found-ne0
 returns-then-found-ne0 c = search (pairs_found_lem, rules)
-
-pub overflow_add-i : goal.overflow_add-i
-overflow_add-i c = search (next_fits, rules)
 
 pub loop-i-preserved : goal.loop-i-preserved
 loop-i-preserved c = search (pairs_on, rules)

@@ -19,4 +19,4 @@ tell_body-requires-2 c = search (body_fits, rules)
 
 pub returns : goal.returns
 returns c = call_done _ _ _ _ c.words_first-unread.ensures c.if-unread-ne0.false c.scope_of-made.ensures c.marks_first-before.ensures c.if-before-ne0.false
-    c.plan_body-done.ensures c.body_row-told.ensures c.keep_marks.ensures c.tell_body-2.ensures
+    c.given_scope-scope.ensures c.plan_body-done.ensures c.body_row-told.ensures c.keep_marks.ensures c.tell_body-2.ensures

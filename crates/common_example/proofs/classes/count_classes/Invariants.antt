@@ -3,6 +3,3 @@ use Rattle.common_example.proofs.classes.count_classes.Given as goal
 
 abbrev pub invariant-loop-left : goal.invariant-loop-left
 invariant-loop-left l = CountingClasses l.classes l.left l.total
-
-abbrev pub decreases-loop-left : goal.decreases-loop-left
-decreases-loop-left l = l.left

@@ -1,8 +1,5 @@
 use Rattle.common_example.proofs.loops.classes.MeetLoops.{JoiningItems}
 use Rattle.common_example.proofs.classes.join_items.Given as goal
 
-abbrev pub invariant-loop-left : goal.invariant-loop-left
-invariant-loop-left l = JoiningItems l.heads l.links l.initial.classes l.at l.from l.count l.first l.second l.left l.classes
-
-abbrev pub decreases-loop-left : goal.decreases-loop-left
-decreases-loop-left l = l.left
+abbrev pub invariant-loop-i : goal.invariant-loop-i
+invariant-loop-i l = JoiningItems l.heads l.links l.initial.classes l.at l.from l.count l.i l.classes

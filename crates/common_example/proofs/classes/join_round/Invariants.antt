@@ -3,6 +3,3 @@ use Rattle.common_example.proofs.classes.join_round.Given as goal
 
 abbrev pub invariant-loop-left : goal.invariant-loop-left
 invariant-loop-left l = Rounding l.heads l.links l.initial.classes l.left l.classes
-
-abbrev pub decreases-loop-left : goal.decreases-loop-left
-decreases-loop-left l = l.left

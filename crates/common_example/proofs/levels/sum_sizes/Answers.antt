@@ -1,9 +1,10 @@
 use Rattle.common_example.proofs.loops.sizes.SizeLoops.{summing_start, link_low, size_low, link_fits, summed, summing_none, summing_on, summing_ends}
+use Rattle.std.proofs.Common.{◌≡◌, ◌+◌, ◌-◌, ◌<◌, arith}
 use borrow.Author.Rules.{rules}
 use Rattle.common_example.proofs.levels.sum_sizes.Goals as goal
 
-pub loop-left-init : goal.loop-left-init
-loop-left-init c = search (summing_start, rules)
+pub loop-part-init : goal.loop-part-init
+loop-part-init c = search (summing_start, rules)
 
 pub offset_bounds-links-link : goal.offset_bounds-links-link
 offset_bounds-links-link c = search (link_low, rules)
@@ -23,8 +24,10 @@ capped-total-requires c = search (summed, rules)
 pub overflow_add-link : goal.overflow_add-link
 overflow_add-link c = search (link_fits, rules)
 
-pub loop-left-preserved : goal.loop-left-preserved
-loop-left-preserved c = search (summing_on, rules)
+pub loop-part-preserved : goal.loop-part-preserved
+loop-part-preserved c = let e : c.args.count - (c.loop-part._part + 1) ≡ c.args.count - c.loop-part._part - 1 = omega arith in
+    let more : 0 < c.args.count - c.loop-part._part = omega arith in
+    rw e (summing_on c.loop-part.invariant more c.size_at-size.ensures (search rules) c.capped-total.ensures)
 
 pub returns : goal.returns
 returns c = search (summing_ends, rules)

@@ -52,6 +52,13 @@ pub record Numbering (links sizes : List ℕ) (step link count before entry : �
 pub numbering_start : (links sizes : List ℕ) (step link count before entry : ℕ) (children : List ℕ) → NumberAsks links sizes step link count before entry children → Numbering links sizes step link count before entry children link count before entry children
 numbering_start links sizes step link count before entry children asks = record { asks = asks; same = refl; long = refl }
 
+-- by how many parts are done
+pub more_left : {done count : ℕ} → done < count → 0 < count - done
+more_left h = omega arith
+
+pub none_left : {done count : ℕ} → count ≤ done → count - done ≤ 0
+none_left h = omega arith
+
 pub scaled : (left step : ℕ) → 0 < left → left * step ≡ step + (left - 1) * step
 scaled left step more = let a : left ≡ suc (left - 1) = omega arith in ap (λ (k : ℕ). k * step) a ∙ one_more (left - 1) step
   where

@@ -1,50 +1,53 @@
 use Rattle.common_example.proofs.loops.writing.WriteParts.{writing_start, writing_link, writing_next, writing_part, writing_one, writing_key, writing_place, writing_to, writing_end, writing_on, writing_ends, place_falls, parts_fall, place_class, place_level, place_inside, place_leaf_asks, place_leaf, place_start, place_parts, place_node_fits, place_node_low, place_parent, place_done}
+use Rattle.common_example.proofs.loops.writing.WriteLoops.{more_left, none_left}
+use Rattle.std.proofs.Common.{◌≡◌, ◌+◌, ◌-◌, ◌<◌, arith}
 use borrow.Author.Rules.{rules}
 use Rattle.common_example.proofs.writing.+write_parts_write_place.Goals as goal
 
-pub write_parts-loop-left-init : goal.write_parts-loop-left-init
-write_parts-loop-left-init t c = search (writing_start, rules)
+pub write_parts-loop-part-init : goal.write_parts-loop-part-init
+write_parts-loop-part-init t c = search (writing_start, rules)
 
 pub write_parts-write_key-value-requires : goal.write_parts-write_key-value-requires
-write_parts-write_key-value-requires t c = search (writing_key, rules)
+write_parts-write_key-value-requires t c = search (writing_key, more_left, rules)
 
 pub write_parts-offset_bounds-links-from : goal.write_parts-offset_bounds-links-from
-write_parts-offset_bounds-links-from t c = search (writing_link, rules)
+write_parts-offset_bounds-links-from t c = search (writing_link, more_left, rules)
 
 pub write_parts-bounds-links-from : goal.write_parts-bounds-links-from
-write_parts-bounds-links-from t c = search (writing_link, rules)
+write_parts-bounds-links-from t c = search (writing_link, more_left, rules)
 
 pub write_parts-write_place-requires : goal.write_parts-write_place-requires
-write_parts-write_place-requires t c = (search (place_falls, rules), search (writing_place, rules))
+write_parts-write_place-requires t c = (search (place_falls, rules), search (writing_place, more_left, rules))
 
-pub write_parts-offset_bounds-links-from-in-loop-left : goal.write_parts-offset_bounds-links-from-in-loop-left
-write_parts-offset_bounds-links-from-in-loop-left t c = search (writing_link, rules)
+pub write_parts-offset_bounds-links-from-in-loop-part : goal.write_parts-offset_bounds-links-from-in-loop-part
+write_parts-offset_bounds-links-from-in-loop-part t c = search (writing_link, more_left, rules)
 
-pub write_parts-bounds-links-from-in-loop-left : goal.write_parts-bounds-links-from-in-loop-left
-write_parts-bounds-links-from-in-loop-left t c = search (writing_link, rules)
+pub write_parts-bounds-links-from-in-loop-part : goal.write_parts-bounds-links-from-in-loop-part
+write_parts-bounds-links-from-in-loop-part t c = search (writing_link, more_left, rules)
 
 pub write_parts-size_at-size-requires : goal.write_parts-size_at-size-requires
-write_parts-size_at-size-requires t c = search (writing_part, rules)
+write_parts-size_at-size-requires t c = search (writing_part, more_left, rules)
 
 pub write_parts-overflow_add-to : goal.write_parts-overflow_add-to
-write_parts-overflow_add-to t c = search (writing_to, rules)
+write_parts-overflow_add-to t c = search (writing_to, more_left, rules)
 
 pub write_parts-overflow_sub-end : goal.write_parts-overflow_sub-end
-write_parts-overflow_sub-end t c = search (writing_one, rules)
+write_parts-overflow_sub-end t c = search (writing_one, more_left, rules)
 
 pub write_parts-overflow_add-end : goal.write_parts-overflow_add-end
-write_parts-overflow_add-end t c = search (writing_end, rules)
+write_parts-overflow_add-end t c = search (writing_end, more_left, rules)
 
 pub write_parts-overflow_add-from : goal.write_parts-overflow_add-from
-write_parts-overflow_add-from t c = search (writing_next, rules)
+write_parts-overflow_add-from t c = search (writing_next, more_left, rules)
 
-pub write_parts-loop-left-preserved : goal.write_parts-loop-left-preserved
-write_parts-loop-left-preserved t c = let go = c.loop-left.invariant in
-    let more = c.loop-left-test.true in
-    search (writing_on go more, rules)
+pub write_parts-loop-part-preserved : goal.write_parts-loop-part-preserved
+write_parts-loop-part-preserved t c = let go = c.loop-part.invariant in
+    let more : 0 < c.args.count - c.loop-part._part = omega arith in
+    let e : c.args.count - (c.loop-part._part + 1) ≡ c.args.count - c.loop-part._part - 1 = omega arith in
+    rw e (search (writing_on go more, rules))
 
 pub write_parts-returns : goal.write_parts-returns
-write_parts-returns t c = search (writing_ends, rules)
+write_parts-returns t c = search (writing_ends, none_left, rules)
 
 pub write_place-class_of-class-requires : goal.write_place-class_of-class-requires
 write_place-class_of-class-requires t c = search (place_class, rules)

@@ -1,4 +1,3 @@
-use Prim.Native.Nat.{◌-◌}
 use Rattle.planner.proofs.buffer.Filling.{Filling}
 use Rattle.operation.specs.code.Reserved.{reserved_state_at}
 use Rattle.operation.proofs.version.reserved_states.Given as goal

@@ -1,9 +1,6 @@
 use Rattle.c_calls.proofs.BodyCalls.{body_row_is}
 use borrow.Author.Rules.{rules}
-use Rattle.c_calls.proofs.bodies.body_row.Goals as goal
-
-pub returns-in-Accepted : goal.returns-in-Accepted
-returns-in-Accepted c = search (body_row_is, rules)
+use Rattle.c_calls.proofs.bodies.refused_row.Goals as goal
 
 pub returns-in-NotABody : goal.returns-in-NotABody
 returns-in-NotABody c = search (body_row_is, rules)

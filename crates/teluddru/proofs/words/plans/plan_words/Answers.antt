@@ -1,8 +1,0 @@
-use native.Mathlib.Omega.{arith}
-use Rattle.teluddru.proofs.laws.Copying.{part_count}
-use borrow.Author.Rules.{rules}
-use Rattle.teluddru.proofs.words.plans.plan_words.Goals as goal
-
-pub slice_bounds-plan-end : goal.slice_bounds-plan-end
-slice_bounds-plan-end c = let names = c.args.names in
-    part_count names.count names.words (search rules) (omega arith)

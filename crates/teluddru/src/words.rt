@@ -1,8 +1,0 @@
-// The calls over names in pairs of words.
-pub mod adding;
-pub mod bodies;
-pub mod examples;
-pub mod plans;
-pub mod reports;
-pub mod runs;
-pub mod tolerances;
