@@ -76,15 +76,11 @@ fn first_missing(
     requires { MissingAsks (contents tables.now) object order.now total from count }
     ensures { result ≡ missing_from (contents tables.now) object from count }
 {
-    let mut place = from;
-    let mut more = count;
-    while 0 < more {
-        let key = child_at(tables.children, place);
+    for i in 0..count {
+        let key = child_at(tables.children, from + i * 2);
         if find_value(tables, object, order, total, key) == 0 {
             return key;
         }
-        place += 2;
-        more -= 1;
     }
     0
 }

@@ -105,9 +105,7 @@ fn sort_ordered(
     ensures { let T = contents tables.now in SortedKeys T (ordered_key T first order.now) total keys.old keys.new result }
 {
     let mut size: usize = 0;
-    let mut q = total;
-    while 0 < q {
-        q -= 1;
+    for q in (0..total).rev() {
         let key = child_at(tables.children, first + field_at(order, q) * 2);
         size = add_key(
             tables.nodes,
@@ -128,9 +126,7 @@ fn sort_written(tables: &Tables<'_>, first: usize, count: usize, keys: &mut [u32
     ensures { let T = contents tables.now in SortedKeys T (field_key T first) count keys.old keys.new result }
 {
     let mut size: usize = 0;
-    let mut i = count;
-    while 0 < i {
-        i -= 1;
+    for i in (0..count).rev() {
         let key = child_at(tables.children, first + i * 2);
         size = add_key(
             tables.nodes,
@@ -162,10 +158,9 @@ fn same_texts<'a>(
     if m != n {
         return false;
     }
-    let mut q: usize = 0;
-    while q < m {
+    for q in 0..m {
         match compare_key_texts(nodes, numbers, strings, text, a[q], b[q]) {
-            Comparison::Equal => q += 1,
+            Comparison::Equal => (),
             Comparison::Less => return false,
             Comparison::Greater => return false,
             Comparison::NoLiteral => return false,
