@@ -5,7 +5,7 @@ use Rattle.scope.specs.declared.Scope.{Scope}
 use Rattle.table.specs.Tables.{Tables}
 use Rattle.table.specs.Expr.{Expr}
 use Rattle.table.specs.Decode.{expr}
-use Rattle.planner.specs.declared.PlanAnswer.TheVariants.{Planned}
+use Rattle.planner.specs.Answer.{planned_as}
 use Rattle.planner.specs.Layout.{Entry}
 use Rattle.planner.specs.Simple.{simple}
 use Rattle.planner.specs.Operations.{planned, Answered}
@@ -18,7 +18,7 @@ use Rattle.assignment.specs.Assignment.{assignment_outcome}
 -- Of what is answered, in either reading: form 4 with its entries, and the entries in the plan buffer of whatever meets the contract of create_assignment_binding_plan.
 pub record AnswerPromise (T : Tables) (s : Scope) (left right : ℕ) : Type 0 where
   pub entries : (reading : Reading) (side : ℕ) (es : List Entry) → assignment_outcome T s Eq left right reading ≡ planned 4 side es → EntriesPromise T s es
-  pub buffer : (reading : Reading) (before after : List ℕ) (side count : ℕ) → Answered (assignment_outcome T s Eq left right reading) before after (Planned 4 side count)
+  pub buffer : (reading : Reading) (before after : List ℕ) (side count : ℕ) → Answered (assignment_outcome T s Eq left right reading) before after (planned_as 4 side count)
       → EntriesPromise T s (read_entries after 0 count)
 
 pub record PairsDemand : Type 0 where

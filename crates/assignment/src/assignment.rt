@@ -16,10 +16,10 @@ use crate::flatten::flatten_assignment_pairs;
 use crate::preview::{introduces_binding, preview_binding_plan, preview_sides};
 use checks::inner::check_literal_structure;
 use checks::{LiteralStructureCheck, Reading};
-use planner::PlanAnswer;
 use planner::buffer::{ENTRY_WORDS, PATTERN_WORDS, clear};
 use planner::context::name_states;
 use planner::inner::destructuring::plan_pattern;
+use planner::{Plan, PlanRefusal};
 use scope::{Scope, ScopingMode};
 use table::reading::{first_of, is_node, kind_of, name_class};
 use table::tables::Tables;
@@ -55,13 +55,13 @@ fn bind_side(
     scratch: &[u32],
     count: usize,
     plan: &mut [u32],
-) -> PlanAnswer
+) -> Result<Plan, PlanRefusal>
     requires { BindAsks (contents tables.now) binding value scratch.now count }
     ensures { SideBoundIn plan scratch (contents tables.now) form binding value reading count result }
 {
     if structurally_incompatible(tables.nodes, binding, value) {
         clear(plan);
-        return PlanAnswer::IncompatibleDestructuringPatterns { side: binding };
+        return Err(PlanRefusal::IncompatibleDestructuringPatterns { side: binding });
     }
     let structure = check_literal_structure(tables, binding, value, reading);
     match structure {
@@ -73,29 +73,29 @@ fn bind_side(
             actual,
         } => {
             clear(plan);
-            PlanAnswer::ArrayLengthMismatch {
+            Err(PlanRefusal::ArrayLengthMismatch {
                 value,
                 expected,
                 actual,
-            }
+            })
         }
         LiteralStructureCheck::ObjectMismatch { value, pattern } => {
             clear(plan);
-            PlanAnswer::ObjectLiteralKeysMismatch { value, pattern }
+            Err(PlanRefusal::ObjectLiteralKeysMismatch { value, pattern })
         }
     }
 }
 
 // No entries: an equality check or a wildcard.
-fn deliver_none(plan: &mut [u32], form: u32, side: u32) -> PlanAnswer
+fn deliver_none(plan: &mut [u32], form: u32, side: u32) -> Result<Plan, PlanRefusal>
     ensures { AnsweredIn plan (planned form side []) result }
 {
     clear(plan);
-    PlanAnswer::Planned {
+    Ok(Plan {
         form,
         side,
         entries: 0,
-    }
+    })
 }
 
 // `:=`, the left side's plan standing in the scratch.
@@ -108,18 +108,18 @@ fn colon_equals_from(
     scratch: &[u32],
     count: usize,
     plan: &mut [u32],
-) -> PlanAnswer
+) -> Result<Plan, PlanRefusal>
     requires { BindAsks (contents tables.now) left right scratch.now count }
     ensures { ColonBoundIn plan scratch (contents tables.now) scope left right reading count result }
 {
     if !introduces_binding(scratch, count) {
         clear(plan);
-        return PlanAnswer::ColonEqualsRequiresBindableLeft { left };
+        return Err(PlanRefusal::ColonEqualsRequiresBindableLeft { left });
     }
     let name = first_same_scope(tables.nodes, scope, scratch, count);
     if name != 0 {
         clear(plan);
-        return PlanAnswer::VariableAlreadyDefined { name };
+        return Err(PlanRefusal::VariableAlreadyDefined { name });
     }
     bind_side(tables, 1, left, right, reading, scratch, count, plan)
 }
@@ -133,7 +133,7 @@ fn colon_equals_in(
     reading: Reading,
     scratch: &mut [u32],
     plan: &mut [u32],
-) -> PlanAnswer
+) -> Result<Plan, PlanRefusal>
     requires { GoodPairIn scratch (contents tables.now) left right }
     ensures { ColonEqualsIn plan scratch (contents tables.now) scope left right reading result }
 {
@@ -194,7 +194,7 @@ fn bind_right(
     binders: &mut [u32; 128],
     scratch: &mut [u32],
     plan: &mut [u32],
-) -> PlanAnswer
+) -> Result<Plan, PlanRefusal>
     requires { SidesAsksIn scratch (contents tables.now) states.now left right }
     ensures { RightBoundIn plan scratch binders (contents tables.now) states.now left right reading result }
 {
@@ -220,7 +220,7 @@ fn equals_in(
     reading: Reading,
     scratch: &mut [u32],
     plan: &mut [u32],
-) -> PlanAnswer
+) -> Result<Plan, PlanRefusal>
     requires { GoodPairIn scratch (contents tables.now) left right }
     ensures { AnsweredIn plan (equals_sides (contents tables.now) scope left right reading) result × WorkingSpace scratch }
 {
@@ -266,7 +266,7 @@ fn plan_equals(
     reading: Reading,
     scratch: &mut [u32],
     plan: &mut [u32],
-) -> PlanAnswer
+) -> Result<Plan, PlanRefusal>
     requires { GoodPairIn scratch (contents tables.now) left right }
     ensures { AnsweredIn plan (equals_planned (contents tables.now) scope left right reading) result × WorkingSpace scratch }
 {
@@ -287,7 +287,7 @@ fn plan_assignment_in(
     reading: Reading,
     scratch: &mut [u32],
     plan: &mut [u32],
-) -> PlanAnswer
+) -> Result<Plan, PlanRefusal>
     requires { GoodPairIn scratch (contents tables.now) left right }
     ensures { AnsweredIn plan (by_operator op (contents tables.now) scope left right reading) result × WorkingSpace scratch }
 {
@@ -306,7 +306,7 @@ fn plan_assignment(
     right: u32,
     reading: Reading,
     plan: &mut [u32],
-) -> PlanAnswer
+) -> Result<Plan, PlanRefusal>
     requires { GoodPair (contents tables.now) left right }
     ensures { AnsweredIn plan (by_operator op (contents tables.now) scope left right reading) result }
 {
@@ -326,21 +326,21 @@ pub fn create_assignment_binding_plan(
     right: u32,
     reading: Reading,
     plan: &mut [u32],
-) -> PlanAnswer
+) -> Result<Plan, PlanRefusal>
     ensures { AnsweredIn plan (assignment_outcome (contents tables.now) scope op left right reading) result }
 {
     let checked = check(tables, scope);
     if let Err(refused) = checked {
         clear(plan);
-        return PlanAnswer::TableRefused(refused);
+        return Err(refused.into());
     }
     if !is_node(tables.nodes, left) {
         clear(plan);
-        return PlanAnswer::RootOutside;
+        return Err(PlanRefusal::RootOutside);
     }
     if !is_node(tables.nodes, right) {
         clear(plan);
-        return PlanAnswer::RootOutside;
+        return Err(PlanRefusal::RootOutside);
     }
     plan_assignment(tables, scope, op, left, right, reading, plan)
 }

@@ -6,7 +6,7 @@ ghost use Rattle.assignment.specs.code.Previewing.{ReadAsks};
 ghost use Rattle.assignment.specs.Assignment.{binds_again, first_same_scope};
 
 use planner::buffer::{ENTRY_WORDS, close, copy_entries};
-use planner::{PlanAnswer, entry_kind};
+use planner::{Plan, PlanRefusal, entry_kind};
 use scope::{Binding, Scope};
 use table::reading::first_of;
 
@@ -40,7 +40,12 @@ pub(crate) fn first_same_scope(nodes: &[u32], scope: Scope, scratch: &[u32], cou
 }
 
 // The first entries of the scratch in the lent buffer.
-pub(crate) fn deliver(plan: &mut [u32], scratch: &[u32], form: u32, count: usize) -> PlanAnswer
+pub(crate) fn deliver(
+    plan: &mut [u32],
+    scratch: &[u32],
+    form: u32,
+    count: usize,
+) -> Result<Plan, PlanRefusal>
     requires { ReadAsks scratch.now count }
     ensures { AnsweredIn plan (planned form 0 (read_entries scratch.now 0 count)) result }
 {

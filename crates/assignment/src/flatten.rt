@@ -10,30 +10,23 @@ ghost use Rattle.checks.specs.code.Post.{WorkingSpaces};
 ghost use Rattle.assignment.specs.code.Flattening.{Compared, Bound, SideAsksIn, FlattenAsksIn, ArraysAsksIn, ByKeyAsksIn, ItemsAsksIn, ObjectFieldsAsksIn, SideFlattened, NodesFlattened, ArraysFlattened, ItemsFlattened, ObjectsFlattened};
 
 use crate::judge::{Judgement, judge};
-use crate::keys::{ObjectPairs, collect_object_pairs, field_sides};
+use crate::keys::{collect_object_pairs, field_sides};
 use crate::preview::{learn_names, preview_binding_plan};
 use planner::buffer::{clear, close, copy_entries, put_entry};
 use planner::context::name_states;
-use planner::{PlanAnswer, entry_kind};
+use planner::{Plan, PlanRefusal, entry_kind};
 use scope::{Scope, ScopingMode};
 use table::reading::{child_at, count_of, first_of};
 use table::tables::Tables;
 
-// The place of the next entry, or the first refusal.
-#[derive(Clone, Copy)]
-pub(crate) enum Flattened {
-    Next { at: usize },
-    Refused(PlanAnswer),
-}
-
-// The two sides compared, as a pair.
-fn compare_sides(plan: &mut [u32], at: usize, left: u32, right: u32) -> Flattened
+// The two sides compared, as a pair; the place of the next entry.
+fn compare_sides(plan: &mut [u32], at: usize, left: u32, right: u32) -> usize
     requires { at ≤ 2 ^ 32 }
     ensures { Compared left right plan.old at plan.new result }
 {
     put_entry(plan, at, entry_kind::PAIR, right, 1, 0, 0);
     put_entry(plan, at + 1, entry_kind::COMPARE_EXPRESSION, left, 0, 0, 1);
-    Flattened::Next { at: at + 2 }
+    at + 2
 }
 
 // A side, whose plan is the first entries of the scratch, binds to the other: their pair. The names that it binds are known from now on.
@@ -45,14 +38,14 @@ fn bind_planned(
     count: usize,
     plan: &mut [u32],
     at: usize,
-) -> Flattened
+) -> usize
     requires { ReadAsks scratch.now count × (at ≤ 2 ^ 32) }
     ensures { Bound value (read_entries scratch.now 0 count) states.old binders.now plan.old at states.new plan.new result }
 {
     put_entry(plan, at, entry_kind::PAIR, value, 1, 0, 0);
     copy_entries(plan, at + 1, scratch, count);
     learn_names(states, binders);
-    Flattened::Next { at: at + 1 + count }
+    at + 1 + count
 }
 
 // A side that binds to the other, its plan still to be made.
@@ -65,7 +58,7 @@ fn bind_unplanned(
     scratch: &mut [u32],
     plan: &mut [u32],
     at: usize,
-) -> Flattened
+) -> usize
     requires { SideAsksIn scratch (contents tables.now) states.old pattern value at }
     ensures { SideFlattened states scratch binders plan (contents tables.now) pattern value at result }
 {
@@ -73,7 +66,7 @@ fn bind_unplanned(
     bind_planned(states, value, binders, scratch, planned.count, plan, at)
 }
 
-// Two sides in pairs, from entry `at` on.
+// Two sides in pairs, from entry `at` on: the place of the next entry, or the first refusal.
 #[cycle(flatten_flatten_arrays_flatten_fields_flatten_items_flatten_objects)]
 fn flatten(
     tables: &Tables<'_>,
@@ -84,7 +77,7 @@ fn flatten(
     scratch: &mut [u32],
     plan: &mut [u32],
     at: usize,
-) -> Flattened
+) -> Result<usize, PlanRefusal>
     requires { FlattenAsksIn scratch (contents tables.now) states.old left right at }
     ensures { NodesFlattened states plan (contents tables.now) left right at result × WorkingSpaces binders scratch }
 {
@@ -92,22 +85,16 @@ fn flatten(
     let count = verdict.count;
     let way = verdict.way;
     match way {
-        Judgement::Compare => return compare_sides(plan, at, left, right),
-        Judgement::BindLeft => return bind_planned(
-            states, right, binders, scratch, count, plan, at,
-        ),
-        Judgement::BindRight => return bind_unplanned(
+        Judgement::Compare => Ok(compare_sides(plan, at, left, right)),
+        Judgement::BindLeft => Ok(bind_planned(states, right, binders, scratch, count, plan, at)),
+        Judgement::BindRight => Ok(bind_unplanned(
             tables, states, right, left, binders, scratch, plan, at,
-        ),
-        Judgement::Items => return flatten_arrays(
+        )),
+        Judgement::Items => flatten_arrays(tables, states, left, right, binders, scratch, plan, at),
+        Judgement::ByKey => flatten_objects(
             tables, states, left, right, binders, scratch, plan, at,
         ),
-        Judgement::ByKey => return flatten_objects(
-            tables, states, left, right, binders, scratch, plan, at,
-        ),
-        Judgement::Refuse => return Flattened::Refused(
-            PlanAnswer::IncompatibleDestructuringPatterns { side: left },
-        ),
+        Judgement::Refuse => Err(PlanRefusal::IncompatibleDestructuringPatterns { side: left }),
     }
 }
 
@@ -121,14 +108,14 @@ fn flatten_arrays(
     scratch: &mut [u32],
     plan: &mut [u32],
     at: usize,
-) -> Flattened
+) -> Result<usize, PlanRefusal>
     requires { ArraysAsksIn scratch (contents tables.now) states.old left right at }
     ensures { ArraysFlattened states plan (contents tables.now) left right at result × WorkingSpaces binders scratch }
 {
     let size = count_of(tables.nodes, left);
     let other = count_of(tables.nodes, right);
     if size != other {
-        return Flattened::Refused(PlanAnswer::ArraySizeMismatch { left, size, other });
+        return Err(PlanRefusal::ArraySizeMismatch { left, size, other });
     }
     let left_first = first_of(tables.nodes, left) as usize;
     let right_first = first_of(tables.nodes, right) as usize;
@@ -159,7 +146,7 @@ fn flatten_items(
     scratch: &mut [u32],
     plan: &mut [u32],
     at: usize,
-) -> Flattened
+) -> Result<usize, PlanRefusal>
     requires { ItemsAsksIn scratch (contents tables.now) states.old lefts parent rights count at }
     ensures { ItemsFlattened states plan (contents tables.now) lefts rights count at result × WorkingSpaces binders scratch }
 {
@@ -170,15 +157,12 @@ fn flatten_items(
     while 0 < more {
         let left = child_at(tables.children, left_place);
         let right = child_at(tables.children, right_place);
-        match flatten(tables, states, left, right, binders, scratch, plan, here) {
-            Flattened::Next { at: next } => here = next,
-            Flattened::Refused(answer) => return Flattened::Refused(answer),
-        }
+        here = flatten(tables, states, left, right, binders, scratch, plan, here)?;
         left_place += 1;
         right_place += 1;
         more -= 1;
     }
-    Flattened::Next { at: here }
+    Ok(here)
 }
 
 #[cycle(flatten_flatten_arrays_flatten_fields_flatten_items_flatten_objects)]
@@ -191,17 +175,15 @@ fn flatten_objects(
     scratch: &mut [u32],
     plan: &mut [u32],
     at: usize,
-) -> Flattened
+) -> Result<usize, PlanRefusal>
     requires { ByKeyAsksIn scratch (contents tables.now) states.old left right at }
     ensures { ObjectsFlattened states plan (contents tables.now) left right at result × WorkingSpaces binders scratch }
 {
     let mut order = [0u8; 256];
-    match collect_object_pairs(tables, left, right, &mut order) {
-        ObjectPairs::Matched { total } => return flatten_fields(
-            tables, states, left, right, &order, total, binders, scratch, plan, at,
-        ),
-        ObjectPairs::Refused(answer) => return Flattened::Refused(answer),
-    }
+    let total = collect_object_pairs(tables, left, right, &mut order)?;
+    flatten_fields(
+        tables, states, left, right, &order, total, binders, scratch, plan, at,
+    )
 }
 
 // The right object's fields as written, each with the left's value under its key.
@@ -217,7 +199,7 @@ fn flatten_fields(
     scratch: &mut [u32],
     plan: &mut [u32],
     at: usize,
-) -> Flattened
+) -> Result<usize, PlanRefusal>
     requires { ObjectFieldsAsksIn scratch (contents tables.now) states.old left right order.now total at }
     ensures { ObjectsFlattened states plan (contents tables.now) left right at result × WorkingSpaces binders scratch }
 {
@@ -226,7 +208,7 @@ fn flatten_fields(
     let mut here = at;
     while 0 < more {
         let sides = field_sides(tables, left, order, total, place);
-        match flatten(
+        here = flatten(
             tables,
             states,
             sides.left,
@@ -235,14 +217,11 @@ fn flatten_fields(
             scratch,
             plan,
             here,
-        ) {
-            Flattened::Next { at: next } => here = next,
-            Flattened::Refused(answer) => return Flattened::Refused(answer),
-        }
+        )?;
         place += 2;
         more -= 1;
     }
-    Flattened::Next { at: here }
+    Ok(here)
 }
 
 // The pairs of two sides of a good table, in the lent buffer. The scratch has space for an entry of each node.
@@ -254,16 +233,16 @@ pub(crate) fn flatten_assignment_pairs(
     binders: &mut [u32; 128],
     scratch: &mut [u32],
     plan: &mut [u32],
-) -> PlanAnswer
+) -> Result<Plan, PlanRefusal>
     requires { GoodPairIn scratch (contents tables.now) left right }
     ensures { AnsweredIn plan (pairs_outcome (contents tables.now) scope left right) result × WorkingSpaces binders scratch }
 {
     let mut states = name_states(tables.names, tables.text, scope, ScopingMode::RespectParent);
     match flatten(tables, &mut states, left, right, binders, scratch, plan, 0) {
-        Flattened::Next { at } => return close(plan, 4, at),
-        Flattened::Refused(answer) => {
+        Ok(at) => close(plan, 4, at),
+        Err(refused) => {
             clear(plan);
-            return answer;
+            Err(refused)
         }
     }
 }

@@ -5,19 +5,12 @@ ghost use Rattle.std.specs.Prelude.{◌≡◌};
 ghost use Rattle.assignment.specs.code.KeyMatching.{literal_keys, FindAsks, partner_of, MissingAsks, missing_from, KeysAsks, KeysMatched, FieldAsks, FieldSides};
 
 use literal::Comparison;
-use planner::PlanAnswer;
+use planner::PlanRefusal;
 use planner::fields::field_at;
 use planner::inner::fields::order_fields;
 use table::node_kind;
 use table::reading::{child_at, compare_literals, count_of, first_of, kind_of};
 use table::tables::Tables;
-
-// The left object's keys are the right's, `total` of them, or a refusal.
-#[derive(Clone, Copy)]
-pub(crate) enum ObjectPairs {
-    Matched { total: usize },
-    Refused(PlanAnswer),
-}
 
 // A left and a right node.
 #[derive(Clone, Copy)]
@@ -96,13 +89,13 @@ fn first_missing(
     0
 }
 
-// The left object's keys in order, if they are the right's.
+// The left object's keys in order, and how many they are, if they are the right's.
 pub(crate) fn collect_object_pairs(
     tables: &Tables<'_>,
     left: u32,
     right: u32,
     order: &mut [u8; 256],
-) -> ObjectPairs
+) -> Result<usize, PlanRefusal>
     requires { KeysAsks (contents tables.now) left right }
     ensures { KeysMatched (contents tables.now) left right order.new result }
 {
@@ -112,7 +105,7 @@ pub(crate) fn collect_object_pairs(
     let count = count_of(tables.nodes, right);
     let keys = order_fields(tables, left_first, left_count, order);
     if keys != count {
-        return ObjectPairs::Refused(PlanAnswer::ObjectFieldCountMismatch {
+        return Err(PlanRefusal::ObjectFieldCountMismatch {
             left,
             keys,
             fields: count,
@@ -120,11 +113,9 @@ pub(crate) fn collect_object_pairs(
     }
     let key = first_missing(tables, left, order, keys as usize, first, count as usize);
     if key != 0 {
-        return ObjectPairs::Refused(PlanAnswer::ObjectKeyNotFound { key });
+        return Err(PlanRefusal::ObjectKeyNotFound { key });
     }
-    ObjectPairs::Matched {
-        total: keys as usize,
-    }
+    Ok(keys as usize)
 }
 
 // The value of the field at a child entry, and the left object's value under its key.

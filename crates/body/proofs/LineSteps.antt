@@ -1,4 +1,5 @@
 -- One line of a body, way out by way out.
+use Rattle.std.proofs.Common.{Result}
 use Prim.Native.Nat.{ℕ, ◌*◌}
 use mathlib.Core.Path.{◌≡◌, refl, sym, ap, subst, ◌∙◌}
 use mathlib.Core.Bool.{Bool, true, false, cond}
@@ -17,8 +18,9 @@ use Rattle.table.proofs.tests.Bools.{never}
 use types.Run.{OneOf, miss}
 use denote.Enum.Declared.{tag_of}
 use Rattle.planner.specs.contracts.PlanAnswer.{the_type}
-use Rattle.planner.specs.declared.PlanAnswer.{PlanAnswer}
-use Rattle.planner.specs.declared.PlanAnswer.TheVariants.{Planned}
+use Rattle.planner.specs.declared.Plan.{Plan}
+use Rattle.planner.specs.declared.PlanRefusal.{PlanRefusal}
+use Rattle.planner.specs.Answer.{planned_as}
 use Rattle.planner.specs.Layout.{Entry, entry_words, words, bound_names}
 use Rattle.planner.specs.Names.{states_of}
 use Rattle.planner.specs.Answer.{line_of}
@@ -47,8 +49,8 @@ line_sound T s operation {form} {which} {es} e = go (checked T s) _ (sym (operat
     go (Refusal.refused r) o h = never (cc)
 
 -- a `let .. else` that took the other way: the answer is no plan
-pub other_variant : {a : PlanAnswer} → OneOf (1 ∷ 2 ∷ 3 ∷ 4 ∷ 5 ∷ 6 ∷ 7 ∷ 8 ∷ 9 ∷ 10 ∷ 11 ∷ 12 ∷ []) (tag_of the_type a) → {form which count : ℕ} → a ≡ Planned form which count → ⊥
-other_variant k e = miss (1 ∷ 2 ∷ 3 ∷ 4 ∷ 5 ∷ 6 ∷ 7 ∷ 8 ∷ 9 ∷ 10 ∷ 11 ∷ 12 ∷ []) 0 tt (subst (λ (a : PlanAnswer). OneOf (1 ∷ 2 ∷ 3 ∷ 4 ∷ 5 ∷ 6 ∷ 7 ∷ 8 ∷ 9 ∷ 10 ∷ 11 ∷ 12 ∷ []) (tag_of the_type a)) e k)
+pub other_variant : {a : Result Plan PlanRefusal} → OneOf (1 ∷ 2 ∷ 3 ∷ 4 ∷ 5 ∷ 6 ∷ 7 ∷ 8 ∷ 9 ∷ 10 ∷ 11 ∷ 12 ∷ []) (tag_of the_type a) → {form which count : ℕ} → a ≡ planned_as form which count → ⊥
+other_variant k e = miss (1 ∷ 2 ∷ 3 ∷ 4 ∷ 5 ∷ 6 ∷ 7 ∷ 8 ∷ 9 ∷ 10 ∷ 11 ∷ 12 ∷ []) 0 tt (subst (λ (a : Result Plan PlanRefusal). OneOf (1 ∷ 2 ∷ 3 ∷ 4 ∷ 5 ∷ 6 ∷ 7 ∷ 8 ∷ 9 ∷ 10 ∷ 11 ∷ 12 ∷ []) (tag_of the_type a)) e k)
 
 -- a planned line, by the name that is found
 module _ (T : Tables) (s : Scope) (operation : Operation) (n form which : ℕ) (plan : List ℕ) (count : ℕ) {name : ℕ} (is : name ≡ line_found T s operation form which plan count) where
@@ -72,8 +74,8 @@ module _ (T : Tables) (s : Scope) (operation : Operation) (n form which : ℕ) (
 
 module _ (T : Tables) (s : Scope) (operation : Operation) (n : ℕ) {before mid : List ℕ} where
   -- its own refusal
-  module _ {a : PlanAnswer} (d : Answered (operation_outcome T s operation) before mid a) where
-    pub line_refused : ((form which count : ℕ) → a ≡ Planned form which count → ⊥) → {states : List ℕ} → StatesOf T s states
+  module _ {a : Result Plan PlanRefusal} (d : Answered (operation_outcome T s operation) before mid a) where
+    pub line_refused : ((form which count : ℕ) → a ≡ planned_as form which count → ⊥) → {states : List ℕ} → StatesOf T s states
         → LineDone T s n (line_outcome T before s operation) (written (line_outcome T before s operation) before) mid states (record { planned = false; answer = LineRefused n a; scope = s })
     unfolding line_outcome answered written
     line_refused other {states} known = go (operation_outcome T s operation) d
@@ -85,12 +87,12 @@ module _ (T : Tables) (s : Scope) (operation : Operation) (n : ℕ) {before mid 
           where
             by : (b : Bool) → line_of a ≡ cond b (line 0 form which (length es)) (refusal_line (plan_too_large (length es))) → mid ≡ cond b (words es ++ drop (entry_words * length es) (zeros before)) (zeros before)
                 → LineDone T s n (unless_not_ready T s operation (cond b (planned form which es) (refused (plan_too_large (length es))))) (written (unless_not_ready T s operation (cond b (planned form which es) (refused (plan_too_large (length es))))) before) mid states (record { planned = false; answer = LineRefused n a; scope = s })
-            by true l e = absurd (other form which (length es) (settled a (Planned form which (length es)) l))
+            by true l e = absurd (other form which (length es) (settled a (planned_as form which (length es)) l))
             by false l e = record { planned_is = refl; answer = ap (λ (q : Line). body_line q n) l; scope = refl; plan = e; states_are = known }
 
-  module _ {a : PlanAnswer} (given : Answered (operation_outcome T s operation) before mid a) {form which count : ℕ} (met : a ≡ Planned form which count) where
-    d : Answered (operation_outcome T s operation) before mid (Planned form which count)
-    d = subst (λ (p : PlanAnswer). Answered (operation_outcome T s operation) before mid p) met given
+  module _ {a : Result Plan PlanRefusal} (given : Answered (operation_outcome T s operation) before mid a) {form which count : ℕ} (met : a ≡ planned_as form which count) where
+    d : Answered (operation_outcome T s operation) before mid (planned_as form which count)
+    d = subst (λ (p : Result Plan PlanRefusal). Answered (operation_outcome T s operation) before mid p) met given
 
     back : PlanRead (operation_outcome T s operation) before mid form which count
     back = read_back (operation_outcome T s operation) d

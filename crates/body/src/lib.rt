@@ -17,9 +17,9 @@ use crate::binding::bind_plan;
 use crate::lines::{LINE_WORDS, is_body, line_at};
 use crate::ready::line_unready;
 use operation::{Operation, REGO_V0};
-use planner::PlanAnswer;
 use planner::buffer::clear;
 use planner::context::name_states;
+use planner::{Plan, PlanRefusal};
 use scope::{Scope, ScopingMode};
 use table::tables::Tables;
 
@@ -34,7 +34,7 @@ pub enum BodyAnswer {
     NotABody,
     LineRefused {
         line: u32,
-        answer: PlanAnswer,
+        answer: Result<Plan, PlanRefusal>,
     },
     NameNotReady {
         line: u32,
@@ -106,11 +106,13 @@ fn plan_line(
     ensures { LineDoneIn plan states.new (contents tables.now) scope operation line result }
 {
     let answer = operation::plan(tables, scope, operation, REGO_V0, plan);
-    let PlanAnswer::Planned {
-        form,
-        side,
-        entries,
-    } = answer
+    let Ok(
+        Plan {
+            form,
+            side,
+            entries,
+        },
+    ) = answer
     else {
         return LineStep {
             planned: false,

@@ -1,4 +1,5 @@
 -- What the calls come to, from what the calls below them say.
+use Rattle.std.proofs.Common.{Result}
 use Prim.Native.Nat.{ℕ}
 use mathlib.Core.Path.{◌≡◌, refl, ap, sym, ◌∙◌, subst}
 use mathlib.Core.Bool.{Bool, true, false, false≢true}
@@ -15,7 +16,8 @@ use Rattle.scope.specs.Bytes.{marks_ok, of_bytes, conversion_of, convertible, Co
 use Rattle.table.specs.Tables.{Tables}
 use Rattle.table.specs.Decode.{expr}
 use Rattle.table.specs.Rules.{within_limits}
-use Rattle.planner.specs.declared.PlanAnswer.{PlanAnswer}
+use Rattle.planner.specs.declared.Plan.{Plan}
+use Rattle.planner.specs.declared.PlanRefusal.{PlanRefusal}
 use Rattle.planner.specs.Answer.{line_of}
 use Rattle.planner.specs.Operations as Plan
 use Rattle.planner.specs.Operations.{Outcome, answered, written, Answered}
@@ -44,7 +46,7 @@ pub plan_fits :
     (version : ℕ)
     (operation : Operation)
     {before after : List ℕ}
-    {answer : PlanAnswer}
+    {answer : Result Plan PlanRefusal}
     {row : Row}
     → Answered (version_outcome T s version operation) before after answer
     → row_line row ≡ line_of answer
@@ -145,7 +147,7 @@ module _ (T : Tables) (marks : List ℕ) (o : OperationNumbers) {made : Converte
       (version : ℕ)
       {buffer bufferExit words wordsExit : List ℕ}
       {operation : Operation}
-      {answer : PlanAnswer}
+      {answer : Result Plan PlanRefusal}
       {row : Row}
       {r : ℕ}
       → before ≡ 0

@@ -1,4 +1,6 @@
 -- A pattern object's fields in order, and the one under a value's key.
+use Rattle.std.proofs.Common.{Result, Ok, Err}
+use Rattle.std.specs.Result.{result_unwrap_or}
 use Prim.Native.Nat.{ℕ, zero, suc, ◌+◌, ◌*◌, ◌≤◌, ◌<◌}
 use mathlib.Core.Path.{◌≡◌, refl, sym, ap, ◌∙◌}
 use mathlib.Core.Bool.{Bool, true, false}
@@ -220,10 +222,10 @@ module _ {T : Tables} {pattern : ℕ} {order : List ℕ} {m key : ℕ} (a : Part
             literal = refers is-sought ∙ l.1;
           }
 
-      module _ {place : ℕ} {equal : Bool} (found : FoundBy (field_key T first) (referred T sought) order m place equal) where
-        pub place_absent : equal ≡ false → PlaceIs (patterns_of T pattern).literals (literal_at T key) m
+      module _ {found_at : Result ℕ ℕ} (found : FoundBy (field_key T first) (referred T sought) order m found_at) where
+        place_absent : {place : ℕ} → found_at ≡ Err place → PlaceIs (patterns_of T pattern).literals (literal_at T key) m
         unfolding first₀
-        place_absent e =
+        place_absent {place} e =
             let l = own is-sought in
             let b = rw (refers is-sought, is_first) at (found.new e) in
             rw l.1 (place_none a.asks l.0 (λ q lt. go l.0 l.1 b q lt (leb place q) refl))
@@ -233,12 +235,19 @@ module _ {T : Tables} {pattern : ℕ} {order : List ℕ} {m key : ℕ} (a : Part
             go l e b q lt true h = ap is_same (to_slot (in_order a.asks) e less q lt (b.behind q (leb-true _ _ h) lt))
             go l e b q lt false h = ap is_same (to_slot (in_order a.asks) e more q lt (b.before q (leb-false _ _ h)))
 
-        pub place_there : equal ≡ true → PlaceIs (patterns_of T pattern).literals (literal_at T key) place
+        place_there : {place : ℕ} → found_at ≡ Ok place → PlaceIs (patterns_of T pattern).literals (literal_at T key) place
         unfolding first₀
-        place_there e =
+        place_there {place} e =
             let l = own is-sought in
             let p = rw (refers is-sought, is_first) at (found.old e) in
             rw l.1 (place_found a.asks l.0 place p.0 (to_slot (in_order a.asks) l.1 same place p.0 p.1))
+
+        pub place_or : {r : ℕ} → r ≡ result_unwrap_or found_at m → PlaceIs (patterns_of T pattern).literals (literal_at T key) r
+        place_or {r} e = go found_at refl e
+          where
+            go : (x : Result ℕ ℕ) → found_at ≡ x → r ≡ result_unwrap_or x m → PlaceIs (patterns_of T pattern).literals (literal_at T key) r
+            go (Ok place) s e = rw e (place_there s)
+            go (Err place) s e = rw e (place_absent s)
 
 -- the node at a place
 module _ {T : Tables} {pattern : ℕ} {order : List ℕ} {m place : ℕ} (a : SlotAsks T pattern order m place) {first : ℕ} (is_first : first ≡ first_word_of T.nodes pattern) {j : ℕ} (is_field : j ≡ get_or order place 0) where

@@ -29,11 +29,7 @@ pub(crate) fn partner_place(
         return literals;
     };
     let first = first_of(tables.nodes, pattern) as usize;
-    let found = find_field(tables, first, order, literals, literal);
-    if found.equal {
-        return found.place;
-    }
-    literals
+    find_field(tables, first, order, literals, literal).unwrap_or(literals)
 }
 
 // The pattern's node at a place of its order.

@@ -1,6 +1,6 @@
 // The three calls of teluddru for a rule of one name, lent as a table of one record.
 use operation::Operation;
-use planner::PlanAnswer;
+use planner::{Plan, PlanRefusal};
 use report::ReportAnswer;
 use run::RunAnswer;
 use scope::{Scope, ScopingMode};
@@ -17,7 +17,7 @@ pub(crate) fn plan<'a>(
     operation: Operation,
     version: u32,
     plan: &mut [u32],
-) -> PlanAnswer {
+) -> Result<Plan, PlanRefusal> {
     let names = [name];
     teluddru::plan(
         nodes, children, numbers, &names, strings, text, scope, operation, version, plan,

@@ -4,7 +4,7 @@
 mod calls;
 
 use operation::{Operation, REGO_V0};
-use planner::PlanAnswer;
+use planner::{Plan, PlanRefusal};
 use planner::buffer::ENTRY_WORDS;
 use report::ReportAnswer;
 use run::RunAnswer;
@@ -49,7 +49,7 @@ fn scope() -> Scope {
     Scope::new(0, false)
 }
 
-fn plan_rule(plan: &mut [u32]) -> PlanAnswer {
+fn plan_rule(plan: &mut [u32]) -> Result<Plan, PlanRefusal> {
     let nodes = NODES.as_flattened();
     calls::plan(
         nodes,
@@ -113,7 +113,7 @@ fn print_entry(rt: &impl Print, words: &[u32]) -> io::Result<()> {
 fn print_plan(rt: &impl Print) -> io::Result<()> {
     let mut plan = [0u32; 3 * ENTRY_WORDS];
     let said = match plan_rule(&mut plan) {
-        PlanAnswer::Planned { .. } => "planned",
+        Ok(_) => "planned",
         _ => "refused",
     };
     println!(rt; "{said}")?;

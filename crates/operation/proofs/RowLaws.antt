@@ -1,4 +1,5 @@
 -- The numbers of a planning answer, and the lent words that an answer's are put into.
+use Rattle.std.proofs.Common.{Result, Err}
 use Prim.Native.Nat.{ℕ, zero, suc, ◌≤◌}
 use mathlib.Core.List.{List, [], ◌∷◌}
 use mathlib.Core.Path.{◌≡◌, refl, sym, ap, ◌∙◌}
@@ -8,8 +9,9 @@ use Rattle.base.specs.Refusal.{Line, line, refusal_line}
 use Rattle.table.specs.declared.TableRefusal.{TableRefusal}
 use Rattle.table.specs.declared.TableRefusal.TheVariants.{OverLimit, BreaksRules, TooDeep, EqualNames}
 use Rattle.table.specs.Check.{table_refused}
-use Rattle.planner.specs.declared.PlanAnswer.{PlanAnswer}
-use Rattle.planner.specs.declared.PlanAnswer.TheVariants.{TableRefused}
+use Rattle.planner.specs.declared.Plan.{Plan}
+use Rattle.planner.specs.declared.PlanRefusal.{PlanRefusal}
+use Rattle.planner.specs.declared.PlanRefusal.TheVariants.{TableRefused}
 use Rattle.planner.specs.Answer.{line_of}
 use Rattle.operation.specs.declared.row.Row.{Row}
 use Rattle.operation.specs.Rows.{row_line, told, Told}
@@ -24,10 +26,10 @@ table_line EqualNames = refl
 pub table_row : (t : TableRefusal) {l : Line} {n : ℕ} → n ≡ (table_refused t).number → l ≡ line n 0 0 0 → l ≡ refusal_line (table_refused t)
 table_row t n is = is ∙ (ap (λ (m : ℕ). line m 0 0 0) n ∙ sym (table_line t))
 
-pub row_is : (answer : PlanAnswer) {a : PlanAnswer} {l : Line} → answer ≡ a → l ≡ line_of a → l ≡ line_of answer
+pub row_is : (answer : Result Plan PlanRefusal) {a : Result Plan PlanRefusal} {l : Line} → answer ≡ a → l ≡ line_of a → l ≡ line_of answer
 row_is answer e is = rw e is
 
-pub row_table : (answer : PlanAnswer) {t : TableRefusal} {l : Line} {n : ℕ} → answer ≡ TableRefused t → n ≡ (table_refused t).number → l ≡ line n 0 0 0 → l ≡ line_of answer
+pub row_table : (answer : Result Plan PlanRefusal) {t : TableRefusal} {l : Line} {n : ℕ} → answer ≡ Err (TableRefused t) → n ≡ (table_refused t).number → l ≡ line n 0 0 0 → l ≡ line_of answer
 row_table answer {t} e n is = rw e (table_row t n is)
 
 -- a word past the end is not put

@@ -14,8 +14,9 @@ use Rattle.std.proofs.Common.{Result, Ok, Err}
 use Rattle.table.specs.declared.TableRefusal.{TableRefusal}
 use Rattle.table.specs.Tables.{Tables}
 use Rattle.table.specs.Check.{checked, table_refused, tested_of, TableAnswered, all_nodes}
-use Rattle.planner.specs.declared.PlanAnswer.{PlanAnswer}
-use Rattle.planner.specs.declared.PlanAnswer.TheVariants.{ReservedName}
+use Rattle.planner.specs.declared.Plan.{Plan}
+use Rattle.planner.specs.declared.PlanRefusal.{PlanRefusal}
+use Rattle.planner.specs.declared.PlanRefusal.TheVariants.{ReservedName}
 use Rattle.planner.specs.Operations.{Outcome, refused, Answered, checked_first, pattern_planned, parameter_planned}
 use Rattle.planner.proofs.laws.Operations.{refuses, check_passes, sound_well}
 use Rattle.assignment.specs.declared.AssignOp.TheVariants.{ColEq, Eq}
@@ -111,8 +112,8 @@ module _ (T : Tables) (s : Scope) (version : ℕ) (operation : Operation) where
 
   -- the planning call
   module _ {name : ℕ} (is : name ≡ refusing_name T s version operation) {before later : List ℕ} where
-    pub plan_reserved : (name ≡ 0 → ⊥) → later ≡ replicate (length before) 0 → Answered (version_outcome T s version operation) before later (ReservedName name)
-    plan_reserved some zeros = subst (λ (o : Outcome). Answered o before later (ReservedName name)) (sym (go (eqb version 1) refl (checked T s) refl (all_nodes T (roots_of operation)) refl)) (refuses (reserved_name name) refl zeros)
+    pub plan_reserved : (name ≡ 0 → ⊥) → later ≡ replicate (length before) 0 → Answered (version_outcome T s version operation) before later (Err (ReservedName name))
+    plan_reserved some zeros = subst (λ (o : Outcome). Answered o before later (Err (ReservedName name))) (sym (go (eqb version 1) refl (checked T s) refl (all_nodes T (roots_of operation)) refl)) (refuses (reserved_name name) refl zeros)
       where
         go : (v : Bool) → eqb version 1 ≡ v → (c : Tested) → checked T s ≡ c → (b : Bool) → all_nodes T (roots_of operation) ≡ b → version_outcome T s version operation ≡ refused (reserved_name name)
         go false v c e b i = absurd (some (is ∙ simp v))
@@ -120,7 +121,7 @@ module _ (T : Tables) (s : Scope) (version : ℕ) (operation : Operation) where
         go true v passed e false i = absurd (some (is ∙ simp (v, e, i)))
         go true v passed e true i = simp v (reserves T s operation e i (sym (is ∙ simp (v, e, i))) some)
 
-    pub plan_unreserved : {r : PlanAnswer} → name ≡ 0 → Answered (operation_outcome T s operation) before later r → Answered (version_outcome T s version operation) before later r
+    pub plan_unreserved : {r : Result Plan PlanRefusal} → name ≡ 0 → Answered (operation_outcome T s operation) before later r → Answered (version_outcome T s version operation) before later r
     plan_unreserved {r} none a = subst (λ (o : Outcome). Answered o before later r) (sym (go (eqb version 1) refl (checked T s) refl (all_nodes T (roots_of operation)) refl)) a
       where
         go : (v : Bool) → eqb version 1 ≡ v → (c : Tested) → checked T s ≡ c → (b : Bool) → all_nodes T (roots_of operation) ≡ b → version_outcome T s version operation ≡ operation_outcome T s operation

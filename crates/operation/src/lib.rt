@@ -17,10 +17,10 @@ use crate::version::refusing_name;
 use assignment::AssignOp;
 use assignment::assignment::create_assignment_binding_plan;
 use checks::Reading;
-use planner::PlanAnswer;
 use planner::buffer::clear;
 use planner::destructuring::create_destructuring_plan;
 use planner::parameters::{create_loop_index_binding_plan, create_parameter_binding_plan};
+use planner::{Plan, PlanRefusal};
 use scope::{Scope, ScopingMode};
 use some_in::create_some_in_binding_plan;
 use table::tables::Tables;
@@ -63,7 +63,12 @@ pub enum Operation {
 }
 
 // Version 0.
-fn plan_v0(tables: &Tables<'_>, scope: Scope, operation: Operation, plan: &mut [u32]) -> PlanAnswer
+fn plan_v0(
+    tables: &Tables<'_>,
+    scope: Scope,
+    operation: Operation,
+    plan: &mut [u32],
+) -> Result<Plan, PlanRefusal>
     ensures { AnsweredIn plan (operation_outcome (contents tables.now) scope operation) result }
 {
     match operation {
@@ -116,13 +121,13 @@ pub fn plan(
     operation: Operation,
     version: u32,
     plan: &mut [u32],
-) -> PlanAnswer
+) -> Result<Plan, PlanRefusal>
     ensures { AnsweredIn plan (version_outcome (contents tables.now) scope version operation) result }
 {
     let name = refusing_name(tables, scope, operation, version);
     if name != 0 {
         clear(plan);
-        return PlanAnswer::ReservedName { name };
+        return Err(PlanRefusal::ReservedName { name });
     }
     plan_v0(tables, scope, operation, plan)
 }

@@ -4,7 +4,7 @@ ghost use Rattle.base.specs.Refusal.{line};
 ghost use Rattle.planner.specs.Answer.{line_of};
 ghost use Rattle.operation.specs.Rows.{row_line};
 
-use planner::PlanAnswer;
+use planner::{Plan, PlanRefusal};
 use table::refusal_number;
 
 // 0, form, side and entries; or a refusal's number, place and two counts.
@@ -28,36 +28,55 @@ pub fn row_from(number: u64, second: u64, third: u64, fourth: u64) -> Row
 }
 
 // Of a planning call.
-pub fn row_of(answer: PlanAnswer) -> Row
+pub fn row_of(answer: Result<Plan, PlanRefusal>) -> Row
     ensures { row_line result ≡ line_of answer }
 {
     match answer {
-        PlanAnswer::Planned {
-            form,
-            side,
-            entries,
-        } => row_from(0, form as u64, side as u64, entries as u64),
-        PlanAnswer::TableRefused(refused) => row_from(refusal_number(refused) as u64, 0, 0, 0),
-        PlanAnswer::RootOutside => row_from(5, 0, 0, 0),
-        PlanAnswer::PlanTooLarge { needed } => row_from(6, 0, needed as u64, 0),
-        PlanAnswer::ColonEqualsRequiresBindableLeft { left } => row_from(11, left as u64, 0, 0),
-        PlanAnswer::ArraySizeMismatch { left, size, other } => {
+        Ok(
+            Plan {
+                form,
+                side,
+                entries,
+            },
+        ) => row_from(0, form as u64, side as u64, entries as u64),
+        Err(PlanRefusal::TableRefused(refused)) => row_from(
+            refusal_number(refused) as u64,
+            0,
+            0,
+            0,
+        ),
+        Err(PlanRefusal::RootOutside) => row_from(5, 0, 0, 0),
+        Err(PlanRefusal::PlanTooLarge { needed }) => row_from(6, 0, needed as u64, 0),
+        Err(PlanRefusal::ColonEqualsRequiresBindableLeft { left }) => row_from(
+            11,
+            left as u64,
+            0,
+            0,
+        ),
+        Err(PlanRefusal::ArraySizeMismatch { left, size, other }) => {
             row_from(12, left as u64, size as u64, other as u64)
         }
-        PlanAnswer::ArrayLengthMismatch {
-            value,
-            expected,
-            actual,
-        } => row_from(13, value as u64, expected as u64, actual as u64),
-        PlanAnswer::ObjectLiteralKeysMismatch { value, pattern } => {
+        Err(
+            PlanRefusal::ArrayLengthMismatch {
+                value,
+                expected,
+                actual,
+            },
+        ) => row_from(13, value as u64, expected as u64, actual as u64),
+        Err(PlanRefusal::ObjectLiteralKeysMismatch { value, pattern }) => {
             row_from(14, value as u64, pattern as u64, 0)
         }
-        PlanAnswer::ObjectFieldCountMismatch { left, keys, fields } => {
+        Err(PlanRefusal::ObjectFieldCountMismatch { left, keys, fields }) => {
             row_from(15, left as u64, keys as u64, fields as u64)
         }
-        PlanAnswer::ObjectKeyNotFound { key } => row_from(16, key as u64, 0, 0),
-        PlanAnswer::VariableAlreadyDefined { name } => row_from(17, name as u64, 0, 0),
-        PlanAnswer::IncompatibleDestructuringPatterns { side } => row_from(18, side as u64, 0, 0),
-        PlanAnswer::ReservedName { name } => row_from(31, name as u64, 0, 0),
+        Err(PlanRefusal::ObjectKeyNotFound { key }) => row_from(16, key as u64, 0, 0),
+        Err(PlanRefusal::VariableAlreadyDefined { name }) => row_from(17, name as u64, 0, 0),
+        Err(PlanRefusal::IncompatibleDestructuringPatterns { side }) => row_from(
+            18,
+            side as u64,
+            0,
+            0,
+        ),
+        Err(PlanRefusal::ReservedName { name }) => row_from(31, name as u64, 0, 0),
     }
 }

@@ -1,11 +1,12 @@
 -- What a function gives that meets its contract is what `seen`, `scope_after_call` and `shared_after` say of its call.
-use Rattle.std.specs.Prelude.{ℕ, ◌≡◌, List}
+use Rattle.std.specs.Prelude.{ℕ, ◌≡◌, List, Result}
 use Rattle.scope.specs.declared.Scope.{Scope}
 use Rattle.scope.specs.declared.ScopingMode.{ScopingMode}
 use Rattle.scope.specs.declared.Changed.{Changed}
 use Rattle.scope.specs.Scope.{known, bind_variable, add_unbound_variable, child_of, call_of, Called}
 use Rattle.table.specs.Decode.{expr}
-use Rattle.planner.specs.declared.PlanAnswer.{PlanAnswer}
+use Rattle.planner.specs.declared.Plan.{Plan}
+use Rattle.planner.specs.declared.PlanRefusal.{PlanRefusal}
 use Rattle.planner.specs.Answer.{line_of}
 use Rattle.planner.specs.Operations.{Answered}
 use Rattle.operation.specs.declared.Operation.{Operation}
@@ -25,7 +26,7 @@ use Rattle.parties.specs.Parties.{Shared, lent_tables, plan, body, run, report, 
 
 pub record ByContract (m : Shared) (s : Scope) : Type 0 where
   -- operation::plan
-  pub plans : (version : ℕ) (operation : Operation) (before after : List ℕ) (r : PlanAnswer) → Answered (version_outcome (lent_tables m) s version operation) before after r
+  pub plans : (version : ℕ) (operation : Operation) (before after : List ℕ) (r : Result Plan PlanRefusal) → Answered (version_outcome (lent_tables m) s version operation) before after r
       → planned (line_of r) after ≡ seen (plan version operation before) m s
   -- body::plan_body
   pub bodies : (lines before after : List ℕ) (r : BodyPlanned) → BodyAnswered (body_outcome (lent_tables m) s lines before) s before after r

@@ -1,10 +1,11 @@
 -- Entries in the words of a scratch or a buffer.
-use Rattle.std.specs.Prelude.{ℕ, zero, suc, ◌+◌, ◌*◌, ◌/◌, ◌≡◌, cond, List, [], ◌∷◌, leb, ltb, length, get_or, replicate}
+use Rattle.std.specs.Prelude.{ℕ, zero, suc, ◌+◌, ◌*◌, ◌/◌, ◌≡◌, cond, List, [], ◌∷◌, leb, ltb, length, get_or, replicate, Result}
 use Rattle.std.proofs.lemmas.List.Edits.{sets}
 use Rattle.base.specs.Lists.{tabulate}
 use Rattle.base.specs.Refusal.{plan_too_large, line, refusal_line}
 use Rattle.base.specs.Lent.{MutSlices}
-use Rattle.planner.specs.declared.PlanAnswer.{PlanAnswer}
+use Rattle.planner.specs.declared.Plan.{Plan}
+use Rattle.planner.specs.declared.PlanRefusal.{PlanRefusal}
 use Rattle.planner.specs.Answer.{line_of}
 use Rattle.planner.specs.Layout.{Entry, entry_words, below, entry, words}
 
@@ -39,9 +40,9 @@ abbrev pub word_at : List ℕ → ℕ → ℕ → ℕ
 word_at before size i = cond (ltb i size) (get_or before i 0) 0
 
 -- as many entries of a buffer, if it has space for them, and zeros behind them
-pub record Closed (form count : ℕ) (before after : List ℕ) (r : PlanAnswer) : Type 0 where
+pub record Closed (form count : ℕ) (before after : List ℕ) (r : Result Plan PlanRefusal) : Type 0 where
   pub answer : line_of r ≡ cond (leb count (length before / entry_words)) (line 0 form 0 count) (refusal_line (plan_too_large count))
   pub buffer : after ≡ cond (leb count (length before / entry_words)) (tabulate (word_at before (count * entry_words)) 0 (length before)) (replicate (length before) 0)
 
-abbrev pub ClosedIn : MutSlices → ℕ → ℕ → PlanAnswer → Type 0
+abbrev pub ClosedIn : MutSlices → ℕ → ℕ → Result Plan PlanRefusal → Type 0
 ClosedIn plan form count r = Closed form count plan.entry.now plan.exit.now r

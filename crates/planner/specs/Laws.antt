@@ -1,10 +1,11 @@
 -- What is proved of plans: one always exists, none binds a name twice.
-use Rattle.std.specs.Prelude.{ℕ, ◌≡◌, Bool, true, cond, List, []}
+use Rattle.std.specs.Prelude.{ℕ, ◌≡◌, Bool, true, cond, List, [], Result}
 use Rattle.std.proofs.Math.Option.{Option}
 use Rattle.std.proofs.Math.Option as Option
 use Rattle.table.specs.Expr.{Expr, literal, name, wildcard, array, set, object, other, Exprs, none, item, Fields, done, field}
 use Rattle.base.specs.Lists.{no_repeat}
-use Rattle.planner.specs.declared.PlanAnswer.{PlanAnswer}
+use Rattle.planner.specs.declared.Plan.{Plan}
+use Rattle.planner.specs.declared.PlanRefusal.{PlanRefusal}
 use Rattle.planner.specs.Answer.{line_of}
 use Rattle.planner.specs.Plan.{DestructuringPlan, var, ignore, equality_expr, equality_value, array_plan, object_plan, Plans, no_plan, item_plan, FieldPlans, no_field, field_plan, fresh, plan, after, tracked_vars}
 
@@ -41,4 +42,4 @@ pub record PlanLaws (unbound : ℕ → Bool) (e : Expr) : Type 0 where
 
 -- document 01's numbers settle the answer
 pub record LineLaws : Type 0 where
-  pub settled : (r q : PlanAnswer) → line_of r ≡ line_of q → r ≡ q
+  pub settled : (r q : Result Plan PlanRefusal) → line_of r ≡ line_of q → r ≡ q

@@ -1,5 +1,5 @@
 -- The operations of the planner: the answer, and the plan buffer afterwards.
-use Rattle.std.specs.Prelude.{ℕ, ◌*◌, ◌/◌, ◌≡◌, Bool, true, false, cond, List, [], ◌∷◌, ◌++◌, eqb, leb, length, drop, replicate}
+use Rattle.std.specs.Prelude.{ℕ, ◌*◌, ◌/◌, ◌≡◌, Bool, true, false, cond, List, [], ◌∷◌, ◌++◌, eqb, leb, length, drop, replicate, Result}
 use Rattle.scope.specs.declared.Scope.{Scope}
 use Rattle.scope.specs.declared.ScopingMode.{ScopingMode}
 use Rattle.scope.specs.declared.ScopingMode.TheVariants.{RespectParent, AllowShadowing}
@@ -10,7 +10,8 @@ use Rattle.table.specs.Tables.{Tables, name_bytes}
 use Rattle.base.specs.Lent.{MutSlices}
 use Rattle.table.specs.Names.{class_of}
 use Rattle.table.specs.Decode.{expr}
-use Rattle.planner.specs.declared.PlanAnswer.{PlanAnswer}
+use Rattle.planner.specs.declared.Plan.{Plan}
+use Rattle.planner.specs.declared.PlanRefusal.{PlanRefusal}
 use Rattle.base.specs.Refusal.{Refusal, plan_too_large, variable_already_defined, require_or, Line, line, refusal_line, Tested, tested_or}
 use Rattle.table.specs.Check.{checked_or}
 use Rattle.planner.specs.Answer.{line_of}
@@ -44,12 +45,12 @@ unfoldable pub written : Outcome → List ℕ → List ℕ
 written (refused a) buffer = zeros buffer
 written (planned form side es) buffer = cond (fits es buffer) (words es ++ drop (entry_words * length es) (zeros buffer)) (zeros buffer)
 
-pub record Answered (o : Outcome) (before after : List ℕ) (r : PlanAnswer) : Type 0 where
+pub record Answered (o : Outcome) (before after : List ℕ) (r : Result Plan PlanRefusal) : Type 0 where
   pub answer : line_of r ≡ answered o before
   pub buffer : after ≡ written o before
 
 -- the same of a `&mut` buffer, at entry and at exit
-abbrev pub AnsweredIn : MutSlices → Outcome → PlanAnswer → Type 0
+abbrev pub AnsweredIn : MutSlices → Outcome → Result Plan PlanRefusal → Type 0
 AnsweredIn plan o r = Answered o plan.entry.now plan.exit.now r
 
 -- a test, its refusal, and the rest

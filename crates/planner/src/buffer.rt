@@ -4,7 +4,7 @@ ghost use Rattle.planner.specs.Layout.{below, entry};
 ghost use Rattle.planner.specs.Entries.{read_entries, WroteIn, put_entries, ClosedIn, word_at};
 ghost use Rattle.base.specs.Lists.{tabulate};
 
-use crate::PlanAnswer;
+use crate::{Plan, PlanRefusal};
 
 // The words of an entry.
 pub const ENTRY_WORDS: usize = 5;
@@ -83,17 +83,17 @@ pub fn copy_entries(plan: &mut [u32], at: usize, scratch: &[u32], count: usize)
 }
 
 // `at` entries are in the buffer, if it has space for them.
-pub fn close(plan: &mut [u32], form: u32, at: usize) -> PlanAnswer
+pub fn close(plan: &mut [u32], form: u32, at: usize) -> Result<Plan, PlanRefusal>
     ensures { ClosedIn plan form at result }
 {
     if plan.len() / ENTRY_WORDS < at {
         clear(plan);
-        return PlanAnswer::PlanTooLarge { needed: at };
+        return Err(PlanRefusal::PlanTooLarge { needed: at });
     }
     clear_after(plan, at * ENTRY_WORDS);
-    PlanAnswer::Planned {
+    Ok(Plan {
         form,
         side: 0,
         entries: at,
-    }
+    })
 }

@@ -5,10 +5,10 @@ ghost use Rattle.planner.specs.code.Post.{GoodRoot};
 ghost use Rattle.planner.specs.Operations.{pattern_outcome, AnsweredIn};
 ghost use Rattle.planner.specs.code.Validation.{planned_if, outcome_if};
 
-use crate::PlanAnswer;
 use crate::buffer::{clear, close};
 use crate::inner::destructuring::plan_pattern;
 use crate::inner::parameters::validate_pattern_bindings;
+use crate::{Plan, PlanRefusal};
 use scope::{Scope, ScopingMode};
 use table::check;
 use table::reading::is_node;
@@ -22,7 +22,7 @@ fn deliver_pattern(
     validate: bool,
     root: u32,
     plan: &mut [u32],
-) -> PlanAnswer
+) -> Result<Plan, PlanRefusal>
     requires { GoodRoot (contents tables.now) root }
     ensures { AnsweredIn plan (planned_if validate (contents tables.now) scope scoping root) result }
 {
@@ -35,7 +35,7 @@ fn deliver_pattern(
     let name = validate_pattern_bindings(tables, scope, &binders, root);
     if name != 0 {
         clear(plan);
-        return PlanAnswer::VariableAlreadyDefined { name };
+        return Err(PlanRefusal::VariableAlreadyDefined { name });
     }
     close(plan, 0, count)
 }
@@ -48,17 +48,17 @@ pub(crate) fn create_plan(
     validate: bool,
     root: u32,
     plan: &mut [u32],
-) -> PlanAnswer
+) -> Result<Plan, PlanRefusal>
     ensures { AnsweredIn plan (outcome_if validate (contents tables.now) scope scoping root) result }
 {
     let checked = check(tables, scope);
     if let Err(refused) = checked {
         clear(plan);
-        return PlanAnswer::TableRefused(refused);
+        return Err(refused.into());
     }
     if !is_node(tables.nodes, root) {
         clear(plan);
-        return PlanAnswer::RootOutside;
+        return Err(PlanRefusal::RootOutside);
     }
     deliver_pattern(tables, scope, scoping, validate, root, plan)
 }
@@ -70,7 +70,7 @@ pub fn create_destructuring_plan(
     scoping: ScopingMode,
     root: u32,
     plan: &mut [u32],
-) -> PlanAnswer
+) -> Result<Plan, PlanRefusal>
     ensures { AnsweredIn plan (pattern_outcome (contents tables.now) scope scoping root) result }
 {
     create_plan(tables, scope, scoping, false, root, plan)

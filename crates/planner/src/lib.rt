@@ -1,6 +1,9 @@
 // Plans that take values apart (compiler/destructuring_planner).
 #![tactic(auto)]
 
+ghost use Rattle.std.specs.Prelude.{◌≡◌};
+ghost use Rattle.planner.specs.declared.PlanRefusal.TheVariants.{TableRefused};
+
 pub mod buffer;
 pub mod context;
 pub mod destructuring;
@@ -11,13 +14,16 @@ pub mod parameters;
 
 use table::TableRefusal;
 
+// A plan that is in the buffer: its form, its side and how many entries it has.
 #[derive(Clone, Copy)]
-pub enum PlanAnswer {
-    Planned {
-        form: u32,
-        side: u32,
-        entries: usize,
-    },
+pub struct Plan {
+    pub form: u32,
+    pub side: u32,
+    pub entries: usize,
+}
+
+#[derive(Clone, Copy)]
+pub enum PlanRefusal {
     TableRefused(TableRefusal),
     RootOutside,
     PlanTooLarge {
@@ -57,4 +63,12 @@ pub enum PlanAnswer {
     ReservedName {
         name: u32,
     },
+}
+
+impl From<TableRefusal> for PlanRefusal {
+    ghost from_gives = { λ t r. r ≡ TableRefused t };
+
+    fn from(refused: TableRefusal) -> PlanRefusal {
+        PlanRefusal::TableRefused(refused)
+    }
 }

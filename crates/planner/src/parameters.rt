@@ -3,8 +3,8 @@ ghost use Rattle.table.specs.Contents.{contents};
 ghost use Rattle.table.specs.Lent.{lent};
 ghost use Rattle.planner.specs.Operations.{index_outcome, parameter_outcome, AnsweredIn};
 
-use crate::PlanAnswer;
 use crate::destructuring::{create_destructuring_plan, create_plan};
+use crate::{Plan, PlanRefusal};
 use scope::{Scope, ScopingMode};
 use table::tables::Tables;
 
@@ -14,7 +14,7 @@ pub fn create_loop_index_binding_plan(
     scope: Scope,
     root: u32,
     plan: &mut [u32],
-) -> PlanAnswer
+) -> Result<Plan, PlanRefusal>
     ensures { AnsweredIn plan (index_outcome (contents tables.now) scope root) result }
 {
     create_destructuring_plan(tables, scope, ScopingMode::RespectParent, root, plan)
@@ -27,7 +27,7 @@ pub fn create_parameter_binding_plan(
     scoping: ScopingMode,
     root: u32,
     plan: &mut [u32],
-) -> PlanAnswer
+) -> Result<Plan, PlanRefusal>
     ensures { AnsweredIn plan (parameter_outcome (contents tables.now) scope scoping root) result }
 {
     match scoping {

@@ -1,7 +1,7 @@
 // Plans the patterns of one table and prints a listing of each, as document 01 lays it out.
 #![tactic(auto)]
 
-use planner::PlanAnswer;
+use planner::{Plan, PlanRefusal};
 use planner::buffer::ENTRY_WORDS;
 use planner::destructuring::create_destructuring_plan;
 use planner::parameters::{create_loop_index_binding_plan, create_parameter_binding_plan};
@@ -120,7 +120,7 @@ fn scope() -> Scope {
     made.scope
 }
 
-fn planned(asked: Asked, plan: &mut [u32]) -> PlanAnswer {
+fn planned(asked: Asked, plan: &mut [u32]) -> Result<Plan, PlanRefusal> {
     let nodes = NODES.as_flattened();
     let tables = Tables {
         nodes,
@@ -159,20 +159,20 @@ fn refusal(answer: TableRefusal) -> u64 {
 }
 
 // The answer's line; how many entries follow.
-fn print_answer(rt: &impl Print, answer: PlanAnswer) -> io::Result<usize> {
+fn print_answer(rt: &impl Print, answer: Result<Plan, PlanRefusal>) -> io::Result<usize> {
     match answer {
-        PlanAnswer::Planned {
+        Ok(Plan {
             form,
             side,
             entries,
-        } => {
+        }) => {
             print_row(rt, 0, form as u64, side as u64, entries as u64)?;
             return Ok(entries);
         }
-        PlanAnswer::TableRefused(of) => print_row(rt, refusal(of), 0, 0, 0)?,
-        PlanAnswer::RootOutside => print_row(rt, 5, 0, 0, 0)?,
-        PlanAnswer::PlanTooLarge { needed } => print_row(rt, 6, 0, needed as u64, 0)?,
-        PlanAnswer::VariableAlreadyDefined { name } => print_row(rt, 17, name as u64, 0, 0)?,
+        Err(PlanRefusal::TableRefused(of)) => print_row(rt, refusal(of), 0, 0, 0)?,
+        Err(PlanRefusal::RootOutside) => print_row(rt, 5, 0, 0, 0)?,
+        Err(PlanRefusal::PlanTooLarge { needed }) => print_row(rt, 6, 0, needed as u64, 0)?,
+        Err(PlanRefusal::VariableAlreadyDefined { name }) => print_row(rt, 17, name as u64, 0, 0)?,
         // of assignments alone
         _ => print_row(rt, 0, 0, 0, 0)?,
     }

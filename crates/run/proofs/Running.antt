@@ -1,4 +1,5 @@
 -- A run, from the checks to the list at the end.
+use Rattle.std.proofs.Common.{Result}
 use Prim.Native.Nat.{ℕ, ◌+◌, ◌-◌, ◌*◌, ◌/◌, ◌≤◌, ◌<◌}
 use mathlib.Core.Path.{◌≡◌, refl, sym, ap, subst, ◌∙◌, fun_ext}
 use mathlib.Core.List.{List, []}
@@ -25,7 +26,8 @@ use Rattle.planner.specs.Layout.{top, entry_words, entries}
 use Rattle.planner.specs.Entries.{read_entries, Wrote, Closed, word_at}
 use Rattle.planner.specs.Operations.{planned, fits, written, plan_of}
 use Rattle.planner.specs.code.Post.{pattern_words, Laid, PatternAsks, PatternPlanned}
-use Rattle.planner.specs.declared.PlanAnswer.{PlanAnswer}
+use Rattle.planner.specs.declared.Plan.{Plan}
+use Rattle.planner.specs.declared.PlanRefusal.{PlanRefusal}
 use Rattle.planner.specs.Simple.{mentions}
 use Rattle.planner.proofs.buffer.Filling.{length_tabulate, get_d_tabulate}
 use Rattle.planner.proofs.buffer.Copies.{wrote_long, wrote_read, wrote_closed}
@@ -308,7 +310,7 @@ module _ (T : Tables) (s : Scope) (mode : ScopingMode) (pattern value : ℕ) {va
     size : count ≡ length (entries (plan_of T s mode pattern) top)
     size = let e = p.wrote.end in omega arith
 
-    module _ {buffer mid filled : List ℕ} {end : ℕ} {r : PlanAnswer} (w : Wrote buffer 0 (read_entries scratch 0 count) mid end) (d : Closed 0 end mid filled r) where
+    module _ {buffer mid filled : List ℕ} {end : ℕ} {r : Result Plan PlanRefusal} (w : Wrote buffer 0 (read_entries scratch 0 count) mid end) (d : Closed 0 end mid filled r) where
       in_buffer : filled ≡ written (planned 0 0 (entries (plan_of T s mode pattern) top)) buffer
       in_buffer =
           let f = p.few in

@@ -1,4 +1,5 @@
 -- How an operation comes to a refusal 12 to 16: no test before the checks gives one.
+use Rattle.std.proofs.Common.{Result}
 use Prim.Native.Nat.{ℕ, ◌≤◌}
 use mathlib.Core.Path.{◌≡◌, refl, sym, ap, ◌∙◌}
 use mathlib.Core.Bool.{Bool, true, false, cond, ◌&&◌, not, false≢true}
@@ -17,7 +18,8 @@ use Rattle.table.specs.Expr.{Expr, literal, name, wildcard, array, set, object, 
 use Rattle.table.specs.Decode.{expr}
 use Rattle.table.specs.Check.{checked, all_nodes}
 use Rattle.table.proofs.tests.Bools.{and_true}
-use Rattle.planner.specs.declared.PlanAnswer.{PlanAnswer}
+use Rattle.planner.specs.declared.Plan.{Plan}
+use Rattle.planner.specs.declared.PlanRefusal.{PlanRefusal}
 use Rattle.planner.specs.Answer.{line_of}
 use Rattle.planner.specs.Layout.{Entry, top, entries, binds_any}
 use Rattle.planner.specs.Operations.{Outcome, refused, planned, fits, answered, require, table_first, checked_first, plan_of, validated, unless_defined}
@@ -52,7 +54,7 @@ pub shape_bounds : (n : ℕ) → of_shape n ≡ true → (12 ≤ n) × (n ≤ 16
 shape_bounds n e = let h = and_true (leb 12 n) (leb n 16) e in (leb-true 12 n h.0, leb-true n 16 h.1)
 
 -- an answer 12 to 16 is the outcome's refusal
-pub answer_refused : (o : Outcome) (before after : List ℕ) (r : PlanAnswer) → ShapeRefusal o before after r → shape_refused o ≡ true
+pub answer_refused : (o : Outcome) (before after : List ℕ) (r : Result Plan PlanRefusal) → ShapeRefusal o before after r → shape_refused o ≡ true
 unfolding answered
 answer_refused (refused a) before after r h =
     let n : (line_of r).number ≡ a.number = ap (λ (l : Line). l.number) h.contract.answer in

@@ -1,5 +1,6 @@
 -- The promise of request 12. Plan: an answer 12 to 16 comes from a mismatch of a check or from pairs (Outcomes); each of these means that no fillings of
 -- simple sides are equal (Checks, of the careful reading, which refuses all that the present one does; Pairs); plain sides are simple (Plain).
+use Rattle.std.proofs.Common.{Result}
 use Prim.Native.Nat.{ℕ}
 use mathlib.Core.Path.{◌≡◌, refl}
 use mathlib.Core.Bool.{Bool, true, false≢true}
@@ -11,7 +12,8 @@ use Rattle.scope.specs.Scope.{is_unbound}
 use Rattle.table.specs.Tables.{Tables}
 use Rattle.table.specs.Expr.{Expr}
 use Rattle.table.specs.Decode.{expr}
-use Rattle.planner.specs.declared.PlanAnswer.{PlanAnswer}
+use Rattle.planner.specs.declared.Plan.{Plan}
+use Rattle.planner.specs.declared.PlanRefusal.{PlanRefusal}
 use Rattle.planner.specs.Simple.{simple}
 use Rattle.checks.specs.declared.Reading.{Reading}
 use Rattle.checks.specs.declared.Reading.TheVariants.{Present, Careful}
@@ -75,7 +77,7 @@ module _ (kind : Expr → Bool) (kind-simple : (e : Expr) → kind e ≡ true �
   item_differs r e pattern x y m = mismatch_differs r e pattern (kind-simple e x) (kind-simple pattern y) m
 
   -- such an answer is the operation's own refusal
-  refused_by_lem : (T : Tables) (s : Scope) (version : ℕ) (operation : Operation) (before after : List ℕ) (a : PlanAnswer) → ShapeRefusal (version_outcome T s version operation) before after a → shape_refused (operation_outcome T s operation) ≡ true
+  refused_by_lem : (T : Tables) (s : Scope) (version : ℕ) (operation : Operation) (before after : List ℕ) (a : Result Plan PlanRefusal) → ShapeRefusal (version_outcome T s version operation) before after a → shape_refused (operation_outcome T s operation) ≡ true
   refused_by_lem T s version operation before after a h = past_version T s version operation (answer_refused (version_outcome T s version operation) before after a h)
 
   -- some-in, all items

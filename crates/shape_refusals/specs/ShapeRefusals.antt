@@ -1,10 +1,11 @@
 -- What a shape refusal means (request 12 of document 02): no values of each side's names and underscores make the sides equal.
-use Rattle.std.specs.Prelude.{ℕ, ◌≤◌, ◌≡◌, Bool, true, List}
+use Rattle.std.specs.Prelude.{ℕ, ◌≤◌, ◌≡◌, Bool, true, List, Result}
 use Rattle.scope.specs.declared.Scope.{Scope}
 use Rattle.table.specs.Tables.{Tables}
 use Rattle.table.specs.Expr.{Expr, array, Exprs, item}
 use Rattle.table.specs.Decode.{expr}
-use Rattle.planner.specs.declared.PlanAnswer.{PlanAnswer}
+use Rattle.planner.specs.declared.Plan.{Plan}
+use Rattle.planner.specs.declared.PlanRefusal.{PlanRefusal}
 use Rattle.planner.specs.Answer.{line_of}
 use Rattle.planner.specs.Operations.{Outcome, Answered}
 use Rattle.planner.specs.Simple.{simple}
@@ -30,7 +31,7 @@ abbrev pub NeverEqualNames : Expr → Expr → Type 0
 NeverEqualNames l r = (names : ℕ → ProperValue) (b : Blanks l) (c : Blanks r) → Same (fill (λ x. (names x).value) l b) (fill (λ x. (names x).value) r c) → ⊥
 
 -- A refusal 12 to 16 as the answer r of a planning call, by its contract: the outcome, the plan buffer at entry and at exit, the answer.
-pub record ShapeRefusal (o : Outcome) (before after : List ℕ) (r : PlanAnswer) : Type 0 where
+pub record ShapeRefusal (o : Outcome) (before after : List ℕ) (r : Result Plan PlanRefusal) : Type 0 where
   pub contract : Answered o before after r
   pub least : 12 ≤ (line_of r).number
   pub most : (line_of r).number ≤ 16
@@ -50,16 +51,16 @@ pub record NoItemEqual (kind : Expr → Bool) (collection pattern : Expr) : Type
 -- Of sides of a kind, in either reading, for every version of Rego.
 pub record MeansNoMatch (kind : Expr → Bool) : Type 0 where
   pub colon_equals : (T : Tables) (s : Scope) (version left right : ℕ) (reading : Reading) → kind (expr T left) ≡ true → kind (expr T right) ≡ true
-      → (before after : List ℕ) (r : PlanAnswer) → ShapeRefusal (version_outcome T s version (ColonEquals left right reading)) before after r
+      → (before after : List ℕ) (r : Result Plan PlanRefusal) → ShapeRefusal (version_outcome T s version (ColonEquals left right reading)) before after r
       → NeverEqual (expr T left) (expr T right)
   pub equals : (T : Tables) (s : Scope) (version left right : ℕ) (reading : Reading) → kind (expr T left) ≡ true → kind (expr T right) ≡ true
-      → (before after : List ℕ) (r : PlanAnswer) → ShapeRefusal (version_outcome T s version (Equals left right reading)) before after r
+      → (before after : List ℕ) (r : Result Plan PlanRefusal) → ShapeRefusal (version_outcome T s version (Equals left right reading)) before after r
       → NeverEqual (expr T left) (expr T right)
   -- some-in: an item whose own check refuses cannot equal the value pattern
   pub one_item_lem : (reading : Reading) (e pattern : Expr) → kind e ≡ true → kind pattern ≡ true → is_mismatch (structure reading e pattern) ≡ true → NeverEqual e pattern
   -- so none can where all do: that is what some-in refuses
   pub some_in : (T : Tables) (s : Scope) (version value collection key : ℕ) (reading : Reading) → kind (expr T value) ≡ true
-      → (before after : List ℕ) (r : PlanAnswer) → ShapeRefusal (version_outcome T s version (SomeIn value collection key reading)) before after r
+      → (before after : List ℕ) (r : Result Plan PlanRefusal) → ShapeRefusal (version_outcome T s version (SomeIn value collection key reading)) before after r
       → NoItemEqual kind (expr T collection) (expr T value)
 
 pub record ShapeRefusalsPromise : Type 0 where

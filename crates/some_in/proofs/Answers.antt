@@ -10,12 +10,13 @@ use lib.Dec.{eqb}
 use lib.ListN.{length, replicate}
 use Rattle.scope.specs.declared.Scope.{Scope}
 use Rattle.scope.specs.declared.ScopingMode.TheVariants.{RespectParent}
-use Rattle.std.proofs.Common.{Result, Ok}
+use Rattle.std.proofs.Common.{Result, Ok, Err}
 use Rattle.table.specs.Tables.{Tables, is_node}
 use Rattle.table.specs.Check.{checked, TableAnswered, all_nodes}
 use Rattle.table.specs.Decode.{expr}
-use Rattle.planner.specs.declared.PlanAnswer.{PlanAnswer}
-use Rattle.planner.specs.declared.PlanAnswer.TheVariants.{RootOutside, VariableAlreadyDefined, ArrayLengthMismatch, ObjectLiteralKeysMismatch}
+use Rattle.planner.specs.declared.Plan.{Plan}
+use Rattle.planner.specs.declared.PlanRefusal.{PlanRefusal}
+use Rattle.planner.specs.declared.PlanRefusal.TheVariants.{RootOutside, VariableAlreadyDefined, ArrayLengthMismatch, ObjectLiteralKeysMismatch}
 use Rattle.base.specs.Refusal.{passed}
 use Rattle.planner.specs.Layout.{Entry, top, entries}
 use Rattle.planner.specs.Entries.{Wrote, Closed}
@@ -43,25 +44,25 @@ module _ (T : Tables) (s : Scope) (root : ℕ) {at : ℕ} (a : PlaceAsks T root 
 
 -- the entries in the buffer, by the check
 module _ (form : ℕ) {c : LiteralStructureCheck} {end : ℕ} {mid later : List ℕ} where
-  pub closed_match : {r : PlanAnswer} → c ≡ Match → Closed form end mid later r → SomeInClosed form c end mid later r
+  pub closed_match : {r : Result Plan PlanRefusal} → c ≡ Match → Closed form end mid later r → SomeInClosed form c end mid later r
   closed_match e d = record { told = λ before es w. passes_match (planned form 0 es) e (wrote_closed form es w d) }
 
-  pub closed_unknown : {r : PlanAnswer} → c ≡ Unknown → Closed form end mid later r → SomeInClosed form c end mid later r
+  pub closed_unknown : {r : Result Plan PlanRefusal} → c ≡ Unknown → Closed form end mid later r → SomeInClosed form c end mid later r
   closed_unknown e d = record { told = λ before es w. passes_unknown (planned form 0 es) e (wrote_closed form es w d) }
 
   module _ (z : later ≡ replicate (length mid) 0) where
-    pub closed_array : {n expected actual : ℕ} → c ≡ ArrayMismatch n expected actual → SomeInClosed form c end mid later (ArrayLengthMismatch n expected actual)
+    pub closed_array : {n expected actual : ℕ} → c ≡ ArrayMismatch n expected actual → SomeInClosed form c end mid later (Err (ArrayLengthMismatch n expected actual))
     closed_array e = record { told = λ before es w. refuses_array (planned form 0 es) e (cleared w z) }
 
-    pub closed_object : {n pattern : ℕ} → c ≡ ObjectMismatch n pattern → SomeInClosed form c end mid later (ObjectLiteralKeysMismatch n pattern)
+    pub closed_object : {n pattern : ℕ} → c ≡ ObjectMismatch n pattern → SomeInClosed form c end mid later (Err (ObjectLiteralKeysMismatch n pattern))
     closed_object e = record { told = λ before es w. refuses_object (planned form 0 es) e (cleared w z) }
 
 -- the value's
 module _ (T : Tables) (s : Scope) (value collection : ℕ) {at : ℕ} {mid last : List ℕ} {end name : ℕ} (p : Validated T s value at mid last end name) (form : ℕ) (reading : Reading) {later : List ℕ} where
-  pub value_refused : (name ≡ 0 → ⊥) → later ≡ replicate (length last) 0 → ValueAnswered T s value collection form reading at mid later (VariableAlreadyDefined name)
+  pub value_refused : (name ≡ 0 → ⊥) → later ≡ replicate (length last) 0 → ValueAnswered T s value collection form reading at mid later (Err (VariableAlreadyDefined name))
   value_refused d z = record { told = λ before ks w. rw (← p.defined) (refuses_defined _ d (cleared (wrote_append w p.wrote) z)) }
 
-  pub value_closed : {r : PlanAnswer} → name ≡ 0 → {c : LiteralStructureCheck} → c ≡ collection_structure reading (expr T collection) (expr T value) → SomeInClosed form c end last later r → ValueAnswered T s value collection form reading at mid later r
+  pub value_closed : {r : Result Plan PlanRefusal} → name ≡ 0 → {c : LiteralStructureCheck} → c ≡ collection_structure reading (expr T collection) (expr T value) → SomeInClosed form c end last later r → ValueAnswered T s value collection form reading at mid later r
   value_closed none-defined is d = record {
     told = λ before ks w. rw (← p.defined) (passes_undefined _ none-defined (rw (← is) (d.told before (ks ++ entries (plan_of T s RespectParent value) top) (wrote_append w p.wrote))));
   }
@@ -71,14 +72,14 @@ a_key : {T : Tables} {value collection key : ℕ} → KeyAsks T value collection
 a_key {key = key} a = let l = a.node.low in ne_eqb key 0 (λ e. omega arith)
 
 module _ (T : Tables) (s : Scope) (value collection key : ℕ) (reading : Reading) (a : KeyAsks T value collection key) {before mid : List ℕ} {end name : ℕ} (p : Validated T s key 0 before mid end name) {later : List ℕ} where
-  pub key_refused : (name ≡ 0 → ⊥) → later ≡ replicate (length mid) 0 → Answered (some_in_planned T s value collection key reading) before later (VariableAlreadyDefined name)
+  pub key_refused : (name ≡ 0 → ⊥) → later ≡ replicate (length mid) 0 → Answered (some_in_planned T s value collection key reading) before later (Err (VariableAlreadyDefined name))
   key_refused d z = let k = a_key a in rw (k, ← p.defined) (refuses_defined _ d (cleared p.wrote z))
 
-  pub key_answered : {r : PlanAnswer} → name ≡ 0 → ValueAnswered T s value collection 1 reading end mid later r → Answered (some_in_planned T s value collection key reading) before later r
+  pub key_answered : {r : Result Plan PlanRefusal} → name ≡ 0 → ValueAnswered T s value collection 1 reading end mid later r → Answered (some_in_planned T s value collection key reading) before later r
   key_answered none-defined v = let k = a_key a in rw (k, ← p.defined) (passes_undefined _ none-defined (v.told before (entries (plan_of T s RespectParent key) top) p.wrote))
 
 -- no key
-pub without_key : (T : Tables) (s : Scope) (value collection : ℕ) (reading : Reading) {before later : List ℕ} {r : PlanAnswer} → ValueAnswered T s value collection 0 reading 0 before later r → Answered (some_in_planned T s value collection 0 reading) before later r
+pub without_key : (T : Tables) (s : Scope) (value collection : ℕ) (reading : Reading) {before later : List ℕ} {r : Result Plan PlanRefusal} → ValueAnswered T s value collection 0 reading 0 before later r → Answered (some_in_planned T s value collection 0 reading) before later r
 without_key T s value collection reading {before} v = v.told before [] (wrote_none before 0)
 
 -- the value and the collection are nodes; the key decides
@@ -95,34 +96,34 @@ module _ (T : Tables) (s : Scope) {c : Result Unit TableRefusal} (is : TableAnsw
   sound = check_passes T s is told
 
   module _ (value collection key : ℕ) (reading : Reading) {v : Bool} (in-value : v ≡ is_node T value) {before later : List ℕ} where
-    outside : all_nodes T (roots value collection key) ≡ false → later ≡ replicate (length before) 0 → Answered (some_in_outcome T s value collection key reading) before later RootOutside
+    outside : all_nodes T (roots value collection key) ≡ false → later ≡ replicate (length before) 0 → Answered (some_in_outcome T s value collection key reading) before later (Err RootOutside)
     outside = roots_refuse T s sound (roots value collection key) (some_in_planned T s value collection key reading)
 
-    inside : {r : PlanAnswer} → all_nodes T (roots value collection key) ≡ true → Answered (some_in_planned T s value collection key reading) before later r → Answered (some_in_outcome T s value collection key reading) before later r
+    inside : {r : Result Plan PlanRefusal} → all_nodes T (roots value collection key) ≡ true → Answered (some_in_planned T s value collection key reading) before later r → Answered (some_in_outcome T s value collection key reading) before later r
     inside = roots_pass T s sound (roots value collection key) (some_in_planned T s value collection key reading)
 
-    pub value_outside : not v ≡ true → later ≡ replicate (length before) 0 → Answered (some_in_outcome T s value collection key reading) before later RootOutside
+    pub value_outside : not v ≡ true → later ≡ replicate (length before) 0 → Answered (some_in_outcome T s value collection key reading) before later (Err RootOutside)
     value_outside n z = let p : is_node T value ≡ false = sym in-value ∙ not-true v n in outside (rw p) z
 
     module _ (at_value : not v ≡ false) {l : Bool} (in-collection : l ≡ is_node T collection) where
-      pub collection_outside : not l ≡ true → later ≡ replicate (length before) 0 → Answered (some_in_outcome T s value collection key reading) before later RootOutside
+      pub collection_outside : not l ≡ true → later ≡ replicate (length before) 0 → Answered (some_in_outcome T s value collection key reading) before later (Err RootOutside)
       collection_outside n z =
           let w : is_node T value ≡ true = sym in-value ∙ not-false v at_value in
           let p : is_node T collection ≡ false = sym in-collection ∙ not-true l n in
           outside (rw (w, p)) z
 
       module _ (at-collection : not l ≡ false) where
-        pub goes_without : {r : PlanAnswer} → key ≡ 0 → Answered (some_in_planned T s value collection 0 reading) before later r → Answered (some_in_outcome T s value collection key reading) before later r
+        pub goes_without : {r : Result Plan PlanRefusal} → key ≡ 0 → Answered (some_in_planned T s value collection 0 reading) before later r → Answered (some_in_outcome T s value collection key reading) before later r
         goes_without e a = inside (key_decides T value collection key in-value at_value in-collection at-collection (rw e)) (rw e a)
 
         module _ (some : key ≡ 0 → ⊥) {k : Bool} (in-key : k ≡ is_node T key) where
-          pub key_outside : not k ≡ true → later ≡ replicate (length before) 0 → Answered (some_in_outcome T s value collection key reading) before later RootOutside
+          pub key_outside : not k ≡ true → later ≡ replicate (length before) 0 → Answered (some_in_outcome T s value collection key reading) before later (Err RootOutside)
           key_outside n z =
               let p : is_node T key ≡ false = sym in-key ∙ not-true k n in
               let d = ne_eqb key 0 some in
               outside (key_decides T value collection key in-value at_value in-collection at-collection (simp (d, p))) z
 
-          pub goes_with : {r : PlanAnswer} → not k ≡ false → Answered (some_in_planned T s value collection key reading) before later r → Answered (some_in_outcome T s value collection key reading) before later r
+          pub goes_with : {r : Result Plan PlanRefusal} → not k ≡ false → Answered (some_in_planned T s value collection key reading) before later r → Answered (some_in_outcome T s value collection key reading) before later r
           goes_with at_key a =
               let p : is_node T key ≡ true = sym in-key ∙ not-false k at_key in
               let d = ne_eqb key 0 some in

@@ -12,10 +12,10 @@ ghost use Rattle.some_in.specs.code.Post.{PlaceAsks, Validated, SomeInClosed, Va
 
 use crate::collection::check_collection;
 use checks::{LiteralStructureCheck, Reading};
-use planner::PlanAnswer;
 use planner::buffer::{clear, close};
 use planner::inner::destructuring::plan_pattern;
 use planner::inner::parameters::validate_pattern_bindings;
+use planner::{Plan, PlanRefusal};
 use scope::{Scope, ScopingMode};
 use table::check;
 use table::reading::is_node;
@@ -59,7 +59,7 @@ fn deliver_some_in(
     form: u32,
     check: LiteralStructureCheck,
     end: usize,
-) -> PlanAnswer
+) -> Result<Plan, PlanRefusal>
     ensures { SomeInClosed form check end plan.old plan.new result }
 {
     match check {
@@ -71,15 +71,15 @@ fn deliver_some_in(
             actual,
         } => {
             clear(plan);
-            PlanAnswer::ArrayLengthMismatch {
+            Err(PlanRefusal::ArrayLengthMismatch {
                 value,
                 expected,
                 actual,
-            }
+            })
         }
         LiteralStructureCheck::ObjectMismatch { value, pattern } => {
             clear(plan);
-            PlanAnswer::ObjectLiteralKeysMismatch { value, pattern }
+            Err(PlanRefusal::ObjectLiteralKeysMismatch { value, pattern })
         }
     }
 }
@@ -94,16 +94,16 @@ fn plan_value(
     reading: Reading,
     plan: &mut [u32],
     at: usize,
-) -> PlanAnswer
+) -> Result<Plan, PlanRefusal>
     requires { ValueAsks (contents tables.now) value collection at }
     ensures { ValueAnswered (contents tables.now) scope value collection form reading at plan.old plan.new result }
 {
     let value_plan = plan_validated(tables, scope, value, plan, at);
     if value_plan.name != 0 {
         clear(plan);
-        return PlanAnswer::VariableAlreadyDefined {
+        return Err(PlanRefusal::VariableAlreadyDefined {
             name: value_plan.name,
-        };
+        });
     }
     let check = check_collection(tables, value, collection, reading);
     deliver_some_in(plan, form, check, value_plan.end)
@@ -117,16 +117,16 @@ fn plan_key(
     key: u32,
     reading: Reading,
     plan: &mut [u32],
-) -> PlanAnswer
+) -> Result<Plan, PlanRefusal>
     requires { KeyAsks (contents tables.now) value collection key }
     ensures { AnsweredIn plan (some_in_planned (contents tables.now) scope value collection key reading) result }
 {
     let key_plan = plan_validated(tables, scope, key, plan, 0);
     if key_plan.name != 0 {
         clear(plan);
-        return PlanAnswer::VariableAlreadyDefined {
+        return Err(PlanRefusal::VariableAlreadyDefined {
             name: key_plan.name,
-        };
+        });
     }
     plan_value(
         tables,
@@ -147,7 +147,7 @@ fn plan_without_key(
     collection: u32,
     reading: Reading,
     plan: &mut [u32],
-) -> PlanAnswer
+) -> Result<Plan, PlanRefusal>
     requires { GoodPair (contents tables.now) value collection }
     ensures { AnsweredIn plan (some_in_planned (contents tables.now) scope value collection 0 reading) result }
 {
@@ -163,28 +163,28 @@ pub fn create_some_in_binding_plan(
     key: u32,
     reading: Reading,
     plan: &mut [u32],
-) -> PlanAnswer
+) -> Result<Plan, PlanRefusal>
     ensures { AnsweredIn plan (some_in_outcome (contents tables.now) scope value collection key reading) result }
 {
     let checked = check(tables, scope);
     if let Err(refused) = checked {
         clear(plan);
-        return PlanAnswer::TableRefused(refused);
+        return Err(refused.into());
     }
     if !is_node(tables.nodes, value) {
         clear(plan);
-        return PlanAnswer::RootOutside;
+        return Err(PlanRefusal::RootOutside);
     }
     if !is_node(tables.nodes, collection) {
         clear(plan);
-        return PlanAnswer::RootOutside;
+        return Err(PlanRefusal::RootOutside);
     }
     if key == 0 {
         return plan_without_key(tables, scope, value, collection, reading, plan);
     }
     if !is_node(tables.nodes, key) {
         clear(plan);
-        return PlanAnswer::RootOutside;
+        return Err(PlanRefusal::RootOutside);
     }
     plan_key(tables, scope, value, collection, key, reading, plan)
 }

@@ -29,7 +29,7 @@ use common_example::ExampleAnswer;
 use common_example::sides::ScopedPattern;
 use name_table::NameAnswer;
 use operation::Operation;
-use planner::PlanAnswer;
+use planner::{Plan, PlanRefusal};
 use report::ReportAnswer;
 use run::RunAnswer;
 use scope::{Scope, ScopingMode};
@@ -54,7 +54,7 @@ pub fn plan<'a>(
     operation: Operation,
     version: u32,
     plan: &mut [u32],
-) -> PlanAnswer
+) -> Result<Plan, PlanRefusal>
     ensures { AnsweredIn plan (version_outcome (lent_records nodes children numbers names strings text) scope version operation) result }
 {
     plan_words(

@@ -3,7 +3,7 @@
 
 use operation::numbers::{OperationNumbers, operation_of};
 use operation::row::{Row, row_of};
-use planner::PlanAnswer;
+use planner::{Plan, PlanRefusal};
 use scope::Scope;
 use std::io;
 use table::tables::Tables;
@@ -146,7 +146,7 @@ fn scope(bound: u32) -> Scope {
     changed.scope
 }
 
-fn planned(case: [u32; 7], plan: &mut [u32]) -> PlanAnswer {
+fn planned(case: [u32; 7], plan: &mut [u32]) -> Result<Plan, PlanRefusal> {
     let nodes = NODES.as_flattened();
     let [number, scoping, first, second, key, version, bound] = case;
     let numbers = OperationNumbers {

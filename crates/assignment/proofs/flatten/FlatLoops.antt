@@ -1,4 +1,5 @@
 -- Items and fields in turn: the pairs so far, and what is left.
+use Rattle.std.proofs.Common.{Result, Ok, Err}
 use Prim.Native.Nat.{ℕ, ◌+◌, ◌-◌, ◌*◌, ◌^◌, ◌≤◌, ◌<◌}
 use mathlib.Core.Path.{◌≡◌, refl, sym, ap, subst, ◌∙◌}
 use mathlib.Core.Bool.{Bool}
@@ -12,14 +13,13 @@ use Rattle.table.specs.Expr.{parts, parts_all, parts_fields, Exprs, Fields}
 use Rattle.table.specs.Decode.{expr, items, fields}
 use Rattle.table.specs.code.Sound.{Node, WellFormed}
 use Rattle.table.proofs.trees.Trees.{expr_object, items_step, items_end, fields_step, fields_end}
-use Rattle.planner.specs.declared.PlanAnswer.{PlanAnswer}
+use Rattle.planner.specs.declared.Plan.{Plan}
+use Rattle.planner.specs.declared.PlanRefusal.{PlanRefusal}
 use Rattle.planner.specs.Layout.{Entry}
 use Rattle.planner.specs.code.Passes.{unbound_in}
 use Rattle.planner.specs.Entries.{Wrote}
 use Rattle.planner.specs.code.Post.{States}
 use Rattle.planner.proofs.buffer.Copies.{wrote_none, wrote_append, wrote_long}
-use Rattle.assignment.specs.declared.flatten.Flattened.{Flattened}
-use Rattle.assignment.specs.declared.flatten.Flattened.TheVariants.{Next, Refused}
 use Rattle.assignment.specs.Pairs.{Pair, pair_entries, pairs_entries, Flat, failed, paired, prepended, further, flatten}
 use Rattle.assignment.specs.code.Previewing.{Roomy, Scoped}
 use Rattle.assignment.specs.code.KeyMatching.{InOrder, FieldAsks, FieldSides, FieldOk}
@@ -62,35 +62,35 @@ flattening_start {rest = rest} same T states start at = record {
 }
 
 -- a callee's answer
-came_as : {f : (ℕ → Bool) → List ℕ → Flat} {T : Tables} {most : ℕ} {states start : List ℕ} {at : ℕ} {known mid : List ℕ} {done : Flattened} → Flattens f T most states start at known mid done
-    → (r : Flattened) → done ≡ r → (u : ℕ → Bool) (seen : List ℕ) → Scoped T u seen states → FlattenedAs (f u seen) seen most states start at known mid r
-came_as {f} {T} {most} {states} {start} {at} {known} {mid} {done} a r e u seen s = subst (λ (x : Flattened). FlattenedAs (f u seen) seen most states start at known mid x) e (a.each u seen s)
+came_as : {f : (ℕ → Bool) → List ℕ → Flat} {T : Tables} {most : ℕ} {states start : List ℕ} {at : ℕ} {known mid : List ℕ} {done : Result ℕ PlanRefusal} → Flattens f T most states start at known mid done
+    → (r : Result ℕ PlanRefusal) → done ≡ r → (u : ℕ → Bool) (seen : List ℕ) → Scoped T u seen states → FlattenedAs (f u seen) seen most states start at known mid r
+came_as {f} {T} {most} {states} {start} {at} {known} {mid} {done} a r e u seen s = subst (λ (x : Result ℕ PlanRefusal). FlattenedAs (f u seen) seen most states start at known mid x) e (a.each u seen s)
 
-module _ {T : Tables} (w : WellFormed T) {states : List ℕ} (ok : States T states) {g : (ℕ → Bool) → List ℕ → Flat} {most : ℕ} {mid : List ℕ} {here : ℕ} {known next : List ℕ} {done : Flattened}
-    (a : Flattens g T most states mid here known next done) {there : ℕ} (e : done ≡ Next there) where
+module _ {T : Tables} (w : WellFormed T) {states : List ℕ} (ok : States T states) {g : (ℕ → Bool) → List ℕ → Flat} {most : ℕ} {mid : List ℕ} {here : ℕ} {known next : List ℕ} {done : Result ℕ PlanRefusal}
+    (a : Flattens g T most states mid here known next done) {there : ℕ} (e : done ≡ Ok there) where
   next_states : States T known
   next_states =
       let s = scoped_self T states ok in
-      let c = came_as a (Next there) e (unbound_in states) [] s in
+      let c = came_as a (Ok there) e (unbound_in states) [] s in
       (scoped_learns T w c.learns (unbound_in states) [] s).wild
 
   next_long : length next ≡ length mid
-  next_long = wrote_long (came_as a (Next there) e (unbound_in states) [] (scoped_self T states ok)).wrote
+  next_long = wrote_long (came_as a (Ok there) e (unbound_in states) [] (scoped_self T states ok)).wrote
 
   next_low : there ≤ here + most
   next_low =
-      let c = came_as a (Next there) e (unbound_in states) [] (scoped_self T states ok) in
+      let c = came_as a (Ok there) e (unbound_in states) [] (scoped_self T states ok) in
       let n = c.wrote.end in
       let f = c.few in
       omega arith
 
 module _ {f rest : (ℕ → Bool) → List ℕ → Flat} {T : Tables} (w : WellFormed T) {used : ℕ} {states₀ start : List ℕ} {at : ℕ} {states mid : List ℕ} {here : ℕ} (go : Flattening f rest T used states₀ start at states mid here) where
-  module _ (rest' : (ℕ → Bool) → List ℕ → Flat) {g : (ℕ → Bool) → List ℕ → Flat} {most : ℕ} {known next : List ℕ} {done : Flattened} (step : (u : ℕ → Bool) (seen : List ℕ) → rest u seen ≡ further (g u seen) (rest' u)) (a : Flattens g T most states mid here known next done) where
-    flattening_on : {there : ℕ} → done ≡ Next there → Flattening f rest' T (used + most) states₀ start at known next there
+  module _ (rest' : (ℕ → Bool) → List ℕ → Flat) {g : (ℕ → Bool) → List ℕ → Flat} {most : ℕ} {known next : List ℕ} {done : Result ℕ PlanRefusal} (step : (u : ℕ → Bool) (seen : List ℕ) → rest u seen ≡ further (g u seen) (rest' u)) (a : Flattens g T most states mid here known next done) where
+    flattening_on : {there : ℕ} → done ≡ Ok there → Flattening f rest' T (used + most) states₀ start at known next there
     flattening_on {there} e = record {
       each = λ u seen s.
           let p = go.each u seen s in
-          let c = came_as a (Next there) e u (p.names ++ seen) (scoped_learns T w p.learns u seen s) in
+          let c = came_as a (Ok there) e u (p.names ++ seen) (scoped_learns T w p.learns u seen s) in
           record {
             pairs = p.pairs ++ c.pairs;
             names = c.names ++ p.names;
@@ -109,11 +109,11 @@ module _ {f rest : (ℕ → Bool) → List ℕ → Flat} {T : Tables} (w : WellF
           };
     }
 
-    flattening_fails : {answer : PlanAnswer} {bound : ℕ} → done ≡ Refused answer → Flattens f T bound states₀ start at known next (Refused answer)
+    flattening_fails : {answer : PlanRefusal} {bound : ℕ} → done ≡ Err answer → Flattens f T bound states₀ start at known next (Err answer)
     flattening_fails {answer} e = record {
       each = λ u seen s.
           let p = go.each u seen s in
-          let c = came_as a (Refused answer) e u (p.names ++ seen) (scoped_learns T w p.learns u seen s) in
+          let c = came_as a (Err answer) e u (p.names ++ seen) (scoped_learns T w p.learns u seen s) in
           record {
             failed = record {
               refusal = c.failed.refusal;
@@ -128,7 +128,7 @@ module _ {f rest : (ℕ → Bool) → List ℕ → Flat} {T : Tables} (w : WellF
           };
     }
 
-  flattening_ends : {bound : ℕ} → ((u : ℕ → Bool) (seen : List ℕ) → rest u seen ≡ paired [] seen) → used ≤ bound → Flattens f T bound states₀ start at states mid (Next here)
+  flattening_ends : {bound : ℕ} → ((u : ℕ → Bool) (seen : List ℕ) → rest u seen ≡ paired [] seen) → used ≤ bound → Flattens f T bound states₀ start at states mid (Ok here)
   flattening_ends over le = record {
     each = λ u seen s.
         let p = go.each u seen s in
@@ -201,8 +201,8 @@ module _ {T : Tables} {left₀ parent right₀ k₀ : ℕ} {states₀ start : Li
       unfolding items_flat nodes_flat flatten
       step u seen = rw (items_step (expr T) T.children left more some_left, items_step (expr T) T.children right more some_left, is-l, is-r)
 
-      module _ {known next : List ℕ} {done : Flattened} (a : Flattens (nodes_flat T l r) T (most_of T r) states mid here known next done) where
-        pub items_on : {there : ℕ} → done ≡ Next there → PairingItems T left₀ parent right₀ k₀ states₀ start at (left + 1) (right + 1) (more - 1) known next there
+      module _ {known next : List ℕ} {done : Result ℕ PlanRefusal} (a : Flattens (nodes_flat T l r) T (most_of T r) states mid here known next done) where
+        pub items_on : {there : ℕ} → done ≡ Ok there → PairingItems T left₀ parent right₀ k₀ states₀ start at (left + 1) (right + 1) (more - 1) known next there
         items_on {there} e = record {
           asks = record {
             table = go.asks.table;
@@ -219,10 +219,10 @@ module _ {T : Tables} {left₀ parent right₀ k₀ : ℕ} {states₀ start : Li
           so_far = flattening_on go.asks.table go.so_far (items_flat T (left + 1) (right + 1) (more - 1)) step a e;
         }
 
-        pub items_fail : {answer : PlanAnswer} → done ≡ Refused answer → Flattens (items_flat T left₀ right₀ k₀) T (most_items T right₀ k₀) states₀ start at known next (Refused answer)
+        pub items_fail : {answer : PlanRefusal} → done ≡ Err answer → Flattens (items_flat T left₀ right₀ k₀) T (most_items T right₀ k₀) states₀ start at known next (Err answer)
         items_fail e = flattening_fails go.asks.table go.so_far (items_flat T (left + 1) (right + 1) (more - 1)) step a e
 
-  pub items_over : more ≤ 0 → Flattens (items_flat T left₀ right₀ k₀) T (most_items T right₀ k₀) states₀ start at states mid (Next here)
+  pub items_over : more ≤ 0 → Flattens (items_flat T left₀ right₀ k₀) T (most_items T right₀ k₀) states₀ start at states mid (Ok here)
   unfolding items_flat flatten
   items_over no_more =
       flattening_ends go.asks.table go.so_far
@@ -306,8 +306,8 @@ module _ {T : Tables} {left right : ℕ} {order : List ℕ} {total : ℕ} {state
           let p = partner_some T go.in_order.asks field_ok.key_ok field_ok.partner in
           rw (t, p, sides.right_is, sides.left_is)
 
-      module _ {known next : List ℕ} {done : Flattened} (a : Flattens (nodes_flat T other value) T (most_of T value) states mid here known next done) where
-        pub fields_on : {there : ℕ} → done ≡ Next there → PairingFields T left right order total states₀ start at (place + 2) (more - 1) known next there
+      module _ {known next : List ℕ} {done : Result ℕ PlanRefusal} (a : Flattens (nodes_flat T other value) T (most_of T value) states mid here known next done) where
+        pub fields_on : {there : ℕ} → done ≡ Ok there → PairingFields T left right order total states₀ start at (place + 2) (more - 1) known next there
         fields_on {there} e = record {
           table = go.table;
           in_order = go.in_order;
@@ -321,10 +321,10 @@ module _ {T : Tables} {left right : ℕ} {order : List ℕ} {total : ℕ} {state
           so_far = flattening_on go.table go.so_far (fields_flat T left (place + 2) (more - 1)) field_step a e;
         }
 
-        pub fields_fail : {answer : PlanAnswer} → done ≡ Refused answer → Flattens (objects_flat T left right) T (most_of T right) states₀ start at known next (Refused answer)
+        pub fields_fail : {answer : PlanRefusal} → done ≡ Err answer → Flattens (objects_flat T left right) T (most_of T right) states₀ start at known next (Err answer)
         fields_fail e = flattening_fails go.table go.so_far (fields_flat T left (place + 2) (more - 1)) field_step a e
 
-  pub fields_over : more ≤ 0 → Flattens (objects_flat T left right) T (most_of T right) states₀ start at states mid (Next here)
+  pub fields_over : more ≤ 0 → Flattens (objects_flat T left right) T (most_of T right) states₀ start at states mid (Ok here)
   unfolding fields_flat flatten
   fields_over no_more =
       flattening_ends go.table go.so_far

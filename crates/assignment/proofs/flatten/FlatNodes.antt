@@ -1,4 +1,5 @@
 -- Two nodes of a table in pairs, answer by answer.
+use Rattle.std.proofs.Common.{Result, Err, Ok}
 use Prim.Native.Nat.{ℕ, ◌+◌, ◌^◌, ◌≤◌, ◌<◌}
 use mathlib.Core.Path.{◌≡◌, refl, sym, ap, subst, ◌∙◌}
 use mathlib.Core.Bool.{Bool, true, false, cond, ◌&&◌, ◌||◌}
@@ -17,8 +18,9 @@ use Rattle.table.specs.Decode.{expr, items, fields_of}
 use Rattle.table.proofs.trees.Trees.{expr_array, expr_object, width_array, child_node, count_items, count_fields_lem}
 use Rattle.table.proofs.trees.Forest.{tree_few}
 use Rattle.planner.specs.Names.{states_of}
-use Rattle.planner.specs.declared.PlanAnswer.{PlanAnswer}
-use Rattle.planner.specs.declared.PlanAnswer.TheVariants.{ArraySizeMismatch, IncompatibleDestructuringPatterns}
+use Rattle.planner.specs.declared.Plan.{Plan}
+use Rattle.planner.specs.declared.PlanRefusal.{PlanRefusal}
+use Rattle.planner.specs.declared.PlanRefusal.TheVariants.{ArraySizeMismatch, IncompatibleDestructuringPatterns}
 use Rattle.base.specs.Refusal.{array_size_mismatch, incompatible_destructuring_patterns}
 use Rattle.planner.specs.Plan.{equality_expr}
 use Rattle.planner.specs.Layout.{Entry, below, top, entry, entries}
@@ -26,12 +28,8 @@ use Rattle.planner.specs.Operations.{Answered}
 use Rattle.planner.specs.Entries.{read_entries, Wrote, Closed}
 use Rattle.planner.specs.code.Post.{GoodPair}
 use Rattle.planner.proofs.fields.Objects.{node_of_lem}
-use Rattle.assignment.specs.declared.flatten.Flattened.{Flattened}
-use Rattle.assignment.specs.declared.flatten.Flattened.TheVariants.{Next, Refused}
 use Rattle.assignment.specs.declared.judge.Pairing.{Pairing}
 use Rattle.assignment.specs.declared.judge.Pairing.TheVariants.{Whole, Items, ByKey, Opposed}
-use Rattle.assignment.specs.declared.keys.ObjectPairs.{ObjectPairs}
-use Rattle.assignment.specs.declared.keys.ObjectPairs.TheVariants.{Matched}
 use Rattle.assignment.specs.declared.judge.Judgement.{Judgement}
 use Rattle.assignment.specs.declared.judge.Judgement.TheVariants as Judged
 use Rattle.assignment.specs.declared.judge.Judgement.TheVariants.{Compare, BindLeft, BindRight, Refuse}
@@ -137,11 +135,11 @@ module _ {T : Tables} {states : List ℕ} {left right at : ℕ} (a : FlattenAsks
         flat_whole u seen (expr T left) (expr T right) (some_bind (rw (p, q) one-does) u seen s) k
         ∙ rw (sym (left_binds u seen s) ∙ p, sym (right_binds u seen s) ∙ q)
 
-    pub flat_compared : way ≡ Compare → {before later : List ℕ} {r : Flattened} → Compared left right before at later r → Flattens (nodes_flat T left right) T (most_of T right) states before at states later r
+    pub flat_compared : way ≡ Compare → {before later : List ℕ} {r : ℕ} → Compared left right before at later r → Flattens (nodes_flat T left right) T (most_of T right) states before at states later (Ok r)
     unfolding nodes_flat pairs_entries entries
     flat_compared e {before} {later} {r} c =
         let m = means j.one j.other _ j.is Compare e in
-        rw c.is (record {
+        record {
           each = λ u seen s.
               let all : entry 7 right 1 top ∷ entry 3 left 0 (below 0 1) ∷ [] ≡ pairs_entries (pair (expr T right) (equality_expr (expr T left)) ∷ []) =
               rw (node_of_lem T a.pair_ok.table left a.pair_ok.first, node_of_lem T a.pair_ok.table right a.pair_ok.second) in
@@ -149,20 +147,20 @@ module _ {T : Tables} {states : List ℕ} {left right at : ℕ} (a : FlattenAsks
                 pairs = pair (expr T right) (equality_expr (expr T left)) ∷ [];
                 names = [];
                 is = flat_neither u seen (expr T left) (expr T right) (some_bind (rw (m.0, m.1)) u seen s);
-                wrote = subst (λ (es : List Entry). Wrote before at es later c.next) all c.wrote;
+                wrote = subst (λ (es : List Entry). Wrote before at es later r) all c.wrote;
                 few = let n = ap length all in let k = most_some T right in omega arith;
                 learns = learns_none states;
               };
-        })
+        }
 
-    module _ {before known later : List ℕ} {r : Flattened} where
-      pub flat_bind_left : way ≡ BindLeft → Bound right (read_entries scratch 0 count) states binders before at known later r → Flattens (nodes_flat T left right) T (most_of T right) states before at known later r
+    module _ {before known later : List ℕ} {r : ℕ} where
+      pub flat_bind_left : way ≡ BindLeft → Bound right (read_entries scratch 0 count) states binders before at known later r → Flattens (nodes_flat T left right) T (most_of T right) states before at known later (Ok r)
       unfolding side_flat
       flat_bind_left e f =
           let m = means j.one j.other _ j.is BindLeft e in
           flattens_as (λ u seen s. sym (as_whole m.0 m.1 refl m.2 u seen s)) (most_some T right) (side_bound ask_bind_left j.sides.left_seen f)
 
-      pub flat_bind_right : way ≡ BindRight → Flattens (side_flat T right left) T 513 states before at known later r → Flattens (nodes_flat T left right) T (most_of T right) states before at known later r
+      pub flat_bind_right : way ≡ BindRight → Flattens (side_flat T right left) T 513 states before at known later (Ok r) → Flattens (nodes_flat T left right) T (most_of T right) states before at known later (Ok r)
       unfolding side_flat
       flat_bind_right e f =
           let m = means j.one j.other _ j.is BindRight e in
@@ -190,7 +188,7 @@ module _ {T : Tables} {states : List ℕ} {left right at : ℕ} (a : FlattenAsks
           };
         }
 
-    module _ {before known later : List ℕ} {r : Flattened} where
+    module _ {before known later : List ℕ} {r : Result ℕ PlanRefusal} where
       pub flat_by_items : way ≡ Judged.Items → Flattens (arrays_flat T left right) T (most_of T right) states before at known later r → Flattens (nodes_flat T left right) T (most_of T right) states before at known later r
       unfolding nodes_flat arrays_flat items_flat
       flat_by_items e f = flattens_as same (omega arith) f
@@ -218,7 +216,7 @@ module _ {T : Tables} {states : List ℕ} {left right at : ℕ} (a : FlattenAsks
               sym (flat_fields u seen (expr T left) (expr T right) (some_bind m.0 u seen s) (shape_fields T w left a.pair_ok.first k.0) (expr_object T w right a.pair_ok.second k.1) k.2 k.3
               ∙ rw (count_fields_lem (expr T) T.children (first_word_of T.nodes right) (count_of T.nodes right)))
 
-    pub flat_refused : way ≡ Refuse → (before : List ℕ) → Flattens (nodes_flat T left right) T (most_of T right) states before at states before (Refused (IncompatibleDestructuringPatterns left))
+    pub flat_refused : way ≡ Refuse → (before : List ℕ) → Flattens (nodes_flat T left right) T (most_of T right) states before at states before (Err (IncompatibleDestructuringPatterns left))
     unfolding nodes_flat
     flat_refused e before = let m = means j.one j.other _ j.is Refuse e in flattens_none T (most_of T right) states before at (λ u seen s. record { refusal = incompatible_destructuring_patterns left; is = go u seen s m.0 m.1; line = refl })
       where
@@ -236,7 +234,7 @@ module _ {T : Tables} {states : List ℕ} {left right at : ℕ} (a : FlattenAsks
 
 -- two arrays
 module _ {T : Tables} {states : List ℕ} {left right at : ℕ} (a : ArraysAsks T states left right at) {size other : ℕ} (is_size : size ≡ count_of T.nodes left) (is-other : other ≡ count_of T.nodes right) where
-  pub arrays_differ : (size ≡ other → ⊥) → (before : List ℕ) → Flattens (arrays_flat T left right) T (most_of T right) states before at states before (Refused (ArraySizeMismatch left size other))
+  pub arrays_differ : (size ≡ other → ⊥) → (before : List ℕ) → Flattens (arrays_flat T left right) T (most_of T right) states before at states before (Err (ArraySizeMismatch left size other))
   unfolding arrays_flat
   arrays_differ differ before =
       let z = ne_eqb (count_of T.nodes left) (count_of T.nodes right) (λ e. differ (is_size ∙ (e ∙ sym is-other))) in
@@ -265,18 +263,18 @@ module _ {T : Tables} {states : List ℕ} {left right at : ℕ} (a : ArraysAsks 
           room = let r = a.asks.room in let m = most_less in omega arith;
         }
 
-    pub arrays_items : {before known later : List ℕ} {r : Flattened} → Flattens (items_flat T left-first right-first size) T (most_items T right-first size) states before at known later r → Flattens (arrays_flat T left right) T (most_of T right) states before at known later r
+    pub arrays_items : {before known later : List ℕ} {r : Result ℕ PlanRefusal} → Flattens (items_flat T left-first right-first size) T (most_items T right-first size) states before at known later r → Flattens (arrays_flat T left right) T (most_of T right) states before at known later r
     unfolding arrays_flat
     arrays_items f =
         let z = eq-eqb (count_of T.nodes left) (count_of T.nodes right) (sym is_size ∙ (same_size ∙ is-other)) in
         flattens_as (λ u seen s. rw (is-left, is_right, is_size) (simp z)) (let m = most_less in omega arith) f
 
 -- two objects by their keys
-module _ {T : Tables} {states : List ℕ} {left right at : ℕ} (a : ByKeyAsks T states left right at) {order : List ℕ} {keys : ObjectPairs} (m : KeysMatched T left right order keys) where
-  pub ask_fields : {total : ℕ} → keys ≡ Matched total → ObjectFieldsAsks T states left right order total at
+module _ {T : Tables} {states : List ℕ} {left right at : ℕ} (a : ByKeyAsks T states left right at) {order : List ℕ} {keys : Result ℕ PlanRefusal} (m : KeysMatched T left right order keys) where
+  pub ask_fields : {total : ℕ} → keys ≡ Ok total → ObjectFieldsAsks T states left right order total at
   ask_fields {total} e = record { asks = a.asks; object = a.keyed.both.right_ok.object; keys = subst (MatchedBy T left right order) e m.told }
 
-  pub objects_refused : {answer : PlanAnswer} → keys ≡ ObjectPairs.Refused answer → (before : List ℕ) → Flattens (objects_flat T left right) T (most_of T right) states before at states before (Refused answer)
+  pub objects_refused : {answer : PlanRefusal} → keys ≡ Err answer → (before : List ℕ) → Flattens (objects_flat T left right) T (most_of T right) states before at states before (Err answer)
   objects_refused {answer} e before = let f = subst (MatchedBy T left right order) e m.told in flattens_none T (most_of T right) states before at (λ u seen s. f u seen)
 
 -- the whole call
@@ -288,19 +286,19 @@ module _ (T : Tables) {left right : ℕ} (g : GoodPair T left right) (s : Scope)
   unfolding most_of
   ask_flatten = record { pair_ok = g; states_ok = scoped.wild; room = let f = tree_few T g.table right g.second in omega arith }
 
-  module _ {before known mid : List ℕ} {done : Flattened} (f : Flattens (nodes_flat T left right) T (most_of T right) states before 0 known mid done) where
-    came : (r : Flattened) → done ≡ r → FlattenedAs (flatten (is_unbound s RespectParent) (expr T right) (expr T left) []) [] (most_of T right) states before 0 known mid r
+  module _ {before known mid : List ℕ} {done : Result ℕ PlanRefusal} (f : Flattens (nodes_flat T left right) T (most_of T right) states before 0 known mid done) where
+    came : (r : Result ℕ PlanRefusal) → done ≡ r → FlattenedAs (flatten (is_unbound s RespectParent) (expr T right) (expr T left) []) [] (most_of T right) states before 0 known mid r
     unfolding nodes_flat
-    came r e = subst (λ (x : Flattened). FlattenedAs (flatten (is_unbound s RespectParent) (expr T right) (expr T left) []) [] (most_of T right) states before 0 known mid x) e (f.each (is_unbound s RespectParent) [] scoped)
+    came r e = subst (λ (x : Result ℕ PlanRefusal). FlattenedAs (flatten (is_unbound s RespectParent) (expr T right) (expr T left) []) [] (most_of T right) states before 0 known mid x) e (f.each (is_unbound s RespectParent) [] scoped)
 
-    pub pairs_refused : {answer : PlanAnswer} {later : List ℕ} → done ≡ Refused answer → length mid ≡ length before → later ≡ replicate (length mid) 0
-        → Answered (flat_outcome (flatten (is_unbound s RespectParent) (expr T right) (expr T left) [])) before later answer
+    pub pairs_refused : {answer : PlanRefusal} {later : List ℕ} → done ≡ Err answer → length mid ≡ length before → later ≡ replicate (length mid) 0
+        → Answered (flat_outcome (flatten (is_unbound s RespectParent) (expr T right) (expr T left) [])) before later (Err answer)
     pairs_refused {answer} e long zeros =
-        let c = (came (Refused answer) e).failed in
+        let c = (came (Err answer) e).failed in
         rw c.is (refuses c.refusal c.line (rw long at zeros))
 
-    pub pairs_planned : {at : ℕ} {later : List ℕ} {r : PlanAnswer} → done ≡ Next at → Closed 4 at mid later r
+    pub pairs_planned : {at : ℕ} {later : List ℕ} {r : Result Plan PlanRefusal} → done ≡ Ok at → Closed 4 at mid later r
         → Answered (flat_outcome (flatten (is_unbound s RespectParent) (expr T right) (expr T left) [])) before later r
     pairs_planned {at} e d =
-        let c = came (Next at) e in
+        let c = came (Ok at) e in
         rw c.is (wrote_closed 4 (pairs_entries c.pairs) c.wrote d)

@@ -1,4 +1,5 @@
 -- The keys of two objects, answer by answer.
+use Rattle.std.proofs.Common.{Err, Ok}
 use Prim.Native.Nat.{ℕ, ◌+◌, ◌*◌, ◌≤◌, ◌<◌}
 use mathlib.Core.Path.{◌≡◌, refl, sym, subst, ◌∙◌}
 use mathlib.Core.Bool.{Bool, cond}
@@ -8,11 +9,9 @@ use borrow.Author.Tests.{eq-eqb, ne_eqb}
 use lib.Dec.{eqb}
 use Rattle.table.specs.Tables.{Tables, first_word_of, count_of, child_at}
 use Rattle.table.specs.Decode.{fields_of}
-use Rattle.planner.specs.declared.PlanAnswer.TheVariants.{ObjectFieldCountMismatch, ObjectKeyNotFound}
+use Rattle.planner.specs.declared.PlanRefusal.TheVariants.{ObjectFieldCountMismatch, ObjectKeyNotFound}
 use Rattle.base.specs.Refusal.{object_field_count_mismatch, object_key_not_found}
 use Rattle.planner.specs.code.Post.{OrderAsks, OrderedBy}
-use Rattle.assignment.specs.declared.keys.ObjectPairs.{ObjectPairs}
-use Rattle.assignment.specs.declared.keys.ObjectPairs.TheVariants.{Matched}
 use Rattle.assignment.specs.Pairs.{failed, distinct_keys}
 use Rattle.assignment.specs.code.KeyMatching.{missing_from, InOrder, LiteralNode, MissingAsks, KeysAsks, KeysMatched}
 use Rattle.assignment.specs.code.Flats.{objects_flat, fields_flat}
@@ -32,7 +31,7 @@ module _ {T : Tables} {left right : ℕ} (a : KeysAsks T left right) {left-first
     by_keys = subst (OrderedBy T (first_word_of T.nodes left) (count_of T.nodes left) order) (total_distinct in_order) in_order.ordered
 
     module _ {count : ℕ} (is_right : count ≡ count_of T.nodes right) where
-      pub keys_differ : (keys ≡ count → ⊥) → KeysMatched T left right order (ObjectPairs.Refused (ObjectFieldCountMismatch left keys count))
+      pub keys_differ : (keys ≡ count → ⊥) → KeysMatched T left right order (Err (ObjectFieldCountMismatch left keys count))
       unfolding objects_flat
       keys_differ differ =
           let d = total_distinct in_order in
@@ -61,10 +60,10 @@ module _ {T : Tables} {left right : ℕ} (a : KeysAsks T left right) {left-first
               rw (is_first, is_right) (simp z (check_missing T a.both.left_ok (first_word_of T.nodes right) (count_of T.nodes right) (rw (is_first, is_right) at literal_at_lem) (fields_flat T left (first_word_of T.nodes right) (count_of T.nodes right) u seen)))
 
           module _ {key : ℕ} (is_key : key ≡ missing_from T left first count) where
-            pub key_missing : (key ≡ 0 → ⊥) → KeysMatched T left right order (ObjectPairs.Refused (ObjectKeyNotFound key))
+            pub key_missing : (key ≡ 0 → ⊥) → KeysMatched T left right order (Err (ObjectKeyNotFound key))
             key_missing gone = let z = ne_eqb (missing_from T left first count) 0 (λ e. gone (is_key ∙ e)) in record { ordered = by_keys; told = λ u seen. record { refusal = object_key_not_found key; is = flat_is u seen ∙ rw is_key (simp z); line = refl } }
 
-            pub keys_same : key ≡ 0 → KeysMatched T left right order (Matched keys)
+            pub keys_same : key ≡ 0 → KeysMatched T left right order (Ok keys)
             keys_same none_missing =
                 let z = eq-eqb (missing_from T left first count) 0 (sym is_key ∙ none_missing) in
                 record {

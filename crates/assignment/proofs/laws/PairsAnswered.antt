@@ -14,7 +14,7 @@ use Rattle.table.specs.Check.{checked, all_nodes}
 use Rattle.table.specs.code.Sound.{Node, WellFormed}
 use Rattle.table.proofs.tests.Bools.{and_true}
 use Rattle.table.proofs.trees.Facts.{sound_table}
-use Rattle.planner.specs.declared.PlanAnswer.TheVariants.{Planned}
+use Rattle.planner.specs.Answer.{planned_as}
 use Rattle.base.specs.Refusal.{root_outside, incompatible_destructuring_patterns, Tested}
 use Rattle.planner.specs.Layout.{Entry, top, entries, binds_any}
 use Rattle.planner.specs.Simple.{simple}
@@ -71,7 +71,7 @@ module _ (T : Tables) (s : Scope) where
         go Refusal.passed ok = in_table ok (all_nodes T (left ∷ (right ∷ []))) refl (eqb (side_of T left right) 0)
         go (Refusal.refused r) e = tt
 
-    buffer_keeps : (o : Outcome) → Keeps T s o → (before after : List ℕ) (side count : ℕ) → Answered o before after (Planned 4 side count) → EntriesPromise T s (read_entries after 0 count)
+    buffer_keeps : (o : Outcome) → Keeps T s o → (before after : List ℕ) (side count : ℕ) → Answered o before after (planned_as 4 side count) → EntriesPromise T s (read_entries after 0 count)
     buffer_keeps o k before after side count r = (subst (Keeps T s) (read_back o r).is k) refl
 
     pub answer_promise : AnswerPromise T s left right

@@ -10,7 +10,7 @@ use lib.Dec.{eqb, leb}
 use lib.ListN.{length, replicate}
 use Rattle.scope.specs.declared.Scope.{Scope}
 use Rattle.scope.specs.declared.ScopingMode.TheVariants.{RespectParent, AllowShadowing}
-use Rattle.std.proofs.Common.{Result, Ok}
+use Rattle.std.proofs.Common.{Result, Ok, Err}
 use Rattle.table.specs.declared.NameClass.{NameClass}
 use Rattle.table.specs.declared.NameClass.TheVariants.{Underscore, InputOrData, Ordinary}
 use Rattle.table.specs.Tables.{Tables, kind_of, first_word_of, name_bytes, is_node}
@@ -21,8 +21,10 @@ use Rattle.table.specs.Check.{TableAnswered}
 use Rattle.table.specs.code.Sound.{Node, WellFormed}
 use Rattle.table.proofs.trees.Trees.{expr_name, expr_array, expr_object}
 use Rattle.planner.specs.Names.{state_by, states_of}
-use Rattle.planner.specs.declared.PlanAnswer.{PlanAnswer}
-use Rattle.planner.specs.declared.PlanAnswer.TheVariants.{Planned, RootOutside, ColonEqualsRequiresBindableLeft, VariableAlreadyDefined}
+use Rattle.planner.specs.declared.Plan.{Plan}
+use Rattle.planner.specs.declared.PlanRefusal.{PlanRefusal}
+use Rattle.planner.specs.Answer.{planned_as}
+use Rattle.planner.specs.declared.PlanRefusal.TheVariants.{RootOutside, ColonEqualsRequiresBindableLeft, VariableAlreadyDefined}
 use Rattle.base.specs.Refusal.{colon_equals_requires_bindable_left}
 use Rattle.planner.specs.Layout.{Entry, top, entry_words, entries, words, binds_any, introduces_binding}
 use Rattle.planner.specs.Plan.{DestructuringPlan, plan}
@@ -44,7 +46,7 @@ use Rattle.assignment.specs.code.Binding.{BindAsks, underscore_at, underscore_si
 use Rattle.checks.proofs.Refused.{passes_undefined, refuses_defined}
 
 -- no entries
-pub none_delivered : (form side : ℕ) {before later : List ℕ} → later ≡ replicate (length before) 0 → Answered (planned form side []) before later (Planned form side 0)
+pub none_delivered : (form side : ℕ) {before later : List ℕ} → later ≡ replicate (length before) 0 → Answered (planned form side []) before later (planned_as form side 0)
 unfolding answered written words
 none_delivered form side {before} e =
     let z = leb_zero (length before / entry_words) in
@@ -55,16 +57,16 @@ none_delivered form side {before} e =
 
 -- `:=` from the left side's entries
 module _ (T : Tables) (s : Scope) (left right : ℕ) (reading : Reading) (es : List Entry) {before later : List ℕ} {b : Bool} (of : b ≡ binds_any es) where
-  pub colon_unbound : not b ≡ true → later ≡ replicate (length before) 0 → Answered (colon_equals_from T s left right reading es) before later (ColonEqualsRequiresBindableLeft left)
+  pub colon_unbound : not b ≡ true → later ≡ replicate (length before) 0 → Answered (colon_equals_from T s left right reading es) before later (Err (ColonEqualsRequiresBindableLeft left))
   colon_unbound n z = let p : binds_any es ≡ false = sym of ∙ not-true b n in simp p (refuses (colon_equals_requires_bindable_left left) refl z)
 
   module _ (binds : not b ≡ false) {name : ℕ} (is : name ≡ first_same_scope T.nodes s es) where
-    pub colon_defined : (name ≡ 0 → ⊥) → later ≡ replicate (length before) 0 → Answered (colon_equals_from T s left right reading es) before later (VariableAlreadyDefined name)
+    pub colon_defined : (name ≡ 0 → ⊥) → later ≡ replicate (length before) 0 → Answered (colon_equals_from T s left right reading es) before later (Err (VariableAlreadyDefined name))
     colon_defined d z =
         let p : binds_any es ≡ true = sym of ∙ not-false b binds in
         simp (p, sym is) (refuses_defined (bind_side T 1 left right reading es) d z)
 
-    pub colon_binds : {r : PlanAnswer} → name ≡ 0 → Answered (bind_side T 1 left right reading es) before later r → Answered (colon_equals_from T s left right reading es) before later r
+    pub colon_binds : {r : Result Plan PlanRefusal} → name ≡ 0 → Answered (bind_side T 1 left right reading es) before later r → Answered (colon_equals_from T s left right reading es) before later r
     colon_binds e a =
         let p : binds_any es ≡ true = sym of ∙ not-false b binds in
         simp (p, sym is) (passes_undefined (bind_side T 1 left right reading es) e a)
@@ -88,7 +90,7 @@ module _ (T : Tables) (a b : ℕ) (g : GoodPair T a b) where
         let long = wrote_long p.wrote in
         record { pair = g; read = record { few = p.few; held = omega arith } }
 
-    pub colon_planned : (reading : Reading) {plan later : List ℕ} {r : PlanAnswer} → Answered (colon_equals_from T s a b reading (read_entries scratch 0 count)) plan later r → Answered (colon_equals_planned T s a b reading) plan later r
+    pub colon_planned : (reading : Reading) {plan later : List ℕ} {r : Result Plan PlanRefusal} → Answered (colon_equals_from T s a b reading (read_entries scratch 0 count)) plan later r → Answered (colon_equals_planned T s a b reading) plan later r
     colon_planned reading {plan} {later} {r} answer =
         let e = wrote_read p.wrote held in
         subst (λ (es : List Entry). Answered (colon_equals_from T s a b reading es) plan later r) e answer
@@ -169,7 +171,7 @@ module _ (T : Tables) (s : Scope) (left right : ℕ) (g : GoodPair T left right)
     right_is : binds_any (entries (plan_of T s RespectParent right) top) ≡ other
     right_is = told_by g.second told.right_told
 
-    module _ (reading : Reading) {before later : List ℕ} {answer : PlanAnswer} where
+    module _ (reading : Reading) {before later : List ℕ} {answer : Result Plan PlanRefusal} where
       pub equals_both : one ≡ true → other ≡ true → Answered (pairs_outcome T s left right) before later answer → Answered (equals_sides T s left right reading) before later answer
       equals_both p q a = simp (left_is ∙ p, right_is ∙ q) a
 
@@ -187,7 +189,7 @@ module _ (T : Tables) (s : Scope) (left right : ℕ) (g : GoodPair T left right)
       equals_none p q a = simp (left_is ∙ p, right_is ∙ q) a
 
 -- the right side, planned anew
-pub bound_right : {T : Tables} {states : List ℕ} (left : ℕ) {right : ℕ} (reading : Reading) {start binders scratch : List ℕ} {count : ℕ} {b : Bool} → Previewed T states right 0 start binders scratch count b → {before later : List ℕ} {r : PlanAnswer}
+pub bound_right : {T : Tables} {states : List ℕ} (left : ℕ) {right : ℕ} (reading : Reading) {start binders scratch : List ℕ} {count : ℕ} {b : Bool} → Previewed T states right 0 start binders scratch count b → {before later : List ℕ} {r : Result Plan PlanRefusal}
     → Answered (bind_side T 3 right left reading (read_entries scratch 0 count)) before later r → RightBound T states left right reading start binders scratch before later r
 bound_right left reading seen answer = record { answered = rw (previewed_entries seen) at answer; written = previewed_written seen }
 
@@ -196,14 +198,14 @@ module _ (T : Tables) (s : Scope) (left right : ℕ) (reading : Reading) (g : Go
   side_is : side_of T left right ≡ side
   side_is = sym (is ∙ ap₂ wildcard_side (underscore_is T left g.table g.first) (underscore_is T right g.table g.second))
 
-  pub equals_wild : {before later : List ℕ} {r : PlanAnswer} → (side ≡ 0 → ⊥) → Answered (planned 6 side []) before later r → Answered (equals_planned T s left right reading) before later r
+  pub equals_wild : {before later : List ℕ} {r : Result Plan PlanRefusal} → (side ≡ 0 → ⊥) → Answered (planned 6 side []) before later r → Answered (equals_planned T s left right reading) before later r
   equals_wild d a = let q = ne_eqb side 0 d in simp (side_is, q) a
 
-  pub equals_sides_lem : {before later : List ℕ} {r : PlanAnswer} → side ≡ 0 → Answered (equals_sides T s left right reading) before later r → Answered (equals_planned T s left right reading) before later r
+  pub equals_sides_lem : {before later : List ℕ} {r : Result Plan PlanRefusal} → side ≡ 0 → Answered (equals_sides T s left right reading) before later r → Answered (equals_planned T s left right reading) before later r
   equals_sides_lem e a = let q = side_is ∙ e in simp q a
 
 -- by the operator
-module _ (T : Tables) (s : Scope) (op : AssignOp) (left right : ℕ) (reading : Reading) {before later : List ℕ} {r : PlanAnswer} where
+module _ (T : Tables) (s : Scope) (op : AssignOp) (left right : ℕ) (reading : Reading) {before later : List ℕ} {r : Result Plan PlanRefusal} where
   pub assigns_colon : op ≡ ColEq → Answered (colon_equals_planned T s left right reading) before later r → Answered (by_operator op T s left right reading) before later r
   assigns_colon e a = simp e a
 
@@ -213,19 +215,19 @@ module _ (T : Tables) (s : Scope) (op : AssignOp) (left right : ℕ) (reading : 
 -- the table check and both roots
 module _ (T : Tables) (s : Scope) (op : AssignOp) (left right : ℕ) (reading : Reading) {c : Result Unit TableRefusal} (is : TableAnswered T s c) (sound : c ≡ Ok tt) {before later : List ℕ} where
   module _ {l : Bool} (in_left : l ≡ is_node T left) where
-    pub left_outside : not l ≡ true → later ≡ replicate (length before) 0 → Answered (assignment_outcome T s op left right reading) before later RootOutside
+    pub left_outside : not l ≡ true → later ≡ replicate (length before) 0 → Answered (assignment_outcome T s op left right reading) before later (Err RootOutside)
     left_outside n z =
         let p : is_node T left ≡ false = sym in_left ∙ not-true l n in
         roots_refuse T s (check_passes T s is sound) (left ∷ (right ∷ [])) (by_operator op T s left right reading) (rw p) z
 
     module _ (at_left : not l ≡ false) {r : Bool} (in_right : r ≡ is_node T right) where
-      pub right_outside : not r ≡ true → later ≡ replicate (length before) 0 → Answered (assignment_outcome T s op left right reading) before later RootOutside
+      pub right_outside : not r ≡ true → later ≡ replicate (length before) 0 → Answered (assignment_outcome T s op left right reading) before later (Err RootOutside)
       right_outside n z =
           let p : is_node T left ≡ true = sym in_left ∙ not-false l at_left in
           let o : is_node T right ≡ false = sym in_right ∙ not-true r n in
           roots_refuse T s (check_passes T s is sound) (left ∷ (right ∷ [])) (by_operator op T s left right reading) (rw (p, o)) z
 
-      module _ (at_right : not r ≡ false) {answer : PlanAnswer} where
+      module _ (at_right : not r ≡ false) {answer : Result Plan PlanRefusal} where
         pub both_inside : Answered (by_operator op T s left right reading) before later answer → Answered (assignment_outcome T s op left right reading) before later answer
         both_inside a =
             let p : is_node T left ≡ true = sym in_left ∙ not-false l at_left in

@@ -1,19 +1,20 @@
 -- The pairs of nodes of a table, and how many entries they can have.
-use Rattle.std.specs.Prelude.{ℕ, ◌*◌, ◌≡◌, Bool, List, [], ◌∷◌, eqb, length}
+use Rattle.std.specs.Prelude.{ℕ, ◌*◌, ◌≡◌, Bool, List, [], ◌∷◌, eqb, length, Result, Err}
 use Rattle.table.specs.Tables.{Tables, first_word_of, count_of}
 use Rattle.table.specs.Decode.{expr, items, fields, fields_of}
 use Rattle.table.specs.Expr.{parts, parts_all, parts_fields}
-use Rattle.planner.specs.declared.PlanAnswer.{PlanAnswer}
+use Rattle.planner.specs.declared.Plan.{Plan}
+use Rattle.planner.specs.declared.PlanRefusal.{PlanRefusal}
 use Rattle.base.specs.Refusal.{Refusal, array_size_mismatch, object_field_count_mismatch, refusal_line}
 use Rattle.planner.specs.Answer.{line_of}
 use Rattle.planner.specs.Plan.{plan, after}
 use Rattle.assignment.specs.Pairs.{pair, Flat, failed, require, paired, distinct_keys, check_keys, flatten, flatten_all, flatten_fields}
 
 -- a refusal, and an answer that says it
-pub record FailedAs (o : Flat) (a : PlanAnswer) : Type 0 where
+pub record FailedAs (o : Flat) (a : PlanRefusal) : Type 0 where
   pub refusal : Refusal
   pub is : o ≡ failed refusal
-  pub line : line_of a ≡ refusal_line refusal
+  pub line : line_of (Err a) ≡ refusal_line refusal
 
 -- two nodes; the items of two arrays; the fields of two objects
 unfoldable pub nodes_flat : Tables → ℕ → ℕ → (ℕ → Bool) → List ℕ → Flat

@@ -1,13 +1,12 @@
 -- What the functions of `flatten` ask and say.
-use Rattle.std.specs.Prelude.{ℕ, ◌+◌, ◌-◌, ◌^◌, ◌≤◌, ◌<◌, ◌≡◌, Bool, cond, ◌&&◌, List, [], ◌∷◌, ◌++◌, eqb, length, get_or}
+use Rattle.std.specs.Prelude.{ℕ, ◌+◌, ◌-◌, ◌^◌, ◌≤◌, ◌<◌, ◌≡◌, Bool, cond, ◌&&◌, List, [], ◌∷◌, ◌++◌, eqb, length, get_or, Result, Ok, Err}
 use Rattle.base.specs.Lent.{MutSlice, MutSlices, old, new}
 use Rattle.table.specs.Tables.{Tables, kind_of, child_at}
 use Rattle.base.specs.Lists.{elem}
 use Rattle.table.specs.code.Sound.{Node, WellFormed}
-use Rattle.planner.specs.declared.PlanAnswer.{PlanAnswer}
+use Rattle.planner.specs.declared.Plan.{Plan}
+use Rattle.planner.specs.declared.PlanRefusal.{PlanRefusal}
 use Rattle.planner.specs.Layout.{Entry, below, top, entry}
-use Rattle.assignment.specs.declared.flatten.Flattened.{Flattened}
-use Rattle.assignment.specs.declared.flatten.Flattened.TheVariants.{Next, Refused}
 use Rattle.planner.specs.code.Post.{NameNumber, States, GoodPair}
 use Rattle.planner.specs.Entries.{Wrote}
 use Rattle.assignment.specs.Pairs.{Pair, pairs_entries, Flat, paired}
@@ -16,16 +15,12 @@ use Rattle.assignment.specs.code.Flats.{FailedAs, side_flat, nodes_flat, arrays_
 use Rattle.assignment.specs.code.KeyMatching.{KeysAsks, SameKeys}
 
 -- the two entries of sides that are compared
-pub record Compared (left right : ℕ) (before : List ℕ) (at : ℕ) (after : List ℕ) (r : Flattened) : Type 0 where
-  pub next : ℕ
-  pub is : r ≡ Next next
-  pub wrote : Wrote before at (entry 7 right 1 top ∷ entry 3 left 0 (below 0 1) ∷ []) after next
+pub record Compared (left right : ℕ) (before : List ℕ) (at : ℕ) (after : List ℕ) (r : ℕ) : Type 0 where
+  pub wrote : Wrote before at (entry 7 right 1 top ∷ entry 3 left 0 (below 0 1) ∷ []) after r
 
 -- the entries of a side that is bound, and its names known
-pub record Bound (value : ℕ) (es : List Entry) (states₀ binders before : List ℕ) (at : ℕ) (states after : List ℕ) (r : Flattened) : Type 0 where
-  pub next : ℕ
-  pub is : r ≡ Next next
-  pub wrote : Wrote before at (entry 7 value 1 top ∷ es) after next
+pub record Bound (value : ℕ) (es : List Entry) (states₀ binders before : List ℕ) (at : ℕ) (states after : List ℕ) (r : ℕ) : Type 0 where
+  pub wrote : Wrote before at (entry 7 value 1 top ∷ es) after r
   pub learnt : Learnt states₀ binders states
 
 -- the names given become known, and no other state changes
@@ -45,7 +40,7 @@ pub record Reached (o : Flat) (seen : List ℕ) (most : ℕ) (states₀ before :
   pub learns : Learns names states₀ states
 
 -- a refusal, and the pairs and names before it
-pub record Stopped (o : Flat) (states₀ before : List ℕ) (at : ℕ) (states after : List ℕ) (a : PlanAnswer) : Type 0 where
+pub record Stopped (o : Flat) (states₀ before : List ℕ) (at : ℕ) (states after : List ℕ) (a : PlanRefusal) : Type 0 where
   pub failed : FailedAs o a
   pub pairs : List Pair
   pub names : List ℕ
@@ -53,12 +48,12 @@ pub record Stopped (o : Flat) (states₀ before : List ℕ) (at : ℕ) (states a
   pub wrote : Wrote before at (pairs_entries pairs) after end
   pub learns : Learns names states₀ states
 
-abbrev pub FlattenedAs : Flat → List ℕ → ℕ → List ℕ → List ℕ → ℕ → List ℕ → List ℕ → Flattened → Type 0
-FlattenedAs o seen most states₀ before at states after (Next r) = Reached o seen most states₀ before at states after r
-FlattenedAs o seen most states₀ before at states after (Refused a) = Stopped o states₀ before at states after a
+abbrev pub FlattenedAs : Flat → List ℕ → ℕ → List ℕ → List ℕ → ℕ → List ℕ → List ℕ → Result ℕ PlanRefusal → Type 0
+FlattenedAs o seen most states₀ before at states after (Ok r) = Reached o seen most states₀ before at states after r
+FlattenedAs o seen most states₀ before at states after (Err a) = Stopped o states₀ before at states after a
 
 -- f of a scope's answers and the names planned so far, at most `most` entries; whatever scope the states stand for
-pub record Flattens (f : (ℕ → Bool) → List ℕ → Flat) (T : Tables) (most : ℕ) (states₀ before : List ℕ) (at : ℕ) (states after : List ℕ) (r : Flattened) : Type 0 where
+pub record Flattens (f : (ℕ → Bool) → List ℕ → Flat) (T : Tables) (most : ℕ) (states₀ before : List ℕ) (at : ℕ) (states after : List ℕ) (r : Result ℕ PlanRefusal) : Type 0 where
   pub each : (unbound : ℕ → Bool) (seen : List ℕ) → Scoped T unbound seen states₀ → FlattenedAs (f unbound seen) seen most states₀ before at states after r
 
 pub record SideAsks (T : Tables) (states : List ℕ) (pattern value at : ℕ) : Type 0 where
@@ -115,18 +110,18 @@ abbrev pub ObjectFieldsAsksIn : MutSlice → Tables → List ℕ → ℕ → ℕ
 ObjectFieldsAsksIn scratch T states left right order total at = ObjectFieldsAsks T states left right order total at × Roomy T scratch.now
 
 -- what each says of what it is lent
-abbrev pub SideFlattened : MutSlices → MutSlices → MutSlices → MutSlices → Tables → ℕ → ℕ → ℕ → Flattened → Type 0
+abbrev pub SideFlattened : MutSlices → MutSlices → MutSlices → MutSlices → Tables → ℕ → ℕ → ℕ → ℕ → Type 0
 SideFlattened states scratch binders plan T pattern value at r =
-    Flattens (side_flat T pattern value) T 513 (old states) (old plan) at (new states) (new plan) r × SideWritten T (old states) pattern 1 (old scratch) (new binders) (new scratch)
+    Flattens (side_flat T pattern value) T 513 (old states) (old plan) at (new states) (new plan) (Ok r) × SideWritten T (old states) pattern 1 (old scratch) (new binders) (new scratch)
 
-abbrev pub NodesFlattened : MutSlices → MutSlices → Tables → ℕ → ℕ → ℕ → Flattened → Type 0
+abbrev pub NodesFlattened : MutSlices → MutSlices → Tables → ℕ → ℕ → ℕ → Result ℕ PlanRefusal → Type 0
 NodesFlattened states plan T left right at r = Flattens (nodes_flat T left right) T (most_of T right) (old states) (old plan) at (new states) (new plan) r
 
-abbrev pub ArraysFlattened : MutSlices → MutSlices → Tables → ℕ → ℕ → ℕ → Flattened → Type 0
+abbrev pub ArraysFlattened : MutSlices → MutSlices → Tables → ℕ → ℕ → ℕ → Result ℕ PlanRefusal → Type 0
 ArraysFlattened states plan T left right at r = Flattens (arrays_flat T left right) T (most_of T right) (old states) (old plan) at (new states) (new plan) r
 
-abbrev pub ItemsFlattened : MutSlices → MutSlices → Tables → ℕ → ℕ → ℕ → ℕ → Flattened → Type 0
+abbrev pub ItemsFlattened : MutSlices → MutSlices → Tables → ℕ → ℕ → ℕ → ℕ → Result ℕ PlanRefusal → Type 0
 ItemsFlattened states plan T left right k at r = Flattens (items_flat T left right k) T (most_items T right k) (old states) (old plan) at (new states) (new plan) r
 
-abbrev pub ObjectsFlattened : MutSlices → MutSlices → Tables → ℕ → ℕ → ℕ → Flattened → Type 0
+abbrev pub ObjectsFlattened : MutSlices → MutSlices → Tables → ℕ → ℕ → ℕ → Result ℕ PlanRefusal → Type 0
 ObjectsFlattened states plan T left right at r = Flattens (objects_flat T left right) T (most_of T right) (old states) (old plan) at (new states) (new plan) r

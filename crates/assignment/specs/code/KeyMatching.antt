@@ -1,5 +1,6 @@
 -- The keys of two objects: what the functions of `keys` ask and say.
-use Rattle.std.specs.Prelude.{ℕ, zero, suc, ◌+◌, ◌*◌, ◌^◌, ◌≤◌, ◌<◌, ◌≡◌, Bool, true, cond, List, eqb, leb}
+use Rattle.planner.specs.declared.PlanRefusal.{PlanRefusal}
+use Rattle.std.specs.Prelude.{ℕ, zero, suc, ◌+◌, ◌*◌, ◌^◌, ◌≤◌, ◌<◌, ◌≡◌, Bool, true, cond, List, eqb, leb, Result, Ok, Err}
 use Rattle.std.proofs.Math.Option.{Option}
 use Rattle.base.specs.Lists.{all_from}
 use Rattle.literal.specs.Literal.{Literal}
@@ -9,8 +10,6 @@ use Rattle.table.specs.code.Sound.{Node, WellFormed}
 use Rattle.planner.specs.Layout.{Slot}
 use Rattle.planner.specs.code.Passes.{value_node, order_of}
 use Rattle.planner.specs.code.Post.{OrderedBy}
-use Rattle.assignment.specs.declared.keys.ObjectPairs.{ObjectPairs}
-use Rattle.assignment.specs.declared.keys.ObjectPairs.TheVariants.{Matched}
 use Rattle.planner.specs.Held.{held_under}
 use Rattle.assignment.specs.Pairs.{all_literal, distinct_keys}
 use Rattle.assignment.specs.code.Flats.{FailedAs, fields_flat, objects_flat}
@@ -99,11 +98,11 @@ pub record SameKeys (T : Tables) (left right : ℕ) (order : List ℕ) (total : 
   pub listed : first_word_of T.nodes right + count_of T.nodes right * 2 ≤ 512
   pub flat : (unbound : ℕ → Bool) (seen : List ℕ) → objects_flat T left right unbound seen ≡ fields_flat T left (first_word_of T.nodes right) (count_of T.nodes right) unbound seen
 
-abbrev pub MatchedBy : Tables → ℕ → ℕ → List ℕ → ObjectPairs → Type 0
-MatchedBy T left right order (Matched total) = SameKeys T left right order total
-MatchedBy T left right order (ObjectPairs.Refused a) = (unbound : ℕ → Bool) (seen : List ℕ) → FailedAs (objects_flat T left right unbound seen) a
+abbrev pub MatchedBy : Tables → ℕ → ℕ → List ℕ → Result ℕ PlanRefusal → Type 0
+MatchedBy T left right order (Ok total) = SameKeys T left right order total
+MatchedBy T left right order (Err a) = (unbound : ℕ → Bool) (seen : List ℕ) → FailedAs (objects_flat T left right unbound seen) a
 
 -- the left object's fields in order, whatever the answer
-pub record KeysMatched (T : Tables) (left right : ℕ) (order : List ℕ) (r : ObjectPairs) : Type 0 where
+pub record KeysMatched (T : Tables) (left right : ℕ) (order : List ℕ) (r : Result ℕ PlanRefusal) : Type 0 where
   pub ordered : OrderedBy T (first_word_of T.nodes left) (count_of T.nodes left) order (distinct_keys (fields_of T left))
   pub told : MatchedBy T left right order r

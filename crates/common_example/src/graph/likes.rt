@@ -6,7 +6,6 @@ ghost use Rattle.common_example.specs.code.arrays.Likes.{likes, LikesAsks};
 
 use base::insertion::insert_at;
 use literal::Comparison;
-use planner::inner::fields::Found;
 use table::reading::compare_literals;
 use value::inner::fields::same_literals;
 
@@ -17,7 +16,7 @@ struct Added {
     pub count: usize,
 }
 
-// The place of a node's literal among `count` others in key order, by binary search.
+// The place of an equal literal among `count` in key order, or the place where a new one goes in, by binary search.
 fn find_literal<'a>(
     nodes: &[u32],
     numbers: &[u64],
@@ -26,9 +25,9 @@ fn find_literal<'a>(
     node: u32,
     order: &[u32; 512],
     count: usize,
-) -> Found
+) -> Result<usize, usize>
     requires { FindAsks (literal_node nodes.now numbers.now strings.now text.now) node order.now count }
-    ensures { LiteralFound (literal_node nodes.now numbers.now strings.now text.now) node order.now count result.place result.equal }
+    ensures { LiteralFound (literal_node nodes.now numbers.now strings.now text.now) node order.now count result }
 {
     let mut low: usize = 0;
     let mut high = count;
@@ -38,19 +37,13 @@ fn find_literal<'a>(
         let way = compare_literals(nodes, numbers, strings, text, node, other);
         match way {
             Comparison::Equal => {
-                return Found {
-                    place: middle,
-                    equal: true,
-                };
+                return Ok(middle);
             }
             Comparison::Less => high = middle,
             _ => low = middle + 1,
         }
     }
-    Found {
-        place: low,
-        equal: false,
-    }
+    Err(low)
 }
 
 // One more node; one that is not equal to itself is no literal, and has 0.
@@ -70,18 +63,18 @@ fn add_node<'a>(
     if !literal {
         return Added { like: 0, count };
     }
-    let found = find_literal(nodes, numbers, strings, text, node, order, count);
-    let place = found.place;
-    if found.equal {
-        return Added {
+    match find_literal(nodes, numbers, strings, text, node, order, count) {
+        Ok(place) => Added {
             like: order[place],
             count,
-        };
-    }
-    insert_at(order, place, count, node);
-    Added {
-        like: node,
-        count: count + 1,
+        },
+        Err(place) => {
+            insert_at(order, place, count, node);
+            Added {
+                like: node,
+                count: count + 1,
+            }
+        }
     }
 }
 

@@ -1,4 +1,5 @@
 -- Entries put into the lent buffer as far as they fit.
+use Rattle.std.proofs.Common.{Result}
 use Prim.Native.Nat.{ℕ, suc, ◌+◌, ◌-◌, ◌*◌, ◌/◌, ◌≤◌, ◌<◌}
 use mathlib.Core.Path.{◌≡◌, refl, sym, ap, ◌∙◌}
 use mathlib.Core.Bool.{Bool, true, false}
@@ -8,7 +9,8 @@ use borrow.Author.Tests.{lt-ltb, le-ltb, leb-true}
 use lib.Dec.{leb, ltb}
 use lib.ListN.{length, get_or, set, length-append}
 use lib.Seq.{length-sets}
-use Rattle.planner.specs.declared.PlanAnswer.{PlanAnswer}
+use Rattle.planner.specs.declared.Plan.{Plan}
+use Rattle.planner.specs.declared.PlanRefusal.{PlanRefusal}
 use Rattle.planner.specs.Layout.{Entry, entry_words, below, entry, words}
 use Rattle.planner.specs.Entries.{entry_at, read_entries, put_entry, put_entries, Wrote, Closed, word_at}
 use Rattle.planner.specs.Operations.{planned, answered, written, Answered}
@@ -142,7 +144,7 @@ pub clearing_start : (plan : List ℕ) (from : ℕ) → Filling (word_at plan fr
 clearing_start plan from = record { long = refl; each = λ k lt. word_in plan from k lt }
 
 -- the plan in the buffer, and zeros behind it
-pub wrote_closed : (form : ℕ) (es : List Entry) {before mid later : List ℕ} {at : ℕ} {r : PlanAnswer} → Wrote before 0 es mid at → Closed form at mid later r → Answered (planned form 0 es) before later r
+pub wrote_closed : (form : ℕ) (es : List Entry) {before mid later : List ℕ} {at : ℕ} {r : Result Plan PlanRefusal} → Wrote before 0 es mid at → Closed form at mid later r → Answered (planned form 0 es) before later r
 unfolding answered written
 wrote_closed form es {before} {mid} {later} {at} {r} w d = go (leb (length es) (length before / entry_words)) refl
   where

@@ -1,4 +1,5 @@
 -- A plan buffer that is cleared behind the entries.
+use Rattle.std.proofs.Common.{Err}
 use Prim.Native.Nat.{ℕ, zero, suc, ◌+◌, ◌*◌, ◌/◌, ◌≤◌, ◌<◌}
 use mathlib.Core.Path.{◌≡◌, refl, sym, ap, ◌∙◌}
 use mathlib.Core.List.{List, ◌∷◌}
@@ -7,7 +8,8 @@ use borrow.Author.Tests.{le-leb, lt-leb, lt-ltb, le-ltb}
 use lib.ListN.{length, get_or, replicate, get_or-eq_default}
 use Rattle.planner.specs.Entries.{word_at, Closed}
 use Rattle.planner.specs.Layout.{entry_words}
-use Rattle.planner.specs.declared.PlanAnswer.TheVariants.{Planned, PlanTooLarge}
+use Rattle.planner.specs.Answer.{planned_as}
+use Rattle.planner.specs.declared.PlanRefusal.TheVariants.{PlanTooLarge}
 use Rattle.base.specs.Lists.{tabulate}
 pub use Rattle.base.proofs.Filling.{Filling, filling_begin, filling_start, filling_on, filling_next, length_tabulate, get_d_tabulate, tabulate_next, tabulate_same, filling_ends, zeros_end}
 
@@ -34,8 +36,8 @@ all_cleared before e = e ∙ zeros (word_at before 0) (λ i. sym (word_out befor
 
 -- with and without space
 module _ (form count : ℕ) (before after : List ℕ) where
-  pub closed_small : length before / entry_words < count → after ≡ replicate (length before) 0 → Closed form count before after (PlanTooLarge count)
+  pub closed_small : length before / entry_words < count → after ≡ replicate (length before) 0 → Closed form count before after (Err (PlanTooLarge count))
   closed_small lt e = let b = lt-leb count (length before / entry_words) lt in record { answer = simp b; buffer = simp b e }
 
-  pub closed_fits : count ≤ length before / entry_words → after ≡ tabulate (word_at before (count * entry_words)) 0 (length before) → Closed form count before after (Planned form 0 count)
+  pub closed_fits : count ≤ length before / entry_words → after ≡ tabulate (word_at before (count * entry_words)) 0 (length before) → Closed form count before after (planned_as form 0 count)
   closed_fits le e = let b = le-leb count (length before / entry_words) le in record { answer = simp b; buffer = simp b e }

@@ -1,4 +1,5 @@
 -- Entries read back from a scratch or a buffer.
+use Rattle.std.proofs.Common.{Result}
 use Prim.Native.Nat.{ℕ, zero, suc, ◌+◌, ◌-◌, ◌*◌, ◌/◌, ◌≤◌, ◌<◌}
 use mathlib.Core.Path.{◌≡◌, refl, sym, ap, ◌∙◌}
 use mathlib.Core.List.{List, [], ◌∷◌, ◌++◌}
@@ -9,8 +10,9 @@ use lib.Dec.{eqb, leb, ltb}
 use lib.ListN.{length, get_or, drop, replicate, length-replicate, get_or-replicate, length-append, length-drop, get_or-append}
 use lib.Seq.{sets-eq, length-sets, ext_get_or, get_or-append-add, get_or-drop}
 use Rattle.base.specs.Refusal.{Line, line, refusal_line, plan_too_large}
-use Rattle.planner.specs.declared.PlanAnswer.{PlanAnswer}
-use Rattle.planner.specs.declared.PlanAnswer.TheVariants.{Planned}
+use Rattle.planner.specs.declared.Plan.{Plan}
+use Rattle.planner.specs.declared.PlanRefusal.{PlanRefusal}
+use Rattle.planner.specs.Answer.{planned_as}
 use Rattle.planner.specs.Layout.{Entry, entry_words, words}
 use Rattle.planner.specs.Entries.{entry_at, read_entries, Closed, word_at}
 use Rattle.planner.specs.Operations.{Outcome, refused, planned, space, fits, zeros, answered, written, Answered}
@@ -102,7 +104,7 @@ first_words ws scratch size n long fits same =
             ∙ get_or-replicate n (size + (i - length ws)) 0 0 (omega arith)))))
 
 -- what is read and then closed
-pub closed_read : (form : ℕ) {before later : List ℕ} {count : ℕ} {r : PlanAnswer} → Closed form count before later r → Answered (planned form 0 (read_entries before 0 count)) before later r
+pub closed_read : (form : ℕ) {before later : List ℕ} {count : ℕ} {r : Result Plan PlanRefusal} → Closed form count before later r → Answered (planned form 0 (read_entries before 0 count)) before later r
 unfolding answered written
 closed_read form {before} {later} {count} {r} d = go (leb count (length before / entry_words)) refl
   where
@@ -133,7 +135,7 @@ pub record PlanRead (o : Outcome) (before after : List ℕ) (form which count : 
   pub fit : fits (read_entries after 0 count) before ≡ true
   pub held : count * entry_words ≤ length after
 
-pub read_back : (o : Outcome) {before after : List ℕ} {form which count : ℕ} → Answered o before after (Planned form which count) → PlanRead o before after form which count
+pub read_back : (o : Outcome) {before after : List ℕ} {form which count : ℕ} → Answered o before after (planned_as form which count) → PlanRead o before after form which count
 unfolding answered written
 read_back (refused r) a = absurd (false≢true (sym r.refuses ∙ ap (λ (l : Line). eqb l.number 0) (sym a.answer)))
 read_back (planned f w es) {before} {after} {form} {which} {count} a = go (fits es before) refl a.answer a.buffer

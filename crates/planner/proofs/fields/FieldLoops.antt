@@ -1,4 +1,5 @@
 -- The loops that put an object's fields in order: the search for a key's place, the move of the numbers behind it, and the pass over the fields.
+use Rattle.std.proofs.Common.{Result, Ok, Err}
 use Prim.Native.Nat.{ℕ, ◌+◌, ◌-◌, ◌*◌, ◌/◌, ◌≤◌, ◌<◌}
 use mathlib.Core.Path.{◌≡◌, refl, sym, ap, subst, ◌∙◌}
 use mathlib.Core.Bool.{Bool, true, false}
@@ -18,7 +19,7 @@ use Rattle.base.specs.Insertion.{moved}
 use Rattle.base.proofs.Moving.{moved_take, moved_drop}
 use Rattle.base.proofs.Search.{between_start, between_ends}
 use Rattle.literal.specs.Literal.{Literal}
-use Rattle.literal.specs.Order.{compared}
+use Rattle.literal.specs.Order.{same, compared}
 use Rattle.literal.specs.declared.Comparison.{Comparison}
 use Rattle.literal.specs.declared.LiteralRef.{LiteralRef}
 use Rattle.literal.specs.declared.Comparison.TheVariants.{Less, Equal}
@@ -34,7 +35,7 @@ use Rattle.table.proofs.tests.Bytes.{node_refers}
 use Rattle.planner.specs.Layout.{FieldOrder, no_fields, add_field, in_order}
 use Rattle.planner.specs.code.Passes.{key_node, field_key, order_from, order_of}
 use Rattle.planner.specs.code.Post.{OrderAsks, OrderedBy, Arranged}
-use Rattle.planner.specs.code.Ordering.{KeyBetween, FieldsIn, AddAsks, FieldAdded, FindAsks, FoundBy}
+use Rattle.planner.specs.code.Ordering.{At, KeyBetween, FieldsIn, AddAsks, FieldAdded, FindAsks, FoundBy}
 use Rattle.planner.proofs.laws.Sizes.{order_few}
 use Rattle.planner.proofs.fields.FieldOrder.{Ordered, literals_first, at_more, keys_up, keys_down, between_insert, ordered_replace, ordered_append, order_next, ordered_first}
 
@@ -104,10 +105,12 @@ module _ {T : Tables} {first : ℕ} {order : List ℕ} {m : ℕ} {key : LiteralR
     way_at : way ≡ compared (referred T key) (field_key T first (get_or order q 0))
     way_at = rw is-other at is-way
 
-    pub finding_equal : way ≡ Equal → FoundBy (field_key T first) (referred T key) order m q true
+    pub finding_equal : way ≡ Equal → FoundBy (field_key T first) (referred T key) order m (Ok q)
     finding_equal e =
         let n = f.between.inside in
-        record { old = λ t. (omega arith, sym way_at ∙ e); new = λ x. let z : ◌≡◌ {A = ℕ} 0 1 = cc in absurd (omega arith) }
+        let l : q < m = omega arith in
+        let here : (q < m) × At same (field_key T first) (referred T key) order q = (l, sym way_at ∙ e) in
+        record { old = λ {place = p} x. let z : q ≡ p = cc in rw z at here; new = λ {place = p} x. let z : ◌≡◌ {A = ℕ} 0 1 = cc in absurd (omega arith) }
 
     pub finding_down : way ≡ Less → Finding T first order m key low q
     finding_down e = record {
@@ -128,9 +131,10 @@ module _ {T : Tables} {first : ℕ} {order : List ℕ} {m : ℕ} {key : LiteralR
           small = f.small;
         }
 
-  pub finding_ends : high ≤ low → FoundBy (field_key T first) (referred T key) order m low false
+  pub finding_ends : high ≤ low → FoundBy (field_key T first) (referred T key) order m (Err low)
   finding_ends le =
-      record { old = λ x. let z : ◌≡◌ {A = ℕ} 0 1 = cc in absurd (omega arith); new = λ t. between_ends f.between le }
+      let b = between_ends f.between le in
+      record { old = λ {place = p} x. let z : ◌≡◌ {A = ℕ} 0 1 = cc in absurd (omega arith); new = λ {place = p} x. let z : low ≡ p = cc in rw z at b }
 
 -- one field more
 
@@ -190,8 +194,8 @@ module _ {T : Tables} {first i : ℕ} {order : List ℕ} {m total : ℕ} (a : Ad
           let p = add_place a in
           record { fields = i; total = total; so_far = a.so_far; few = omega arith; small = omega arith; own = x.0; literal = key_is ∙ x.1 }
 
-      module _ {place : ℕ} {equal : Bool} (found : FoundBy (field_key T first) (referred T l) order m place equal) where
-        pub added_equal : equal ≡ true → FieldAdded T first i order total (set order place i) m total
+      module _ {found_at : Result ℕ ℕ} (found : FoundBy (field_key T first) (referred T l) order m found_at) {place : ℕ} where
+        pub added_equal : found_at ≡ Ok place → FieldAdded T first i order total (set order place i) m total
         added_equal e =
             let x = key_found in
             let p = rw key_is at (found.old e) in
@@ -202,7 +206,7 @@ module _ {T : Tables} {first i : ℕ} {order : List ℕ} {m total : ℕ} (a : Ad
               behind = drop-set-lt total order place i (omega (arith, p.0));
             }
 
-        pub added_new : equal ≡ false → length order ≡ 256 → {later : List ℕ} → later ≡ moved order place total i → FieldAdded T first i order total later (m + 1) (total + 1)
+        pub added_new : found_at ≡ Err place → length order ≡ 256 → {later : List ℕ} → later ≡ moved order place total i → FieldAdded T first i order total later (m + 1) (total + 1)
         added_new e long {later} is =
             let x = key_found in
             let b = rw key_is at (found.new e) in
@@ -216,8 +220,8 @@ module _ {T : Tables} {first i : ℕ} {order : List ℕ} {m total : ℕ} (a : Ad
               behind = ap (drop (total + 1)) is ∙ moved_drop order place total i (omega arith) (omega arith);
             }
 
-  module _ {own : Option Literal} {place : ℕ} {equal : Bool} (found : FoundBy (field_key T first) own order m place equal) where
-    pub found_place : equal ≡ true → place < 256
+  module _ {own : Option Literal} {found_at : Result ℕ ℕ} (found : FoundBy (field_key T first) own order m found_at) {place : ℕ} where
+    pub found_place : found_at ≡ Ok place → place < 256
     found_place e =
         let p = found.old e in
         let k = literals_few a.so_far in

@@ -21,8 +21,9 @@ use Rattle.table.specs.code.Sound.{Node, WellFormed}
 use Rattle.table.proofs.tests.Bools.{and_true}
 use Rattle.table.proofs.trees.Facts.{sound_table}
 use Rattle.planner.specs.Names.{states_of}
-use Rattle.planner.specs.declared.PlanAnswer.{PlanAnswer}
-use Rattle.planner.specs.declared.PlanAnswer.TheVariants.{TableRefused, RootOutside}
+use Rattle.planner.specs.declared.Plan.{Plan}
+use Rattle.planner.specs.declared.PlanRefusal.{PlanRefusal}
+use Rattle.planner.specs.declared.PlanRefusal.TheVariants.{TableRefused, RootOutside}
 use Rattle.base.specs.Refusal.{Refusal, refusal_line, passed, root_outside}
 use Rattle.planner.specs.Answer.{line_of}
 use Rattle.planner.specs.Plan.{DestructuringPlan, after}
@@ -60,7 +61,7 @@ pub pattern_tracked : {T : Tables} {s : Scope} {mode : ScopingMode} {root at : �
 pattern_tracked {T} {s} {mode} {root} w v p x named =
     bound_agree_of T w (is_unbound s mode) root v x named.low named.high ∙ ap (λ (bs : List ℕ). not (eqb (get_or bs (x - 1) 0) 0)) (sym p.bound)
 
-pub refuses : (a : Refusal) {r : PlanAnswer} {before later : List ℕ} → line_of r ≡ refusal_line a → later ≡ replicate (length before) 0 → Answered (refused a) before later r
+pub refuses : (a : Refusal) {r : Result Plan PlanRefusal} {before later : List ℕ} → line_of r ≡ refusal_line a → later ≡ replicate (length before) 0 → Answered (refused a) before later r
 unfolding answered written
 refuses a l e = record { answer = l; buffer = e }
 
@@ -84,30 +85,30 @@ good_root T s is sound root told in_table = record { table = sound_well T s is s
 
 -- a table that passed the check, and the roots of an operation
 module _ (T : Tables) (s : Scope) (sound : checked T s ≡ passed) (roots : List ℕ) (o : Outcome) {before later : List ℕ} where
-  pub roots_refuse : all_nodes T roots ≡ false → later ≡ replicate (length before) 0 → Answered (checked_first T s roots o) before later RootOutside
+  pub roots_refuse : all_nodes T roots ≡ false → later ≡ replicate (length before) 0 → Answered (checked_first T s roots o) before later (Err RootOutside)
   roots_refuse out e = simp (sound, out) (refuses root_outside refl e)
 
-  pub roots_pass : {r : PlanAnswer} → all_nodes T roots ≡ true → Answered o before later r → Answered (checked_first T s roots o) before later r
+  pub roots_pass : {r : Result Plan PlanRefusal} → all_nodes T roots ≡ true → Answered o before later r → Answered (checked_first T s roots o) before later r
   roots_pass inside p = simp (sound, inside) p
 
 module _ (T : Tables) (s : Scope) {c : Result Unit TableRefusal} (is : TableAnswered T s c) (before : List ℕ) where
-  pub table_refuses : (o : Outcome) {d : TableRefusal} {later : List ℕ} → c ≡ Err d → later ≡ replicate (length before) 0 → Answered (table_first (checked T s) o) before later (TableRefused d)
-  table_refuses o {d} p e = let q : checked T s ≡ Refusal.refused (table_refused d) = sym is.answer ∙ ap tested_of p in simp q (refuses (table_refused d) refl e)
+  pub table_refuses : (o : Outcome) {d : TableRefusal} {later : List ℕ} → c ≡ Err d → {r : PlanRefusal} → r ≡ TableRefused d → later ≡ replicate (length before) 0 → Answered (table_first (checked T s) o) before later (Err r)
+  table_refuses o {d} p named e = let q : checked T s ≡ Refusal.refused (table_refused d) = sym is.answer ∙ ap tested_of p in simp q (refuses (table_refused d) (ap (λ (x : PlanRefusal). line_of (Err x)) named) e)
 
   module _ (sound : c ≡ Ok tt) where
     module _ (root : ℕ) {inside : Bool} (told : inside ≡ is_node T root) where
-      pub root_refuses : (o : Outcome) {later : List ℕ} → not inside ≡ true → later ≡ replicate (length before) 0 → Answered (checked_first T s (root ∷ []) o) before later RootOutside
+      pub root_refuses : (o : Outcome) {later : List ℕ} → not inside ≡ true → later ≡ replicate (length before) 0 → Answered (checked_first T s (root ∷ []) o) before later (Err RootOutside)
       root_refuses o {later} out e = let r : is_node T root ≡ false = sym told ∙ not-true inside out in roots_refuse T s (check_passes T s is sound) (root ∷ []) o (rw r) e
 
       module _ (in_table : not inside ≡ false) where
         -- the operation goes on
-        pub goes_on : (o : Outcome) {later : List ℕ} {r : PlanAnswer} → Answered o before later r → Answered (checked_first T s (root ∷ []) o) before later r
+        pub goes_on : (o : Outcome) {later : List ℕ} {r : Result Plan PlanRefusal} → Answered o before later r → Answered (checked_first T s (root ∷ []) o) before later r
         goes_on o {later} {r} p = let n = is-node T root told in_table in roots_pass T s (check_passes T s is sound) (root ∷ []) o (rw n) p
 
 -- a pattern's plan in the lent buffer
 pub ask_pattern : (T : Tables) (root : ℕ) → GoodRoot T root → PatternAsks T root (replicate 128 0) 0
 ask_pattern T root g = record { table = g.table; node = g.node; none_bound = refl; low = omega arith }
 
-pub pattern_closed : (T : Tables) (s : Scope) (mode : ScopingMode) (root : ℕ) {binders before mid later : List ℕ} {count : ℕ} {r : PlanAnswer}
+pub pattern_closed : (T : Tables) (s : Scope) (mode : ScopingMode) (root : ℕ) {binders before mid later : List ℕ} {count : ℕ} {r : Result Plan PlanRefusal}
     → PatternPlanned T s mode root 0 before binders mid count → Closed 0 count mid later r → Answered (pattern_planned T s mode root) before later r
 pattern_closed T s mode root p d = wrote_closed 0 (entries (plan_of T s mode root) top) p.wrote d

@@ -1,4 +1,5 @@
 -- Validation: the first name of a pattern that is defined already.
+use Rattle.std.proofs.Common.{Result, Err}
 use Prim.Native.Nat.{ℕ, ◌-◌}
 use mathlib.Core.Path.{◌≡◌, refl, sym, ap, ◌∙◌}
 use mathlib.Core.List.{List, []}
@@ -17,8 +18,9 @@ use Rattle.table.specs.Decode.{expr, is_wildcard}
 use Rattle.base.specs.Lists.{elem}
 use Rattle.table.specs.code.Sound.{Named}
 use Rattle.planner.specs.Entries.{Closed}
-use Rattle.planner.specs.declared.PlanAnswer.{PlanAnswer}
-use Rattle.planner.specs.declared.PlanAnswer.TheVariants.{VariableAlreadyDefined}
+use Rattle.planner.specs.declared.Plan.{Plan}
+use Rattle.planner.specs.declared.PlanRefusal.{PlanRefusal}
+use Rattle.planner.specs.declared.PlanRefusal.TheVariants.{VariableAlreadyDefined}
 use Rattle.planner.specs.Plan.{after}
 use Rattle.planner.specs.Names.{occurrences, first_node}
 use Rattle.planner.specs.Parameters.{already_defined}
@@ -110,11 +112,11 @@ module _ (T : Tables) (s : Scope) (mode : ScopingMode) (root : ℕ) (g : GoodRoo
 
 -- a pattern, refused or planned
 module _ (T : Tables) (s : Scope) (mode : ScopingMode) (root : ℕ) (validate : Bool) {before binders mid later : List ℕ} {count : ℕ} (p : PatternPlanned T s mode root 0 before binders mid count) where
-  pub unvalidated_closed : {r : PlanAnswer} → not validate ≡ true → Closed 0 count mid later r → Answered (planned_if validate T s mode root) before later r
+  pub unvalidated_closed : {r : Result Plan PlanRefusal} → not validate ≡ true → Closed 0 count mid later r → Answered (planned_if validate T s mode root) before later r
   unvalidated_closed off d = let v = not-true validate off in simp v (pattern_closed T s mode root p d)
 
   module _ (g : GoodRoot T root) (on : not validate ≡ false) {x : ℕ} (is : x ≡ first_defined T s binders root) where
-    pub plan_refused : (x ≡ 0 → ⊥) → later ≡ replicate (length mid) 0 → Answered (planned_if validate T s mode root) before later (VariableAlreadyDefined x)
+    pub plan_refused : (x ≡ 0 → ⊥) → later ≡ replicate (length mid) 0 → Answered (planned_if validate T s mode root) before later (Err (VariableAlreadyDefined x))
     unfolding answered written
     plan_refused some e =
         let v = not-false validate on in
@@ -123,14 +125,14 @@ module _ (T : Tables) (s : Scope) (mode : ScopingMode) (root : ℕ) (validate : 
         let long = wrote_long p.wrote in
         record { answer = simp (v, c, z); buffer = simp (v, c, z) (rw long at e) }
 
-    pub validated_closed : {r : PlanAnswer} → x ≡ 0 → Closed 0 count mid later r → Answered (planned_if validate T s mode root) before later r
+    pub validated_closed : {r : Result Plan PlanRefusal} → x ≡ 0 → Closed 0 count mid later r → Answered (planned_if validate T s mode root) before later r
     validated_closed {r} none-defined d =
         let v = not-false validate on in
         let c : validated T s mode root ≡ 0 = sym (is ∙ validated_by T s mode root g p) ∙ none-defined in
         simp (v, c) (pattern_closed T s mode root p d)
 
 -- a parameter, by its scoping
-module _ (T : Tables) (s : Scope) {mode : ScopingMode} (root : ℕ) {before later : List ℕ} {r : PlanAnswer} where
+module _ (T : Tables) (s : Scope) {mode : ScopingMode} (root : ℕ) {before later : List ℕ} {r : Result Plan PlanRefusal} where
   pub parameter_respects : mode ≡ RespectParent → Answered (pattern_outcome T s mode root) before later r → Answered (parameter_outcome T s mode root) before later r
   parameter_respects m a = simp m (rw m at a)
 

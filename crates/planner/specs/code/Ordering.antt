@@ -1,5 +1,5 @@
 -- What the functions that put an object's fields in order ask and say.
-use Rattle.std.specs.Prelude.{ℕ, ◌+◌, ◌≤◌, ◌<◌, ◌≡◌, Bool, true, false, List, length, get_or, take, drop}
+use Rattle.std.specs.Prelude.{ℕ, ◌+◌, ◌≤◌, ◌<◌, ◌≡◌, Result, Ok, Err, List, length, get_or, take, drop}
 use Rattle.std.proofs.Math.Option.{Option, some}
 use Rattle.base.specs.code.Search.{Between}
 use Rattle.literal.specs.Literal.{Literal}
@@ -46,11 +46,11 @@ pub record FindAsks (T : Tables) (first : ℕ) (order : List ℕ) (m : ℕ) (key
   pub own : Literal
   pub literal : referred T key ≡ some own
 
--- either a literal field has an equal key, or the key goes in before `place`
-pub record FoundBy (key : ℕ → Option Literal) (own : Option Literal) (order : List ℕ) (m place : ℕ) (equal : Bool) : Type 0 where
-  pub old : equal ≡ true → (place < m) × At same key own order place
-  pub new : equal ≡ false → KeyBetween key own order m place place
+-- either a literal field has an equal key, or the key goes in before a place
+pub record FoundBy (key : ℕ → Option Literal) (own : Option Literal) (order : List ℕ) (m : ℕ) (r : Result ℕ ℕ) : Type 0 where
+  pub old : {place : ℕ} → r ≡ Ok place → (place < m) × At same key own order place
+  pub new : {place : ℕ} → r ≡ Err place → KeyBetween key own order m place place
 
 -- a literal among the keys of an object's fields
-abbrev pub FoundIn : Tables → ℕ → LiteralRef → List ℕ → ℕ → ℕ → Bool → Type 0
-FoundIn T first key order m place equal = FoundBy (field_key T first) (referred T key) order m place equal
+abbrev pub FoundIn : Tables → ℕ → LiteralRef → List ℕ → ℕ → Result ℕ ℕ → Type 0
+FoundIn T first key order m r = FoundBy (field_key T first) (referred T key) order m r

@@ -21,13 +21,6 @@ struct Sizes {
     pub total: usize,
 }
 
-// A place among the literal fields: one of an equal key, or the one before which a new key goes.
-#[derive(Clone, Copy)]
-pub struct Found {
-    pub place: usize,
-    pub equal: bool,
-}
-
 // A literal with the key of a field.
 fn compare_keys<'a>(
     nodes: &[u32],
@@ -46,16 +39,16 @@ fn compare_keys<'a>(
     compare_literal_to_node(nodes, numbers, strings, text, key, other)
 }
 
-// The place of a literal among the keys of the fields, by binary search.
+// The place of an equal key among the literal fields, or the place where a new key goes in, by binary search.
 pub fn find_field(
     tables: &Tables<'_>,
     first: usize,
     order: &[u8; 256],
     literals: usize,
     key: LiteralRef,
-) -> Found
+) -> Result<usize, usize>
     requires { FindAsks (contents tables.now) first order.now literals key }
-    ensures { FoundIn (contents tables.now) first key order.now literals result.place result.equal }
+    ensures { FoundIn (contents tables.now) first key order.now literals result }
 {
     let mut low: usize = 0;
     let mut high = literals;
@@ -74,19 +67,13 @@ pub fn find_field(
         );
         match way {
             Comparison::Equal => {
-                return Found {
-                    place: middle,
-                    equal: true,
-                };
+                return Ok(middle);
             }
             Comparison::Less => high = middle,
             _ => low = middle + 1,
         }
     }
-    Found {
-        place: low,
-        equal: false,
-    }
+    Err(low)
 }
 
 // One more field: by its literal key, replacing an equal one, or at the end if its key is computed.
@@ -111,16 +98,18 @@ fn add_field(
             total: total + 1,
         };
     };
-    let found = find_field(tables, first, order, literals, key);
-    let place = found.place;
-    if found.equal {
-        order[place] = field;
-        return sizes;
-    }
-    insert_at(order, place, total, field);
-    Sizes {
-        literals: literals + 1,
-        total: total + 1,
+    match find_field(tables, first, order, literals, key) {
+        Ok(place) => {
+            order[place] = field;
+            sizes
+        }
+        Err(place) => {
+            insert_at(order, place, total, field);
+            Sizes {
+                literals: literals + 1,
+                total: total + 1,
+            }
+        }
     }
 }
 

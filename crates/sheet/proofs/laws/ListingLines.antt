@@ -1,4 +1,5 @@
 -- The listing, as the code writes it.
+use Rattle.std.proofs.Common.{Result, Err}
 use Prim.Native.Nat.{ℕ, zero, suc, ◌+◌, ◌-◌, ◌*◌, ◌/◌, ◌<◌, ◌≤◌}
 use mathlib.Core.Bool.{Bool, true, false, cond}
 use mathlib.Core.List.{List, [], ◌∷◌, ◌++◌, append_assoc}
@@ -14,8 +15,9 @@ use Rattle.columns.specs.Columns.{write_column, stored, column_stored}
 use Rattle.columns.proofs.ReadBack.{read_back}
 use Rattle.columns.proofs.write.Storing.{stored_is, stored_long, stored_none, stored_on, stored_one}
 use Rattle.planner.specs.Layout.{Entry, entry_words}
-use Rattle.planner.specs.declared.PlanAnswer.{PlanAnswer}
-use Rattle.planner.specs.declared.PlanAnswer.TheVariants.{TableRefused}
+use Rattle.planner.specs.declared.Plan.{Plan}
+use Rattle.planner.specs.declared.PlanRefusal.{PlanRefusal}
+use Rattle.planner.specs.declared.PlanRefusal.TheVariants.{TableRefused}
 use Rattle.base.specs.Refusal.{Line, line, refusal_line}
 use Rattle.planner.specs.Answer.{line_of}
 use Rattle.planner.specs.Entries.{entry_at, read_entries}
@@ -27,7 +29,7 @@ use Rattle.sheet.specs.Listing.{Listing, four_columns, line_bytes, entry_line, e
 use Rattle.sheet.specs.code.Post.{write_pair, entries_in, answer_lines, entry_length, EntryAsks, EntriesAsks, refusal_bytes}
 
 -- the numbers of a line
-pub row_is : (answer : PlanAnswer) {a : PlanAnswer} {l : Line} → answer ≡ a → l ≡ line_of a → l ≡ line_of answer
+pub row_is : (answer : Result Plan PlanRefusal) {a : Result Plan PlanRefusal} {l : Line} → answer ≡ a → l ≡ line_of a → l ≡ line_of answer
 row_is answer e is = rw e is
 
 table_line : (t : TableRefusal) → refusal_line (table_refused t) ≡ line (table_refused t).number 0 0 0
@@ -36,7 +38,7 @@ table_line BreaksRules = refl
 table_line TooDeep = refl
 table_line EqualNames = refl
 
-pub row_table : (answer : PlanAnswer) {t : TableRefusal} {l : Line} {n : ℕ} → answer ≡ TableRefused t → n ≡ (table_refused t).number → l ≡ line n 0 0 0 → l ≡ line_of answer
+pub row_table : (answer : Result Plan PlanRefusal) {t : TableRefusal} {l : Line} {n : ℕ} → answer ≡ Err (TableRefused t) → n ≡ (table_refused t).number → l ≡ line n 0 0 0 → l ≡ line_of answer
 row_table answer {t} e n is = rw e (is ∙ (ap (λ (m : ℕ). line m 0 0 0) n ∙ sym (table_line t)))
 
 module _ (r : Row) where

@@ -1,4 +1,5 @@
 -- Tables in arrays, cut to their size, and what their sheet comes to.
+use Rattle.std.proofs.Common.{Result}
 use Prim.Native.Nat.{ℕ, ◌+◌, ◌-◌, ◌*◌, ◌<◌, ◌≤◌}
 use mathlib.Core.Bool.{Bool, true, false, not}
 use mathlib.Core.List.{List, ◌++◌}
@@ -13,7 +14,8 @@ use Rattle.table.specs.Tables.{Tables, tables}
 use Rattle.table.proofs.tests.Bools.{told_no, told_yes}
 use Rattle.base.specs.Lists.{tabulate}
 use Rattle.base.specs.Refusal.{layout_broken}
-use Rattle.planner.specs.declared.PlanAnswer.{PlanAnswer}
+use Rattle.planner.specs.declared.Plan.{Plan}
+use Rattle.planner.specs.declared.PlanRefusal.{PlanRefusal}
 use Rattle.planner.specs.Answer.{line_of}
 use Rattle.planner.specs.Operations.{Answered}
 use Rattle.operation.specs.declared.Operation.{Operation}
@@ -155,7 +157,7 @@ module _ {sheet : List ℕ} {h : Header} {nodes children numbers names : List �
       let scope : s ≡ scope_of (operation_numbers sheet) (marks_of sheet c) = t.scope_made ∙ scope_is sheet c t.good t.headed.operation_is scope-marks in
       rw (t.headed.parses, t.good, t.headed.places_are, scope, t.headed.operation_is, strings, text, filled_first held.nodes_filled nodes_inside, filled_first held.children_filled children_inside, filled_first held.numbers_filled numbers_inside, filled_first held.names_held.words names_inside)
 
-  pub tables_planned : {operation : Operation} {blank plan : List ℕ} {a : PlanAnswer} {r : Row} → operation ≡ operation_of h.operation → Answered (operation_outcome tables_cut s operation) blank plan a → row_line r ≡ line_of a
+  pub tables_planned : {operation : Operation} {blank plan : List ℕ} {a : Result Plan PlanRefusal} {r : Row} → operation ≡ operation_of h.operation → Answered (operation_outcome tables_cut s operation) blank plan a → row_line r ≡ line_of a
       → PlannedInto (outcome_of_sheet (parse sheet)) blank plan r
   tables_planned {operation} of done is =
       let here = by_case tables_cut s (operation_of h.operation) operation (sym of) done in

@@ -1,10 +1,11 @@
 -- What the crate's own functions ask and say.
-use Rattle.std.specs.Prelude.{ℕ, ◌+◌, ◌^◌, ◌≤◌, ◌<◌, ◌≡◌, List}
+use Rattle.std.specs.Prelude.{ℕ, ◌+◌, ◌^◌, ◌≤◌, ◌<◌, ◌≡◌, List, Result}
 use Rattle.scope.specs.declared.Scope.{Scope}
 use Rattle.scope.specs.declared.ScopingMode.TheVariants.{RespectParent}
 use Rattle.table.specs.Tables.{Tables, child_at}
 use Rattle.table.specs.code.Sound.{Node, WellFormed}
-use Rattle.planner.specs.declared.PlanAnswer.{PlanAnswer}
+use Rattle.planner.specs.declared.Plan.{Plan}
+use Rattle.planner.specs.declared.PlanRefusal.{PlanRefusal}
 use Rattle.planner.specs.Layout.{Entry, top, entries}
 use Rattle.planner.specs.Entries.{Wrote}
 use Rattle.planner.specs.Operations.{plan_of, planned, validated, Answered}
@@ -40,10 +41,10 @@ pub record ValueAsks (T : Tables) (value collection at : ℕ) : Type 0 where
 
 -- What a buffer `mid` becomes, told of the buffer as it was before the entries in `mid` were put.
 
-pub record SomeInClosed (form : ℕ) (c : LiteralStructureCheck) (end : ℕ) (mid later : List ℕ) (r : PlanAnswer) : Type 0 where
+pub record SomeInClosed (form : ℕ) (c : LiteralStructureCheck) (end : ℕ) (mid later : List ℕ) (r : Result Plan PlanRefusal) : Type 0 where
   pub told : (before : List ℕ) (es : List Entry) → Wrote before 0 es mid end → Answered (unless_mismatch c (planned form 0 es)) before later r
 
-pub record ValueAnswered (T : Tables) (s : Scope) (value collection form : ℕ) (reading : Reading) (at : ℕ) (mid later : List ℕ) (r : PlanAnswer) : Type 0 where
+pub record ValueAnswered (T : Tables) (s : Scope) (value collection form : ℕ) (reading : Reading) (at : ℕ) (mid later : List ℕ) (r : Result Plan PlanRefusal) : Type 0 where
   pub told : (before : List ℕ) (keys : List Entry) → Wrote before 0 keys mid at → Answered (value_planned T s value collection form reading keys) before later r
 
 pub record KeyAsks (T : Tables) (value collection key : ℕ) : Type 0 where

@@ -1,4 +1,5 @@
 -- What each call answers over the names that are copied, it answers over all.
+use Rattle.std.proofs.Common.{Result}
 use Prim.Native.Nat.{ℕ, ◌/◌, ◌<◌}
 use mathlib.Core.Path.{◌≡◌, refl, sym, ◌∙◌, ap, subst}
 use mathlib.Core.Bool.{Bool, true, false}
@@ -11,7 +12,8 @@ use Rattle.scope.specs.Scope.{known}
 use Rattle.table.specs.Tables.{Tables, name_count}
 use Rattle.table.specs.Check.{checked}
 use Rattle.table.specs.Decode.{expr}
-use Rattle.planner.specs.declared.PlanAnswer.{PlanAnswer}
+use Rattle.planner.specs.declared.Plan.{Plan}
+use Rattle.planner.specs.declared.PlanRefusal.{PlanRefusal}
 use Rattle.base.specs.Refusal as Refusal
 use Rattle.base.specs.Refusal.{Refusal, over_limit, not_a_body, require_or}
 use Rattle.planner.specs.Operations as Plan
@@ -115,7 +117,7 @@ module _ (over : List ℕ → Tables) (counts : (names : List ℕ) → name_coun
   too_many : (names : List ℕ) → 128 < length names / 2 → checked (over names) s ≡ Refusal.refused over_limit
   too_many names l = over_limit_lem (over names) s (subst (λ (k : ℕ). 128 < k) (sym (counts names)) l)
 
-  pub plan_all : (version : ℕ) (operation : Operation) (ns : List Name) (names : NameWords) → Copied ns names → {before later : List ℕ} {r : PlanAnswer}
+  pub plan_all : (version : ℕ) (operation : Operation) (ns : List Name) (names : NameWords) → Copied ns names → {before later : List ℕ} {r : Result Plan PlanRefusal}
       → Answered (version_outcome (over (held names)) s version operation) before later r → Answered (version_outcome (over (name_words ns)) s version operation) before later r
   plan_all version operation ns names copied {before} {later} {r} =
       as_all (λ ws. Answered (version_outcome (over ws) s version operation) before later r)

@@ -6,7 +6,7 @@ ghost use Rattle.operation.specs.Version.{version_outcome};
 
 use crate::records::NameWords;
 use operation::Operation;
-use planner::PlanAnswer;
+use planner::{Plan, PlanRefusal};
 use scope::Scope;
 use table::tables::Tables;
 
@@ -21,7 +21,7 @@ pub(crate) fn plan_words<'a>(
     operation: Operation,
     version: u32,
     plan: &mut [u32],
-) -> PlanAnswer
+) -> Result<Plan, PlanRefusal>
     requires { names.count ≤ 129 }
     ensures { AnsweredIn plan (version_outcome (lent_words nodes children numbers names strings text) scope version operation) result }
 {

@@ -1,4 +1,5 @@
 -- A run that nothing refuses: its answer is the one that the choices give, and the names that are set get the nodes that every choice gives them.
+use Rattle.std.proofs.Common.{Result}
 use Prim.Native.Nat.{ℕ, ◌+◌, ◌-◌, ◌/◌, ◌≤◌, ◌<◌}
 use mathlib.Core.Path.{◌≡◌, refl, sym, ap, ap₂, subst, ◌∙◌, fun_ext}
 use mathlib.Core.List.{List, []}
@@ -18,7 +19,8 @@ use Rattle.table.specs.Tables.{Tables, name_count}
 use Rattle.table.specs.Decode.{expr, is_wildcard}
 use Rattle.table.specs.Expr.{Expr}
 use Rattle.table.proofs.tests.Bools.{and_true}
-use Rattle.planner.specs.declared.PlanAnswer.{PlanAnswer}
+use Rattle.planner.specs.declared.Plan.{Plan}
+use Rattle.planner.specs.declared.PlanRefusal.{PlanRefusal}
 use Rattle.planner.specs.Layout.{Entry, top, entries, entry_words}
 use Rattle.planner.specs.Operations.{plan_of, planned, fits, written}
 use Rattle.planner.specs.Simple.{mentions}
@@ -221,7 +223,7 @@ module _ {T : Tables} {s : Scope} {mode : ScopingMode} {pattern value : ℕ} {va
   pub judge_names : ListAsks T.names values
   judge_names = record { few = (run_table run_asks).limits.names; long = run_asks.long }
 
-  module _ {binders mid filled : List ℕ} {next : ℕ} {told : PlanAnswer} (p : PatternPlanned T s mode pattern 0 buffer binders mid next) (d : Closed 0 next mid filled told) where
+  module _ {binders mid filled : List ℕ} {next : ℕ} {told : Result Plan PlanRefusal} (p : PatternPlanned T s mode pattern 0 buffer binders mid next) (d : Closed 0 next mid filled told) where
     in_buffer : filled ≡ written (planned 0 0 (es run_asks)) buffer
     in_buffer = (wrote_closed 0 (es run_asks) p.wrote d).buffer
 

@@ -1,3 +1,4 @@
+use Rattle.std.proofs.lemmas.Result.{err_from_is_err_and}
 use Rattle.assignment.proofs.preview.Previews.{roomy_kept}
 use Rattle.planner.proofs.destructuring.SecondPass.{object_falls, child_falls}
 use Rattle.assignment.proofs.flatten.FlatNodes.{ask_sides, at_low, ask_bound, ask_bind_right, flat_compared, flat_bind_left, flat_bind_right, ask_arrays, ask_keyed, flat_by_items, flat_by_keys, flat_refused, arrays_differ, ask_items, arrays_items, ask_fields, objects_refused}
@@ -59,8 +60,8 @@ flatten_fields-field_sides-sides-requires t c = fields_ask c.loop-more.invariant
 pub flatten_fields-flatten-requires : goal.flatten_fields-flatten-requires
 flatten_fields-flatten-requires t c = (search (child_falls, fields_below, rules), (search (fields_child, rules), search rules))
 
-pub flatten_fields-returns-in-Refused : goal.flatten_fields-returns-in-Refused
-flatten_fields-returns-in-Refused t c = (search (fields_fail, rules), (tt, tt))
+pub flatten_fields-returns-in_err-here : goal.flatten_fields-returns-in_err-here
+flatten_fields-returns-in_err-here t c = let p = err_from_is_err_and c.from_residual.result c.from_residual.ensures.1 in (rw (p.1, p.2) (fields_fail c.loop-more.invariant.0 c.loop-more-test.true c.field_sides-sides.ensures c.flatten.ensures.0 c.in_err-here.was), (tt, tt))
 
 pub flatten_fields-overflow_add-place : goal.flatten_fields-overflow_add-place
 flatten_fields-overflow_add-place t c = search (fields_fit, rules)
@@ -77,8 +78,8 @@ flatten_items-loop-more-init t c = (search (items_start, rules), search (kept_st
 pub flatten_items-flatten-requires : goal.flatten_items-flatten-requires
 flatten_items-flatten-requires t c = (search (child_falls, items_below, rules), (search (items_child, rules), search rules))
 
-pub flatten_items-returns-in-Refused : goal.flatten_items-returns-in-Refused
-flatten_items-returns-in-Refused t c = (search (items_fail, rules), (tt, tt))
+pub flatten_items-returns-in_err-here : goal.flatten_items-returns-in_err-here
+flatten_items-returns-in_err-here t c = let p = err_from_is_err_and c.from_residual.result c.from_residual.ensures.1 in (rw (p.1, p.2) (items_fail c.loop-more.invariant.0 c.loop-more-test.true c.child_at-left.ensures c.child_at-right.ensures c.flatten.ensures.0 c.in_err-here.was), (tt, tt))
 
 pub flatten_items-overflow_add-left_place : goal.flatten_items-overflow_add-left_place
 flatten_items-overflow_add-left_place t c = search (items_left_fits, rules)
@@ -95,8 +96,8 @@ flatten_items-returns t c = (search (items_over, rules), (tt, tt))
 pub flatten_objects-flatten_fields-requires : goal.flatten_objects-flatten_fields-requires
 flatten_objects-flatten_fields-requires t c = (parts_fall c.requires.0.asks.pair_ok.second.low c.decreases, (ask_fields c.requires.0 c.collect_object_pairs.ensures (search rules), c.requires.1))
 
-pub flatten_objects-returns-in-Matched : goal.flatten_objects-returns-in-Matched
-flatten_objects-returns-in-Matched t c = (search rules, (tt, tt))
+pub flatten_objects-returns : goal.flatten_objects-returns
+flatten_objects-returns t c = (search rules, (tt, tt))
 
-pub flatten_objects-returns-in-Refused : goal.flatten_objects-returns-in-Refused
-flatten_objects-returns-in-Refused t c = (search (objects_refused, rules), (tt, tt))
+pub flatten_objects-returns-in_err-total : goal.flatten_objects-returns-in_err-total
+flatten_objects-returns-in_err-total t c = let p = err_from_is_err_and c.from_residual.result c.from_residual.ensures.1 in (rw (p.1, p.2) (objects_refused c.requires.0 c.collect_object_pairs.ensures c.in_err-total.was _), (tt, tt))

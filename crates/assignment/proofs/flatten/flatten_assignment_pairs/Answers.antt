@@ -5,8 +5,8 @@ use Rattle.assignment.proofs.flatten.flatten_assignment_pairs.Goals as goal
 pub flatten-requires : goal.flatten-requires
 flatten-requires c = (search (ask_flatten, rules), search rules)
 
-pub returns-in-Next : goal.returns-in-Next
-returns-in-Next c = (search (pairs_planned, rules), (tt, tt))
+pub returns-in-Ok : goal.returns-in-Ok
+returns-in-Ok c = (search (pairs_planned, rules), (tt, tt))
 
-pub returns-in-Refused : goal.returns-in-Refused
-returns-in-Refused c = (search (pairs_refused, rules), (tt, tt))
+pub returns-in-Err : goal.returns-in-Err
+returns-in-Err c = (search (pairs_refused, rules), (tt, tt))

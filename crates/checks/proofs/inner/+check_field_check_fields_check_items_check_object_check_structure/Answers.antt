@@ -1,5 +1,5 @@
-use Rattle.checks.proofs.Checks.{kinds_differ, kinds_plain, ask_objects, arrays_mismatch, ask_items, arrays_done, items_start, items_pattern_fits, items_value_fits, items_next, items_pair, items_below, items_on, items_stop, items_done, objects_empty, objects_unknown, ask_fields, objects_fields, objects_differ, object_falls, items_fall, fields_fall, field_falls, item_falls, child_falls}
-use Rattle.checks.proofs.ObjectFields.{fields_start, fields_ask, fields_next, fields_on, fields_stop, fields_done, field_double, field_place, field_next, ask_partner, passed, ask_slot, field_pair, field_below, one_taken}
+use Rattle.checks.proofs.Checks.{kinds_differ, kinds_plain, ask_objects, arrays_mismatch, ask_items, arrays_done, items_start, items_pattern_fits, items_value_fits, items_pair, items_below, items_on, items_stop, items_done, objects_empty, objects_unknown, ask_fields, objects_fields, objects_differ, object_falls, items_fall, fields_fall, field_falls, item_falls, child_falls}
+use Rattle.checks.proofs.ObjectFields.{fields_start, fields_ask, fields_on, fields_stop, fields_done, field_double, field_place, field_next, ask_partner, passed, ask_slot, field_pair, field_below, one_taken}
 use borrow.Author.Rules.{rules}
 use Rattle.checks.proofs.inner.+check_field_check_fields_check_items_check_object_check_structure.Goals as goal
 
@@ -39,9 +39,6 @@ check_fields-check_field-so_far-requires t c = (search (field_falls, rules), fie
 pub check_fields-returns-then-so_far-eq0 : goal.check_fields-returns-then-so_far-eq0
 check_fields-returns-then-so_far-eq0 t c = search (fields_stop, rules)
 
-pub check_fields-overflow_add-i : goal.check_fields-overflow_add-i
-check_fields-overflow_add-i t c = search (fields_next, rules)
-
 pub check_fields-loop-i-preserved : goal.check_fields-loop-i-preserved
 check_fields-loop-i-preserved t c = search (fields_on, rules)
 
@@ -62,9 +59,6 @@ check_items-check_structure-check-requires t c = (search (item_falls, items_belo
 
 pub check_items-returns-then-is_settled : goal.check_items-returns-then-is_settled
 check_items-returns-then-is_settled t c = search (items_stop, rules)
-
-pub check_items-overflow_add-i : goal.check_items-overflow_add-i
-check_items-overflow_add-i t c = search (items_next, rules)
 
 pub check_items-loop-i-preserved : goal.check_items-loop-i-preserved
 check_items-loop-i-preserved t c = items_on c.loop-i.invariant c.loop-i-test.true c.child_at-pattern.ensures c.child_at-item.ensures c.check_structure-check.ensures.0 c.join-so_far.ensures c.is_settled.ensures c.if-is_settled.false

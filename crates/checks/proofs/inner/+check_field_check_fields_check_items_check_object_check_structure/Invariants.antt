@@ -1,6 +1,5 @@
 use Rattle.table.specs.Contents.{contents}
 use Prim.Native.Nat.{◌-◌, ◌*◌}
-use Rattle.table.specs.Tables.{tables}
 use Rattle.checks.proofs.Checks.{CheckingItems}
 use Rattle.checks.proofs.ObjectFields.{CheckingFields}
 use Rattle.checks.proofs.inner.+check_field_check_fields_check_items_check_object_check_structure.Given as goal

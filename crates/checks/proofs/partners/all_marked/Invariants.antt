@@ -1,4 +1,3 @@
-use Prim.Native.Nat.{◌-◌}
 use Rattle.checks.proofs.ObjectFields.{Looking}
 use Rattle.checks.proofs.partners.all_marked.Given as goal
 

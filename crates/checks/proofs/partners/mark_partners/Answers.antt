@@ -1,4 +1,4 @@
-use Rattle.checks.proofs.ObjectFields.{marking_start, marking_double, marking_place, marking_next, marking_ask, marking_on, marking_ends}
+use Rattle.checks.proofs.ObjectFields.{marking_start, marking_double, marking_place, marking_ask, marking_on, marking_ends}
 use borrow.Author.Rules.{rules}
 use Rattle.checks.proofs.partners.mark_partners.Goals as goal
 
@@ -13,9 +13,6 @@ overflow_add-first c = search (marking_place, rules)
 
 pub partner_place-place-requires : goal.partner_place-place-requires
 partner_place-place-requires c = search (marking_ask, rules)
-
-pub overflow_add-i : goal.overflow_add-i
-overflow_add-i c = search (marking_next, rules)
 
 pub loop-i-preserved : goal.loop-i-preserved
 loop-i-preserved c = search (marking_on, rules)

@@ -1,6 +1,4 @@
 use Rattle.table.specs.Contents.{contents}
-use Prim.Native.Nat.{◌-◌}
-use Rattle.table.specs.Tables.{tables}
 use Rattle.checks.proofs.ObjectFields.{Marking}
 use Rattle.checks.proofs.partners.mark_partners.Given as goal
 

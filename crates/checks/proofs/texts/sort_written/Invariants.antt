@@ -1,5 +1,4 @@
 use Rattle.table.specs.Contents.{contents}
-use Rattle.table.specs.Tables.{tables}
 use Rattle.checks.proofs.TextLoops.{SortingWritten}
 use Rattle.checks.proofs.texts.sort_written.Given as goal
 

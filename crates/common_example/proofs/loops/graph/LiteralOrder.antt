@@ -1,4 +1,5 @@
 -- Distinct literals in key order: the search for a literal's place, and one node more.
+use Rattle.std.proofs.Common.{Result, Ok, Err}
 use Prim.Native.Nat.{ℕ, ◌+◌, ◌-◌, ◌*◌, ◌/◌, ◌≤◌, ◌<◌}
 use mathlib.Core.Bool.{Bool, true, false, cond, not, false≢true}
 use mathlib.Core.List.{List}
@@ -142,8 +143,10 @@ module _ {literals : ℕ → Option Literal} {own : Option Literal} {order : Lis
     inside : q < m
     inside = let n = f.between.inside in omega arith
 
-    pub finding_equal : way ≡ Equal → FoundBy literals own order m q true
-    finding_equal e = record { old = λ t. (inside, sym way_at ∙ e); new = λ x. absurd (false≢true (sym x)) }
+    pub finding_equal : way ≡ Equal → FoundBy literals own order m (Ok q)
+    finding_equal e =
+        let here : (q < m) × At same literals own order q = (inside, sym way_at ∙ e) in
+        record { old = λ {place = p} x. let z : q ≡ p = cc in rw z at here; new = λ {place = p} x. let z : ◌≡◌ {A = ℕ} 0 1 = cc in absurd (omega arith) }
 
     pub finding_down : way ≡ Less → Finding literals own order m low q
     finding_down e = narrowed (between_down f.between q (omega arith) (omega arith) (behind_less f.distinct own q inside (sym way_at ∙ e)))
@@ -154,8 +157,10 @@ module _ {literals : ℕ → Option Literal} {own : Option Literal} {order : Lis
         let e = otherwise_more own (literals (get_or order q 0)) f.l k f.literal p (subst Otherwise way_at o) in
         narrowed (between_up f.between q (omega arith) (omega arith) (before_more f.distinct own q inside e))
 
-  pub finding_ends : high ≤ low → FoundBy literals own order m low false
-  finding_ends le = record { old = λ x. absurd (false≢true x); new = λ t. between_ends f.between le }
+  pub finding_ends : high ≤ low → FoundBy literals own order m (Err low)
+  finding_ends le =
+      let b = between_ends f.between le in
+      record { old = λ {place = p} x. let z : ◌≡◌ {A = ℕ} 0 1 = cc in absurd (omega arith); new = λ {place = p} x. let z : low ≡ p = cc in rw z at b }
 
 -- 3. one node more
 module _ (literals : ℕ → Option Literal) where
@@ -311,15 +316,15 @@ module _ {literals : ℕ → Option Literal} {node : ℕ} {order : List ℕ} {m 
       pub ask_find : FindAsks literals node order m
       ask_find = let f = few_in in record { before = node - 1; distinct = a.distinct; few = omega arith; own = own.0; literal = own.1 }
 
-      module _ {place : ℕ} {equal : Bool} (found : FoundBy literals (literals node) order m place equal) where
-        pub found_place : equal ≡ true → place < 512
+      module _ {found_at : Result ℕ ℕ} (found : FoundBy literals (literals node) order m found_at) {place : ℕ} where
+        pub found_place : found_at ≡ Ok place → place < 512
         found_place e = let p = found.old e in let f = few_in in omega (arith, p.0, f)
 
         -- the byte at which its number begins
-        pub place_fits : equal ≡ true → Fits w64 (place * 4)
+        pub place_fits : found_at ≡ Ok place → Fits w64 (place * 4)
         place_fits e = let p = found_place e in record { fits = omega arith }
 
-        pub added_old : equal ≡ true → NodeAdded literals node order m (get_or order place 0)
+        pub added_old : found_at ≡ Ok place → NodeAdded literals node order m (get_or order place 0)
         added_old e =
             let (lt, s) = found.old e in
             let p : literals node ≡ literals (get_or order place 0) = alike (told (literals node) (literals (get_or order place 0)) same s) in
@@ -330,7 +335,7 @@ module _ {literals : ℕ → Option Literal} {node : ℕ} {order : List ℕ} {m 
                   sym (ap (λ (o : Option Literal). like_from literals o 1 node) p ∙ (rw last_node at k));
             }
 
-        pub added_new : equal ≡ false → length order ≡ 512 → {later : List ℕ} → later ≡ moved order place m node → NodeAdded literals node later (m + 1) node
+        pub added_new : found_at ≡ Err place → length order ≡ 512 → {later : List ℕ} → later ≡ moved order place m node → NodeAdded literals node later (m + 1) node
         added_new e long {later} moves =
             let f = few_in in
             let b = found.new e in

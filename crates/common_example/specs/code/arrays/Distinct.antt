@@ -1,5 +1,5 @@
 -- The nodes of distinct literals in key order, among which an equal literal is looked for.
-use Rattle.std.specs.Prelude.{ℕ, ◌-◌, ◌≤◌, ◌<◌, Bool, List, ◌≡◌, get_or}
+use Rattle.std.specs.Prelude.{ℕ, ◌-◌, ◌≤◌, ◌<◌, Bool, Result, List, ◌≡◌, get_or}
 use Rattle.std.proofs.Math.Option.{Option, some}
 use Rattle.literal.specs.Literal.{Literal}
 use Rattle.literal.specs.Order.{compared}
@@ -24,8 +24,8 @@ pub record FindAsks (literals : ℕ → Option Literal) (node : ℕ) (order : Li
   pub literal : literals node ≡ some own
 
 -- either the place of an equal literal, or the one before which the node's own goes
-abbrev pub LiteralFound : (ℕ → Option Literal) → ℕ → List ℕ → ℕ → ℕ → Bool → Type 0
-LiteralFound literals node order m place equal = FoundBy literals (literals node) order m place equal
+abbrev pub LiteralFound : (ℕ → Option Literal) → ℕ → List ℕ → ℕ → Result ℕ ℕ → Type 0
+LiteralFound literals node order m r = FoundBy literals (literals node) order m r
 
 -- the nodes below `node` are in
 pub record AddAsks (literals : ℕ → Option Literal) (node : ℕ) (order : List ℕ) (m : ℕ) : Type 0 where

@@ -1,5 +1,5 @@
 use Rattle.planner.specs.Entries.{word_at}
-use Prim.Native.Nat.{◌-◌, ◌≤◌}
+use Prim.Native.Nat.{◌≤◌}
 use lib.ListN.{length}
 use Rattle.planner.proofs.buffer.Filling.{Filling}
 use Rattle.planner.proofs.buffer.clear_after.Given as goal

@@ -1,4 +1,3 @@
-use Prim.Native.Nat.{◌-◌}
 use Rattle.planner.proofs.buffer.Copies.{Copying}
 use Rattle.planner.proofs.buffer.copy_entries.Given as goal
 

@@ -1,4 +1,3 @@
-use Prim.Native.Nat.{◌-◌}
 use Rattle.planner.proofs.laws.States.{Flagging}
 use Rattle.planner.proofs.context.name_flags.Given as goal
 

@@ -5,8 +5,8 @@ use Rattle.common_example.proofs.graph.likes.add_node.Goals as goal
 pub returns-then-not-literal : goal.returns-then-not-literal
 returns-then-not-literal c = search (added_none, rules)
 
-pub find_literal-found-requires : goal.find_literal-found-requires
-find_literal-found-requires c = search (ask_find, rules)
+pub find_literal-requires : goal.find_literal-requires
+find_literal-requires c = search (ask_find, rules)
 
 pub offset_bounds-order-place : goal.offset_bounds-order-place
 offset_bounds-order-place c = search (place_fits, rules)
@@ -14,11 +14,11 @@ offset_bounds-order-place c = search (place_fits, rules)
 pub bounds-order-place : goal.bounds-order-place
 bounds-order-place c = search (found_place, rules)
 
-pub returns-then-found : goal.returns-then-found
-returns-then-found c = search (added_old, rules)
+pub returns-in-Ok : goal.returns-in-Ok
+returns-in-Ok c = search (added_old, rules)
 
 pub overflow_add-result : goal.overflow_add-result
 overflow_add-result c = search (count_fits, rules)
 
-pub returns : goal.returns
-returns c = search (added_new, rules)
+pub returns-in-Err : goal.returns-in-Err
+returns-in-Err c = search (added_new, rules)

@@ -1,6 +1,5 @@
 use Rattle.table.specs.Contents.{contents}
 use Prim.Native.Nat.{◌-◌, ◌*◌}
-use Rattle.table.specs.Tables.{tables}
 use Rattle.planner.proofs.destructuring.FirstPass.{Deciding}
 use Rattle.planner.proofs.destructuring.Counting.{Counting}
 use Rattle.planner.specs.code.Passes.{steps_below}

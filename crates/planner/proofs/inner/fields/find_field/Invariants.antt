@@ -1,6 +1,5 @@
 use Rattle.table.specs.Contents.{contents}
 use Prim.Native.Nat.{◌-◌}
-use Rattle.table.specs.Tables.{tables}
 use Rattle.planner.proofs.fields.FieldLoops.{Finding}
 use Rattle.planner.proofs.inner.fields.find_field.Given as goal
 

@@ -1,6 +1,4 @@
 use Rattle.table.specs.Contents.{contents}
-use Prim.Native.Nat.{◌-◌}
-use Rattle.table.specs.Tables.{tables}
 use Rattle.planner.proofs.fields.FieldLoops.{Arranging}
 use Rattle.planner.proofs.inner.fields.order_fields.Given as goal
 

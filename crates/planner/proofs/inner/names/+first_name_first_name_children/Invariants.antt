@@ -1,6 +1,5 @@
 use Rattle.table.specs.Contents.{contents}
 use Prim.Native.Nat.{◌-◌, ◌*◌}
-use Rattle.table.specs.Tables.{tables}
 use Rattle.planner.proofs.laws.Names.{Looking}
 use Rattle.planner.proofs.inner.names.+first_name_first_name_children.Given as goal
 

@@ -1,6 +1,5 @@
 use Rattle.table.specs.Contents.{contents}
 use Prim.Native.Nat.{◌-◌, ◌*◌}
-use Rattle.table.specs.Tables.{tables}
 use Rattle.planner.proofs.destructuring.SecondPass.{LayingItems, LayingFields}
 use Rattle.planner.proofs.destructuring.Counting.{Counting}
 use Rattle.planner.specs.code.Passes.{lay_out_items, lay_out_ordered}
