@@ -318,7 +318,7 @@ module _ {literals : ℕ → Option Literal} {node : ℕ} {order : List ℕ} {m 
 
       module _ {found_at : Result ℕ ℕ} (found : FoundBy literals (literals node) order m found_at) {place : ℕ} where
         pub found_place : found_at ≡ Ok place → place < 512
-        found_place e = let p = found.old e in let f = few_in in omega (arith, p.0, f)
+        found_place e = let p = rw e at found.place in let f = few_in in omega (arith, p.0, f)
 
         -- the byte at which its number begins
         pub place_fits : found_at ≡ Ok place → Fits w64 (place * 4)
@@ -326,7 +326,7 @@ module _ {literals : ℕ → Option Literal} {node : ℕ} {order : List ℕ} {m 
 
         pub added_old : found_at ≡ Ok place → NodeAdded literals node order m (get_or order place 0)
         added_old e =
-            let (lt, s) = found.old e in
+            let (lt, s) = rw e at found.place in
             let p : literals node ≡ literals (get_or order place 0) = alike (told (literals node) (literals (get_or order place 0)) same s) in
             record {
               distinct = subst (λ (n : ℕ). Distinct literals n order m) last_node (passed literals a.distinct (λ l h k. h place lt (sym p ∙ (rw last_node at k))));
@@ -338,7 +338,7 @@ module _ {literals : ℕ → Option Literal} {node : ℕ} {order : List ℕ} {m 
         pub added_new : found_at ≡ Err place → length order ≡ 512 → {later : List ℕ} → later ≡ moved order place m node → NodeAdded literals node later (m + 1) node
         added_new e long {later} moves =
             let f = few_in in
-            let b = found.new e in
+            let b = rw e at found.place in
             let p = subst (λ (n : ℕ). literals n ≡ some own.0) (sym last_node) own.1 in
             let c = subst (λ (n : ℕ). KeyBetween literals (literals n) order m place place) (sym last_node) b in
             let i = subst (λ (n : ℕ). later ≡ moved order place m n) (sym last_node) moves in
