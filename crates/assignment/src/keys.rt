@@ -4,13 +4,12 @@ ghost use Rattle.table.specs.Lent.{given, lent};
 ghost use Rattle.std.specs.Prelude.{◌≡◌};
 ghost use Rattle.assignment.specs.code.KeyMatching.{literal_keys, FindAsks, partner_of, MissingAsks, missing_from, KeysAsks, KeysMatched, FieldAsks, FieldSides};
 
-use literal::order::ordering_of;
 use planner::PlanRefusal;
 use planner::fields::field_at;
-use planner::inner::fields::order_fields;
-use table::node_kind;
-use table::reading::{child_at, compare_literals, count_of, first_of, kind_of};
+use planner::inner::fields::{find_field, order_fields};
+use table::reading::{child_at, count_of, extract_literal_key, first_of, kind_of};
 use table::tables::Tables;
+use table::{Key, node_kind};
 
 // A left and a right node.
 #[derive(Clone, Copy)]
@@ -39,20 +38,11 @@ fn find_value(tables: &Tables<'_>, object: u32, order: &[u8; 256], total: usize,
     requires { FindAsks (contents tables.now) object order.now total key }
     ensures { result ≡ partner_of (contents tables.now) object key }
 {
+    let Key::Literal(literal) = extract_literal_key(tables.nodes, key) else {
+        return 0;
+    };
     let first = first_of(tables.nodes, object) as usize;
-    let found = order[..total].binary_search_by(|&field| {
-        let other = child_at(tables.children, first + field as usize * 2);
-        let way = compare_literals(
-            tables.nodes,
-            tables.numbers,
-            tables.strings,
-            tables.text,
-            key,
-            other,
-        );
-        ordering_of(way).reverse()
-    });
-    match found {
+    match find_field(tables, first, order, total, literal) {
         Ok(q) => child_at(tables.children, first + field_at(order, q) * 2 + 1),
         Err(_) => 0,
     }

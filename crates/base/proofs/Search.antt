@@ -61,7 +61,7 @@ module _ {X : Type 0} (p : X → Bool) (order : List X) (d : X) (m : ℕ) (fits 
   parted r inside clause calls =
       let n = long in
       let point = IsPartitionPoint-from_clause p (take m order) r clause
-          (λ i j e le lt h. rw (in_front i e (omega arith)) (before j (omega arith) (rw (in_front j e (omega arith)) at h) i le)) calls in
+      (λ i j e le lt h. rw (in_front i e (omega arith)) (before j (omega arith) (rw (in_front j e (omega arith)) at h) i le)) calls in
       record {
         spans = omega arith;
         inside = omega arith;

@@ -1,6 +1,6 @@
 -- The library's binary search by comparisons of a literal, or of its bytes, with the items.
 use Prim.Native.Nat.{ℕ, ◌≤◌, ◌<◌}
-use mathlib.Core.Path.{◌≡◌, refl, sym, ap, subst, ◌∙◌}
+use mathlib.Core.Path.{◌≡◌, refl, ap, subst}
 use mathlib.Core.List.{List}
 use native.Mathlib.Omega.{arith}
 use lib.ListN.{length, get_or, take}
@@ -74,9 +74,9 @@ module _ {X : Type 0} {way : X → Comparison} {order : List X} {d : X} {m : ℕ
   searched {g = g} {f = f} r inside clause calls =
       let n = long in
       let found = placed (λ x. answer_of (way x)) (take m order) d
-          (λ q lt e i le. rw (in_front i (omega arith)) (ap answer_of (s.before q (omega arith) (greater_of _ (rw (in_front q (omega arith)) at e)) i le)))
-          (λ q lt e i le inside. rw (in_front i (omega arith)) (ap answer_of (s.behind q (omega arith) (less_of _ (rw (in_front q (omega arith)) at e)) i le (omega arith))))
-          r inside (clause (λ x. answer_of (way x)) (always_returns_same g (λ a r. r ≡ answer_of (way a.0.now)) f calls)) in
+      (λ q lt e i le. rw (in_front i (omega arith)) (ap answer_of (s.before q (omega arith) (greater_of _ (rw (in_front q (omega arith)) at e)) i le)))
+      (λ q lt e i le inside. rw (in_front i (omega arith)) (ap answer_of (s.behind q (omega arith) (less_of _ (rw (in_front q (omega arith)) at e)) i le (omega arith))))
+      r inside (clause (λ x. answer_of (way x)) (always_returns_same g (λ a r. r ≡ answer_of (way a.0.now)) f calls)) in
       let at = λ (q : ℕ). answer_of (way (get_or (take m order) q d)) in
       placed_as {Before = λ (q : ℕ). at q ≡ Ordering.Less} {At = λ (q : ℕ). at q ≡ Ordering.Equal} {Behind = λ (q : ℕ). at q ≡ Ordering.Greater}
       (λ q lt e. greater_of _ (rw (in_front q lt) at e))

@@ -11,7 +11,7 @@ use Rattle.std.specs.Prelude.{Result, Ok, Err}
 use Rattle.base.specs.code.Search.{Placed}
 use Rattle.literal.specs.Order.{Order, less, same, more, opposite, bytes_order, comparison_of}
 use Rattle.literal.specs.declared.Comparison.{Comparison}
-use Rattle.literal.specs.declared.Comparison.TheVariants.{Less, Equal, Greater, NoLiteral}
+use Rattle.literal.specs.declared.Comparison.TheVariants.{Less, Equal, Greater}
 use Rattle.literal.proofs.Orders.{three_ways, bytes_order_lem}
 use Rattle.literal.proofs.Searched.{Searches, never_none}
 use Rattle.base.specs.Insertion.{moved}
