@@ -1,5 +1,5 @@
 -- The loops that sort key nodes by their texts and hold two sorted arrays against each other.
-use Prim.Native.Nat.{ℕ, suc, ◌+◌, ◌-◌, ◌*◌, ◌/◌, ◌≤◌, ◌<◌}
+use Prim.Native.Nat.{ℕ, suc, ◌+◌, ◌-◌, ◌*◌, ◌≤◌, ◌<◌}
 use mathlib.Core.Path.{◌≡◌, refl, sym, ap, subst, ◌∙◌}
 use mathlib.Core.Bool.{Bool, true, false, ◌&&◌}
 use mathlib.Core.List.{List, []}
@@ -29,7 +29,7 @@ use Rattle.planner.specs.code.Post.{OrderAsks}
 use Rattle.base.proofs.Moving.{moved_take, moved_drop}
 use Rattle.planner.proofs.fields.FieldLoops.{ref_above, never_computed}
 use Rattle.checks.specs.Structure.{sort_texts}
-use Rattle.checks.specs.code.Texts.{is_greater, is_equal, literals_of, KeysOf, text_at, TextAsks, TextBetween, TextPlace, AddKeyAsks, insert_or, KeyAdded, texts_from, SortedKeys, ordered_key, OrderedAsks, agree_from, texts_agree, BothAsks, TextsCompared}
+use Rattle.checks.specs.code.Texts.{is_greater, is_equal, literals_of, KeysOf, text_at, TextAsks, TextPlace, AddKeyAsks, insert_or, KeyAdded, texts_from, SortedKeys, ordered_key, OrderedAsks, agree_from, texts_agree, BothAsks, TextsCompared}
 use Rattle.checks.proofs.TextOrder.{after, sort_ascending, after_before, blank_text, keys_length, compared_at, put_key, texts_agree_lem}
 use Rattle.checks.proofs.KeyTexts.{field_below, sort_or, sort_length, texts_step, texts_none}
 

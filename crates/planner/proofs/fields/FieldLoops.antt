@@ -1,28 +1,24 @@
 -- The loops that put an object's fields in order: the search for a key's place, the move of the numbers behind it, and the pass over the fields.
 use Rattle.std.proofs.Common.{Result, Ok, Err}
-use Prim.Native.Nat.{ℕ, ◌+◌, ◌-◌, ◌*◌, ◌/◌, ◌≤◌, ◌<◌}
-use mathlib.Core.Path.{◌≡◌, refl, sym, ap, subst, ◌∙◌}
+use Prim.Native.Nat.{ℕ, ◌+◌, ◌-◌, ◌*◌, ◌≤◌, ◌<◌}
+use mathlib.Core.Path.{◌≡◌, refl, sym, ap, ◌∙◌}
 use mathlib.Core.Bool.{Bool, true, false}
 use mathlib.Core.List.{List, [], ◌∷◌, ◌++◌}
-use mathlib.Core.Logic.{inl, inr}
 use mathlib.Core.Option.{Option}
 use native.Mathlib.Omega.{arith}
-use lib.ListN.{length, get_or, take, drop, set, take-append-drop}
+use lib.ListN.{length, take, drop, set, take-append-drop}
 use lib.Seq.{take_at, drop-drop, drop-set-lt}
 use mir.Syntax.{w64}
 use mir.Val.{Fits}
 use borrow.Author.Tests.{leb-true, leb-false}
 use lib.Dec.{leb}
-use types.Run.{OneOf}
 use denote.Enum.Declared.{tag_of}
 use Rattle.base.specs.Insertion.{moved}
 use Rattle.base.proofs.Moving.{moved_take, moved_drop}
 use Rattle.literal.specs.Literal.{Literal}
-use Rattle.literal.specs.Order.{same, compared}
+use Rattle.literal.specs.Order.{compared}
 use Rattle.literal.specs.declared.Comparison.{Comparison}
 use Rattle.literal.specs.declared.LiteralRef.{LiteralRef}
-use Rattle.literal.specs.declared.Comparison.TheVariants.{Less, Equal}
-use Rattle.literal.specs.contracts.Comparison.{the_type}
 use Rattle.literal.proofs.Orders.{key_order_lem}
 use Rattle.literal.proofs.Searched.{Searches}
 use Rattle.table.specs.declared.Key.{Key}
@@ -35,7 +31,7 @@ use Rattle.table.proofs.tests.Bytes.{node_refers}
 use Rattle.planner.specs.Layout.{FieldOrder, no_fields, add_field, in_order}
 use Rattle.planner.specs.code.Passes.{key_node, field_key, order_from, order_of}
 use Rattle.planner.specs.code.Post.{OrderAsks, OrderedBy, Arranged}
-use Rattle.planner.specs.code.Ordering.{At, KeyBetween, FieldsIn, AddAsks, FieldAdded, FindAsks, FoundBy}
+use Rattle.planner.specs.code.Ordering.{FieldsIn, AddAsks, FieldAdded, FindAsks, FoundBy}
 use Rattle.planner.proofs.laws.Sizes.{order_few}
 use Rattle.planner.proofs.fields.FieldOrder.{Ordered, literals_first, keys_search, between_insert, ordered_replace, ordered_append, order_next, ordered_first}
 

@@ -1,5 +1,5 @@
 -- What the functions that put an object's fields in order ask and say.
-use Rattle.std.specs.Prelude.{ℕ, ◌+◌, ◌≤◌, ◌<◌, ◌≡◌, Result, Ok, Err, List, length, get_or, take, drop}
+use Rattle.std.specs.Prelude.{ℕ, ◌+◌, ◌≤◌, ◌≡◌, Result, List, length, get_or, take, drop}
 use Rattle.std.proofs.Math.Option.{Option, some}
 use Rattle.base.specs.code.Search.{Between, Placed}
 use Rattle.literal.specs.Literal.{Literal}
