@@ -1,6 +1,5 @@
 // `:=` and `=` (assignment.rs).
 ghost use Rattle.table.specs.Contents.{contents};
-ghost use Rattle.table.specs.Lent.{given, lent};
 ghost use Rattle.std.specs.Prelude.{◌≡◌, []};
 ghost use Rattle.table.specs.Tables.{kind_of};
 ghost use Rattle.planner.specs.Operations.{planned, AnsweredIn};

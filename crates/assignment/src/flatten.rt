@@ -1,6 +1,5 @@
 // The pairs of an `=` both of whose sides bind (assignment.rs, flatten_assignment_pairs).
 ghost use Rattle.table.specs.Contents.{contents};
-ghost use Rattle.table.specs.Lent.{given, lent};
 ghost use Rattle.std.specs.Prelude.{◌≤◌, ◌^◌};
 ghost use Rattle.planner.specs.Entries.{read_entries};
 ghost use Rattle.planner.specs.Operations.{AnsweredIn};

@@ -1,6 +1,5 @@
 // What becomes of two sides.
 ghost use Rattle.table.specs.Contents.{contents};
-ghost use Rattle.table.specs.Lent.{given, lent};
 ghost use Rattle.std.specs.Prelude.{◌≡◌, ◌||◌};
 ghost use Rattle.assignment.specs.declared.judge.Pairing.TheVariants.{Whole};
 ghost use Rattle.assignment.specs.code.Judging.{objects_pairing, kinds_pairing, judgement_of, JudgesIn};

@@ -1,6 +1,5 @@
 // A side's plan, and the names that it binds.
 ghost use Rattle.table.specs.Contents.{contents};
-ghost use Rattle.table.specs.Lent.{given, lent};
 ghost use Rattle.std.specs.Prelude.{◌<◌, ◌≡◌};
 ghost use Rattle.planner.specs.Layout.{binds_any};
 ghost use Rattle.planner.specs.Entries.{read_entries};

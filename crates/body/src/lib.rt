@@ -7,7 +7,6 @@ mod ready;
 mod sides;
 
 ghost use Rattle.table.specs.Contents.{contents};
-ghost use Rattle.table.specs.Lent.{given, lent};
 ghost use Rattle.std.specs.Prelude.{◌≡◌, true};
 ghost use Rattle.body.specs.Lines.{is_body};
 ghost use Rattle.body.specs.Body.{body_outcome, BodyAnsweredIn};

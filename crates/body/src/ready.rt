@@ -1,6 +1,5 @@
 // The first name of a planned line that is not ready: on its value sides, then in its computed keys. Node 0 stands for none.
 ghost use Rattle.table.specs.Contents.{contents};
-ghost use Rattle.table.specs.Lent.{given, lent};
 ghost use Rattle.std.specs.Prelude.{◌≡◌, cond, eqb};
 ghost use Rattle.body.specs.code.Post.{Asks, first_unknown, both_unknown, PlanHeld, pairs_found, keys_found, values_found, line_found};
 

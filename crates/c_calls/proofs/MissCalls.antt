@@ -25,7 +25,7 @@ use Rattle.operation.specs.declared.numbers.OperationNumbers.{OperationNumbers}
 use Rattle.operation.specs.declared.row.Row.{Row}
 use Rattle.operation.specs.Numbers.{scoping_of}
 use Rattle.operation.specs.Rows.{row_line, Told}
-use Rattle.std.proofs.Common.{Option, Result, Ok, Err}
+use Rattle.std.proofs.Common.{Option, Result, Err}
 use Rattle.run.specs.declared.RunRefusal.{RunRefusal}
 use Rattle.run.specs.Answer.{run_refusal}
 use Rattle.run.specs.Operations.{RunOutcome, run_outcome}

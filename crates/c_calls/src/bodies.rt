@@ -1,6 +1,5 @@
 // The call for a rule body over lent tables.
 ghost use Rattle.table.specs.Contents.{contents};
-ghost use Rattle.table.specs.Lent.{lent};
 ghost use Rattle.std.specs.Prelude.{◌≡◌, Err, cond, eqb};
 ghost use Rattle.base.specs.Refusal.{line, tested_line};
 ghost use Rattle.scope.specs.Bytes.{conversion_of};

@@ -1,6 +1,5 @@
 // The common example over lent tables: a value that two patterns both match.
 ghost use Rattle.table.specs.Contents.{contents};
-ghost use Rattle.table.specs.Lent.{lent};
 ghost use Rattle.std.specs.Prelude.{◌≡◌};
 ghost use Rattle.scope.specs.Bytes.{conversion_of};
 ghost use Rattle.operation.specs.Rows.{row_line};
@@ -39,11 +38,15 @@ fn example_row(answer: Result<Option<Example>, ExampleRefusal>) -> Row
     ensures { row_line result ≡ example_line (example_result answer) }
 {
     match answer {
-        Ok(Some(Example {
-            node,
-            nodes,
-            children,
-        })) => row_from(0, node as u64, nodes as u64, children as u64),
+        Ok(
+            Some(
+                Example {
+                    node,
+                    nodes,
+                    children,
+                },
+            ),
+        ) => row_from(0, node as u64, nodes as u64, children as u64),
         Ok(None) => row_from(100, 0, 0, 0),
         Err(ExampleRefusal::SideRefused(refused)) => side_row(refused),
         Err(ExampleRefusal::ValueTooLarge) => row_from(36, 0, 0, 0),

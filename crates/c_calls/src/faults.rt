@@ -1,6 +1,5 @@
 // Which rule of the tables is broken, and where.
 ghost use Rattle.table.specs.Contents.{contents};
-ghost use Rattle.table.specs.Lent.{lent};
 ghost use Rattle.std.specs.Prelude.{◌≡◌};
 ghost use Rattle.operation.specs.Rows.{row_line};
 ghost use Rattle.table_fault.specs.Fault.{fault_told, fault_line};
@@ -17,11 +16,13 @@ fn fault_row(answer: Option<BrokenRule>) -> Row
 {
     match answer {
         None => row_from(0, 0, 0, 0),
-        Some(BrokenRule {
-            refused,
-            rule,
-            place,
-        }) => row_from(refusal_number(refused) as u64, rule as u64, place as u64, 0),
+        Some(
+            BrokenRule {
+                refused,
+                rule,
+                place,
+            },
+        ) => row_from(refusal_number(refused) as u64, rule as u64, place as u64, 0),
     }
 }
 

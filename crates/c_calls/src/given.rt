@@ -3,7 +3,6 @@ ghost use Rattle.table.specs.Contents.{contents};
 ghost use Rattle.std.specs.Prelude.{◌≡◌, get_or};
 ghost use Rattle.base.specs.Refusal.{tested_line};
 ghost use Rattle.scope.specs.Bytes.{conversion_of, ConvertedFrom};
-ghost use Rattle.table.specs.Lent.{lent};
 ghost use Rattle.c_calls.specs.Given.{marks_of, byte_scope_of, given_scope, pattern_numbers, GivenTold};
 
 use operation::numbers::{OperationNumbers, are_listed};

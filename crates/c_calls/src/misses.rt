@@ -1,6 +1,5 @@
 // The first miss of a run over lent tables.
 ghost use Rattle.table.specs.Contents.{contents};
-ghost use Rattle.table.specs.Lent.{lent};
 ghost use Rattle.std.specs.Prelude.{◌≡◌};
 ghost use Rattle.operation.specs.Rows.{row_line};
 ghost use Rattle.first_miss.specs.Answer.{no_match_lem, miss_result_of};

@@ -1,6 +1,5 @@
 // The planning call over lent tables.
 ghost use Rattle.table.specs.Contents.{contents};
-ghost use Rattle.table.specs.Lent.{lent};
 ghost use Rattle.c_calls.specs.Calls.{PlanCalledIn};
 
 use crate::answer::refuse;

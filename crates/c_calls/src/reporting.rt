@@ -1,6 +1,5 @@
 // The names report over lent tables.
 ghost use Rattle.table.specs.Contents.{contents};
-ghost use Rattle.table.specs.Lent.{lent};
 ghost use Rattle.c_calls.specs.Calls.{ReportCalledIn};
 
 use crate::answer::{refuse, report_row};

@@ -1,6 +1,5 @@
 // Run over lent tables.
 ghost use Rattle.table.specs.Contents.{contents};
-ghost use Rattle.table.specs.Lent.{lent};
 ghost use Rattle.c_calls.specs.Calls.{RunCalledIn};
 
 use crate::answer::{refuse, run_row};

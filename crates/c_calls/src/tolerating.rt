@@ -1,6 +1,5 @@
 // Run over lent tables, with a lowest and a highest number for each node.
 ghost use Rattle.table.specs.Contents.{contents};
-ghost use Rattle.table.specs.Lent.{lent};
 ghost use Rattle.c_calls.specs.Tolerating.{ToleratedIn};
 
 use crate::answer::{refuse, tolerance_row};

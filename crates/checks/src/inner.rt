@@ -1,6 +1,5 @@
 // A pattern held against a literal expression (utils.rs).
 ghost use Rattle.table.specs.Contents.{contents};
-ghost use Rattle.table.specs.Lent.{given, lent};
 ghost use Rattle.std.specs.Prelude.{◌≡◌};
 ghost use Rattle.table.specs.Decode.{expr};
 ghost use Rattle.checks.specs.Structure.{structure};

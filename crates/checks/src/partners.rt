@@ -1,7 +1,6 @@
 // Fields of two objects under equal literal keys.
 ghost use Rattle.table.specs.Contents.{contents};
 ghost use Rattle.base.specs.Lists.{all_from};
-ghost use Rattle.table.specs.Lent.{given, lent};
 ghost use Rattle.std.specs.Prelude.{◌≡◌, ◌≤◌};
 ghost use Rattle.table.specs.Decode.{literal_at};
 ghost use Rattle.checks.specs.code.Post.{WorkingSpace, patterns_of, FieldsAsks, PartnerAsks, PlaceIs, SlotAsks, SlotIs, is_marked, Unmarked, MarkedAt, Marked, paired_at, paired_by};

@@ -1,6 +1,6 @@
 // The literal keys of two objects, by their texts.
 ghost use Rattle.table.specs.Contents.{contents};
-ghost use Rattle.table.specs.Lent.{given, lent, lent_literal, lent_referred};
+ghost use Rattle.table.specs.Lent.{lent_literal, lent_referred};
 ghost use Rattle.std.specs.Prelude.{◌≡◌, ◌≤◌};
 ghost use Rattle.literal.specs.Text.{texts_compared};
 ghost use Rattle.table.specs.Decode.{literal_node};

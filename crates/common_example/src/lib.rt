@@ -2,8 +2,6 @@
 #![tactic(auto)]
 
 ghost use Rattle.table.specs.Contents.{contents};
-ghost use Rattle.table.specs.Lent.{given, lent};
-ghost use Rattle.std.specs.Prelude.{◌≡◌};
 ghost use Rattle.common_example.specs.Common.{pattern_side, CommonIn, SideCheckedIn};
 ghost use Rattle.common_example.specs.code.Common.{SidesCheckedIn, WriteAsks, WrittenIn, GiveAsks, GivenIn, PassedAsks, PassedIn};
 

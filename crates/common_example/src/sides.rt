@@ -1,6 +1,5 @@
 // The checks of a run, to 23, of one side: a pattern with the scope and the values of its own names.
 ghost use Rattle.table.specs.Contents.{contents};
-ghost use Rattle.table.specs.Lent.{given, lent};
 ghost use Rattle.std.specs.Prelude.{◌≡◌};
 ghost use Rattle.run.specs.Operations.{values_listed};
 ghost use Rattle.run.specs.code.ChecksPost.{AllAsks};

@@ -1,6 +1,5 @@
 // The graph of two patterns of a checked table, and its classes with the two roots joined.
 ghost use Rattle.table.specs.Contents.{contents};
-ghost use Rattle.table.specs.Lent.{given, lent};
 ghost use Rattle.common_example.specs.code.arrays.Unifying.{LinksFrom, LinksMade, GraphAsks, GraphMade, PatternsAsks, Unifies};
 
 use crate::classes::{HEAD_WORDS, LINK_WORDS, PLACES};

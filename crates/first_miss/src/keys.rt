@@ -1,6 +1,6 @@
 // The key sets of a pattern's object and a value's: a key that is missing, or one too many.
 ghost use Rattle.table.specs.Contents.{contents};
-ghost use Rattle.table.specs.Lent.{given, lent, lent_literal};
+ghost use Rattle.table.specs.Lent.{lent_literal};
 ghost use Rattle.std.specs.Prelude.{◌≡◌};
 ghost use Rattle.value.specs.code.Post.{KeySetsAsks};
 ghost use Rattle.first_miss.specs.code.Post.{comes_before, LesserAsks, LesserTold, MissingTold, OtherTold};

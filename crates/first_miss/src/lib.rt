@@ -2,7 +2,6 @@
 #![tactic(auto)]
 
 ghost use Rattle.table.specs.Contents.{contents};
-ghost use Rattle.table.specs.Lent.{lent};
 ghost use Rattle.first_miss.specs.Operations.{MissToldIn};
 
 use run::RunRefusal;

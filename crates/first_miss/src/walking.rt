@@ -1,6 +1,5 @@
 // The run again, as a walk over the pattern: a name that has no value is set, one that has is compared. A part matches, or its first miss is told.
 ghost use Rattle.table.specs.Contents.{contents};
-ghost use Rattle.table.specs.Lent.{given, lent};
 ghost use Rattle.std.specs.Prelude.{◌≡◌};
 ghost use Rattle.first_miss.specs.code.Post.{literal_walked, array_walked, ObjectTold, LiteralAsks, ObjectAsks, WalkAsks, NameAsks, ItemsAsks, FieldsAsks, walk_nodes, walk_listed, walk_under, CameIn};
 

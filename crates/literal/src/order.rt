@@ -1,5 +1,5 @@
 // The order of keys.
-ghost use Rattle.std.specs.Prelude.{◌≡◌, ◌+◌, ◌*◌, ◌^◌, ◌<◌, ◌≤◌, min, length};
+ghost use Rattle.std.specs.Prelude.{◌≡◌, ◌+◌, ◌*◌, ◌^◌, ◌<◌, ◌≤◌, length};
 ghost use Rattle.literal.specs.Order.{nat_order, number_order, bytes_order, comparison_of, compared, ordering_of};
 ghost use Rattle.literal.specs.Reading.{literal_of, bytes_of};
 ghost use Rattle.literal.specs.code.Chunks.{Prefix, same_from, Said};

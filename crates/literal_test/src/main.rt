@@ -1,8 +1,6 @@
 // Runs a table of literals: how each two compare as keys and as key texts, then the text of each.
 #![tactic(auto)]
 
-ghost use Rattle.std.specs.Prelude.{◌≤◌};
-
 use literal::{Comparison, KeyText, LiteralRef};
 use std::io;
 

@@ -1,6 +1,5 @@
 // Each asks for a checked table. A plan is carried out entry by entry; an entry's children are taken by their positions, so items and fields as written.
 ghost use Rattle.table.specs.Contents.{contents};
-ghost use Rattle.table.specs.Lent.{given, lent};
 ghost use Rattle.std.specs.Prelude.{◌-◌, ◌≡◌, set};
 ghost use Rattle.table.specs.Tables.{first_word_of};
 ghost use Rattle.table.specs.Decode.{expr};

@@ -8,7 +8,6 @@ pub mod row;
 mod version;
 
 ghost use Rattle.table.specs.Contents.{contents};
-ghost use Rattle.table.specs.Lent.{lent};
 ghost use Rattle.planner.specs.Operations.{AnsweredIn};
 ghost use Rattle.operation.specs.Operation.{operation_outcome};
 ghost use Rattle.operation.specs.Version.{version_outcome};

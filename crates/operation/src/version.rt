@@ -1,6 +1,5 @@
 // Version 1 of Rego reserves `input` and `data`.
 ghost use Rattle.table.specs.Contents.{contents};
-ghost use Rattle.table.specs.Lent.{given, lent};
 ghost use Rattle.std.specs.Prelude.{◌≡◌};
 ghost use Rattle.table.specs.Tables.{name_bytes};
 ghost use Rattle.table.specs.Names.{class_of};

@@ -1,6 +1,5 @@
 // Plans of patterns (destructuring.rs).
 ghost use Rattle.table.specs.Contents.{contents};
-ghost use Rattle.table.specs.Lent.{given, lent};
 ghost use Rattle.planner.specs.code.Post.{GoodRoot};
 ghost use Rattle.planner.specs.Operations.{pattern_outcome, AnsweredIn};
 ghost use Rattle.planner.specs.code.Validation.{planned_if, outcome_if};

@@ -1,6 +1,5 @@
 // Plans of loop indices and function parameters (parameters.rs).
 ghost use Rattle.table.specs.Contents.{contents};
-ghost use Rattle.table.specs.Lent.{lent};
 ghost use Rattle.planner.specs.Operations.{index_outcome, parameter_outcome, AnsweredIn};
 
 use crate::destructuring::{create_destructuring_plan, create_plan};

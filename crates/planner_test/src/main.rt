@@ -1,10 +1,10 @@
 // Plans the patterns of one table and prints a listing of each, as document 01 lays it out.
 #![tactic(auto)]
 
-use planner::{Plan, PlanRefusal};
 use planner::buffer::ENTRY_WORDS;
 use planner::destructuring::create_destructuring_plan;
 use planner::parameters::{create_loop_index_binding_plan, create_parameter_binding_plan};
+use planner::{Plan, PlanRefusal};
 use scope::{ByteScope, Scope, ScopingMode};
 use std::io;
 use table::tables::Tables;
@@ -161,11 +161,13 @@ fn refusal(answer: TableRefusal) -> u64 {
 // The answer's line; how many entries follow.
 fn print_answer(rt: &impl Print, answer: Result<Plan, PlanRefusal>) -> io::Result<usize> {
     match answer {
-        Ok(Plan {
-            form,
-            side,
-            entries,
-        }) => {
+        Ok(
+            Plan {
+                form,
+                side,
+                entries,
+            },
+        ) => {
             print_row(rt, 0, form as u64, side as u64, entries as u64)?;
             return Ok(entries);
         }

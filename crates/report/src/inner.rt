@@ -1,6 +1,5 @@
 // The names that a pattern meets. Each function that asks something asks for a checked table.
 ghost use Rattle.table.specs.Contents.{contents};
-ghost use Rattle.table.specs.Lent.{given, lent};
 ghost use Rattle.std.specs.Prelude.{◌≡◌, length};
 ghost use Rattle.table.specs.Decode.{expr};
 ghost use Rattle.base.specs.Lists.{tabulate};

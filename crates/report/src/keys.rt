@@ -1,6 +1,5 @@
 // The names that stand as computed keys of a checked table's pattern.
 ghost use Rattle.table.specs.Contents.{contents};
-ghost use Rattle.table.specs.Lent.{given, lent};
 ghost use Rattle.std.specs.Prelude.{◌≡◌};
 ghost use Rattle.table.specs.Decode.{expr, fields_of};
 ghost use Rattle.planner.specs.code.Post.{Walks, WalksChildren, GoodRoot};

@@ -2,7 +2,6 @@
 #![tactic(auto)]
 
 ghost use Rattle.table.specs.Contents.{contents};
-ghost use Rattle.table.specs.Lent.{given, lent};
 ghost use Rattle.std.specs.Prelude.{◌≡◌};
 ghost use Rattle.report.specs.Report.{ReportedIn};
 ghost use Rattle.report.specs.code.Post.{EntryBound, marked_by, BoundAsks, BoundMarked, ReportAsks, PlannedMarked, ReportMarked};

@@ -2,9 +2,6 @@
 #![tactic(auto)]
 
 ghost use Rattle.table.specs.Contents.{contents};
-ghost use Rattle.table.specs.Lent.{given, lent};
-ghost use Rattle.std.specs.Prelude.{◌≡◌};
-ghost use Rattle.run.specs.declared.RunRefusal.TheVariants.{TableRefused};
 ghost use Rattle.run.specs.Operations.{RanIn};
 ghost use Rattle.run.specs.code.Post.{RunAsks, MatchValuesAsks, ValuesCameIn, CarriedIn};
 

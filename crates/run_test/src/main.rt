@@ -105,7 +105,12 @@ fn start_list(parsed: &Parsed, names: usize) -> [u32; 16] {
     list
 }
 
-fn carried_out(line: &[u8], parsed: &Parsed, list: &mut [u32], plan: &mut [u32]) -> Result<RunAnswer, RunRefusal> {
+fn carried_out(
+    line: &[u8],
+    parsed: &Parsed,
+    list: &mut [u32],
+    plan: &mut [u32],
+) -> Result<RunAnswer, RunRefusal> {
     let names = names();
     let tables = Tables {
         nodes: parsed.nodes.as_flattened(),

@@ -1,6 +1,5 @@
 // A pattern held against the items of a collection.
 ghost use Rattle.table.specs.Contents.{contents};
-ghost use Rattle.table.specs.Lent.{given, lent};
 ghost use Rattle.std.specs.Prelude.{◌≡◌};
 ghost use Rattle.planner.specs.code.Post.{GoodPair};
 ghost use Rattle.table.specs.Decode.{expr};

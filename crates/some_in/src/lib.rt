@@ -4,7 +4,6 @@
 mod collection;
 
 ghost use Rattle.table.specs.Contents.{contents};
-ghost use Rattle.table.specs.Lent.{given, lent};
 ghost use Rattle.planner.specs.Operations.{AnsweredIn};
 ghost use Rattle.planner.specs.code.Post.{GoodPair};
 ghost use Rattle.some_in.specs.SomeIn.{some_in_planned, some_in_outcome};

@@ -1,15 +1,12 @@
--- The tables that a function is lent, by its own parameters: `given` in a `requires`, `lent` in an `ensures`.
+-- Six tables that a function is lent one by one, by its own parameters.
 use Rattle.std.specs.Prelude.{ℕ}
 use Rattle.std.proofs.Math.Option.{Option}
-use Rattle.base.specs.Lent.{Slice, Slices}
+use Rattle.base.specs.Lent.{Slices}
 use Rattle.literal.specs.Literal.{Literal}
 use Rattle.literal.specs.Reading.{literal_of}
 use Rattle.literal.specs.declared.LiteralRef.{LiteralRef}
 use Rattle.table.specs.Tables.{Tables, tables}
 use Rattle.table.specs.Decode.{literal_node}
-
-abbrev pub given : Slice → Slice → Slice → Slice → Slice → Slice → Tables
-given nodes children numbers names strings text = tables nodes.now children.now numbers.now names.now strings.now text.now
 
 abbrev pub lent : Slices → Slices → Slices → Slices → Slices → Slices → Tables
 lent nodes children numbers names strings text =

@@ -2,7 +2,6 @@
 #![tactic(auto)]
 
 ghost use Rattle.table.specs.Contents.{contents};
-ghost use Rattle.table.specs.Lent.{lent};
 ghost use Rattle.std.specs.Prelude.{◌≡◌};
 ghost use Rattle.table.specs.Check.{TableAnswered, table_refused};
 

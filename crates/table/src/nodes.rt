@@ -1,6 +1,5 @@
 // The table rules that speak of the nodes.
 ghost use Rattle.table.specs.Contents.{contents};
-ghost use Rattle.table.specs.Lent.{given, lent};
 ghost use Rattle.std.specs.Prelude.{◌≡◌, [], ◌/◌, ◌≤◌, length};
 ghost use Rattle.table.specs.Tables.{tables};
 ghost use Rattle.base.specs.Lists.{all_from};

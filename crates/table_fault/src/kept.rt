@@ -1,6 +1,5 @@
 // Whether a rule is kept at a place.
 ghost use Rattle.table.specs.Contents.{contents};
-ghost use Rattle.table.specs.Lent.{given, lent};
 ghost use Rattle.std.specs.Prelude.{◌≡◌, [], ◌/◌, ◌<◌, ◌≤◌, length};
 ghost use Rattle.table.specs.Tables.{tables};
 ghost use Rattle.table.specs.Rules.{number_ok};

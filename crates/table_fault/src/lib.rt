@@ -2,7 +2,6 @@
 #![tactic(auto)]
 
 ghost use Rattle.table.specs.Contents.{contents};
-ghost use Rattle.table.specs.Lent.{given, lent};
 ghost use Rattle.table.specs.Check.{table_refused};
 ghost use Rattle.std.specs.Prelude.{◌≡◌};
 ghost use Rattle.table_fault.specs.Fault.{FaultAnswered, broken_place};

@@ -1,6 +1,5 @@
 // What the rules say of one node's words.
 ghost use Rattle.table.specs.Contents.{contents};
-ghost use Rattle.table.specs.Lent.{lent};
 ghost use Rattle.std.specs.Prelude.{◌≡◌, true, cond, ◌&&◌, [], ◌/◌, ◌≤◌, eqb, leb, length};
 ghost use Rattle.table.specs.Tables.{tables, kind_of};
 ghost use Rattle.table.specs.Rules.{name_text_ok};

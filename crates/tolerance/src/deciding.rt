@@ -1,6 +1,5 @@
 // Always, sometimes or never: a pattern met with a value, from the ranges of the value's numbers.
 ghost use Rattle.table.specs.Contents.{contents};
-ghost use Rattle.table.specs.Lent.{given, lent};
 ghost use Rattle.std.specs.Prelude.{◌≡◌, cond};
 ghost use Rattle.tolerance.specs.code.Post.{OwnLabels, EndsFrom, DecideAsks, DecidedIn};
 

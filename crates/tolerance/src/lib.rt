@@ -2,9 +2,7 @@
 #![tactic(auto)]
 
 ghost use Rattle.table.specs.Contents.{contents};
-ghost use Rattle.table.specs.Lent.{given, lent};
 ghost use Rattle.std.specs.Prelude.{◌≡◌, Ok};
-ghost use Rattle.tolerance.specs.declared.ToleranceRefusal.TheVariants.{Run};
 ghost use Rattle.tolerance.specs.Operations.{JudgedIn};
 ghost use Rattle.tolerance.specs.code.Post.{ToJudge, GivenAsks, given_ok};
 

@@ -1,6 +1,5 @@
 // Can a pattern, or a value, be equal to a value? Structure aside, each two numbers that must be equal are put into one class; a name is set to the node that it meets first.
 ghost use Rattle.table.specs.Contents.{contents};
-ghost use Rattle.table.specs.Lent.{given, lent};
 ghost use Rattle.std.specs.Prelude.{◌≡◌, true, get_or};
 ghost use Rattle.tolerance.specs.code.Post.{EquatedIn, LiteralAsks, MeetAsks, NameAsks, MeetItemsAsks, MeetFieldsAsks, MetIn, conditions_at, meets_nodes, meets_listed, meets_under};
 

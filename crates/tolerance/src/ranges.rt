@@ -1,6 +1,5 @@
 // The ranges of nodes: are they allowed, and the classes that they start from.
 ghost use Rattle.table.specs.Contents.{contents};
-ghost use Rattle.table.specs.Lent.{given, lent};
 ghost use Rattle.std.specs.Prelude.{◌≡◌, cond, eqb};
 ghost use Rattle.base.specs.Lists.{all_from};
 ghost use Rattle.table.specs.Tables.{record_word};

@@ -1,6 +1,5 @@
 // The child list with the fields of each object that is a simple pattern in key order, as a plan has them.
 ghost use Rattle.table.specs.Contents.{contents};
-ghost use Rattle.table.specs.Lent.{given, lent};
 ghost use Rattle.std.specs.Prelude.{◌≡◌};
 ghost use Rattle.base.specs.Lists.{tabulate};
 ghost use Rattle.table.specs.Tables.{child_at};

@@ -1,6 +1,5 @@
 // The place of a node's value on a side: n * 4 is node n on the first, n * 4 + 1 on the second; n * 4 + 2 and n * 4 + 3 are name n.
 ghost use Rattle.table.specs.Contents.{contents};
-ghost use Rattle.table.specs.Lent.{given};
 ghost use Rattle.std.specs.Prelude.{◌≡◌};
 ghost use Rattle.table.specs.Tables.{name_bytes};
 ghost use Rattle.table.specs.Names.{same_bytes, underscore_bytes};

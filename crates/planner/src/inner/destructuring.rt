@@ -1,6 +1,5 @@
 // The plan of a pattern of a checked table: the first pass, in written order, finds the node that binds each name. Each pass counts the nodes that it goes into.
 ghost use Rattle.table.specs.Contents.{contents};
-ghost use Rattle.table.specs.Lent.{given, lent};
 ghost use Rattle.std.specs.Prelude.{◌≡◌};
 ghost use Rattle.table.specs.Decode.{expr};
 ghost use Rattle.scope.specs.Scope.{is_unbound};

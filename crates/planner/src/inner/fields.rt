@@ -1,6 +1,6 @@
 // The fields of a checked table's object in plan order: literal keys in key order, the last of a repeated key, then computed ones as written.
 ghost use Rattle.table.specs.Contents.{contents};
-ghost use Rattle.table.specs.Lent.{given, lent, lent_literal, lent_referred};
+ghost use Rattle.table.specs.Lent.{lent_literal, lent_referred};
 ghost use Rattle.std.specs.Prelude.{◌≡◌, ◌+◌, ◌*◌, ◌<◌, ◌^◌};
 ghost use Rattle.literal.specs.Order.{compared};
 ghost use Rattle.table.specs.Tables.{child_at};

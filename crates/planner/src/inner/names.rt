@@ -1,6 +1,5 @@
 // The walk over the names of a checked table's pattern, as written.
 ghost use Rattle.table.specs.Contents.{contents};
-ghost use Rattle.table.specs.Lent.{given, lent};
 ghost use Rattle.std.specs.Prelude.{◌≡◌, cond};
 ghost use Rattle.table.specs.Decode.{expr};
 ghost use Rattle.planner.specs.Names.{occurrences, first_node};

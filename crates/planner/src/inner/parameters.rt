@@ -1,6 +1,5 @@
 // The validation of the names of a checked table's pattern (utils.rs).
 ghost use Rattle.table.specs.Contents.{contents};
-ghost use Rattle.table.specs.Lent.{given, lent};
 ghost use Rattle.std.specs.Prelude.{◌≡◌};
 ghost use Rattle.planner.specs.code.Post.{GoodRoot};
 ghost use Rattle.planner.specs.code.Validation.{first_defined};

@@ -1,6 +1,5 @@
 // The second pass: a plan's entries in plan order (plans.rs, destructuring.rs).
 ghost use Rattle.table.specs.Contents.{contents};
-ghost use Rattle.table.specs.Lent.{given, lent};
 ghost use Rattle.std.specs.Prelude.{◌≡◌, ◌-◌, length};
 ghost use Rattle.table.specs.Decode.{expr};
 ghost use Rattle.planner.specs.Layout.{below};

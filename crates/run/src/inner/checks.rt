@@ -1,6 +1,5 @@
 // What a run turns back before it plans: a pattern that is not simple, a node that is no value.
 ghost use Rattle.table.specs.Contents.{contents};
-ghost use Rattle.table.specs.Lent.{given, lent};
 ghost use Rattle.std.specs.Prelude.{◌/◌, ◌≤◌, ◌≡◌, ◌&&◌, length};
 ghost use Rattle.table.specs.Decode.{expr};
 ghost use Rattle.planner.specs.code.Post.{GoodRoot};

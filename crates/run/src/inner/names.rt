@@ -1,6 +1,5 @@
 // The values of names by their numbers: at the start, and after a match.
 ghost use Rattle.table.specs.Contents.{contents};
-ghost use Rattle.table.specs.Lent.{given, lent};
 ghost use Rattle.std.specs.Prelude.{◌/◌, ◌≡◌, [], cond, eqb, length};
 ghost use Rattle.scope.specs.Scope.{is_unbound, known};
 ghost use Rattle.table.specs.Tables.{tables};

@@ -1,6 +1,5 @@
 // What a run turns back before it plans, in its order.
 ghost use Rattle.table.specs.Contents.{contents};
-ghost use Rattle.table.specs.Lent.{given, lent};
 ghost use Rattle.run.specs.code.Post.{CheckedAsks, CheckToldIn};
 
 use crate::RunRefusal;

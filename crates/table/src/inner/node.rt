@@ -1,6 +1,5 @@
 // The table rules that speak of one node.
 ghost use Rattle.table.specs.Contents.{contents};
-ghost use Rattle.table.specs.Lent.{lent};
 ghost use Rattle.std.specs.Prelude.{◌≡◌, ◌&&◌, [], ◌+◌, ◌/◌, ◌<◌, eqb, leb, ltb, length};
 ghost use Rattle.table.specs.Tables.{tables, first_word_of, count_of};
 ghost use Rattle.table.specs.Rules.{span_ok, name_text_ok, words_ok, children_below};

@@ -1,6 +1,5 @@
 // Which nodes are simple patterns, and which are values. Children have lower numbers than their parents, so one pass over the nodes is enough.
 ghost use Rattle.table.specs.Contents.{contents};
-ghost use Rattle.table.specs.Lent.{given, lent};
 ghost use Rattle.std.specs.Prelude.{◌≡◌};
 ghost use Rattle.table.specs.code.Sound.{WellFormed};
 ghost use Rattle.table.specs.Decode.{expr, fields};

@@ -1,6 +1,5 @@
 // Are two values equal? Fields in the same order are found at once.
 ghost use Rattle.table.specs.Contents.{contents};
-ghost use Rattle.table.specs.Lent.{given, lent};
 ghost use Rattle.std.specs.Prelude.{◌≡◌};
 ghost use Rattle.table.specs.Decode.{expr, fields_of};
 ghost use Rattle.value.specs.Value.{value_of, value_fields_of, same, same_items, same_fields_lem};

@@ -1,6 +1,6 @@
 // The fields of an object by their keys.
 ghost use Rattle.table.specs.Contents.{contents};
-ghost use Rattle.table.specs.Lent.{given, lent, lent_literal};
+ghost use Rattle.table.specs.Lent.{lent_literal};
 ghost use Rattle.std.specs.Prelude.{◌≡◌};
 ghost use Rattle.table.specs.Decode.{literal_at, fields_of};
 ghost use Rattle.planner.specs.Simple.{keys_of};

@@ -1,4 +1,3 @@
-use Prim.Native.Nat.{◌-◌}
 use Rattle.c_calls.proofs.BodyCalls.{Putting}
 use Rattle.c_calls.proofs.bodies.put_marks.Given as goal
 

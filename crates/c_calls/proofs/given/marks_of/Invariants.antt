@@ -1,4 +1,3 @@
-use Prim.Native.Nat.{◌-◌}
 use lib.ListN.{get_or}
 use Rattle.base.proofs.Filling.{Filling}
 use Rattle.c_calls.proofs.given.marks_of.Given as goal

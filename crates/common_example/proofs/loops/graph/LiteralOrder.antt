@@ -1,6 +1,6 @@
 -- Distinct literals in key order: the search for a literal's place, and one node more.
 use Rattle.std.proofs.Common.{Result, Ok, Err}
-use Prim.Native.Nat.{ℕ, ◌+◌, ◌-◌, ◌*◌, ◌/◌, ◌≤◌, ◌<◌}
+use Prim.Native.Nat.{ℕ, ◌+◌, ◌-◌, ◌*◌, ◌≤◌, ◌<◌}
 use mathlib.Core.Bool.{Bool, true, false, cond, not, false≢true}
 use mathlib.Core.List.{List}
 use mathlib.Core.Logic.{◌⊎◌, inl, inr}
@@ -15,8 +15,7 @@ use Rattle.base.specs.Insertion.{moved}
 use Rattle.base.proofs.Moving.{moved_front, moved_here, moved_next}
 use Rattle.literal.specs.Literal.{Literal}
 use Rattle.literal.specs.Order.{Order, less, same, more, opposite, key_order, compared, comparison_of}
-use Rattle.literal.specs.declared.Comparison.{Comparison}
-use Rattle.literal.specs.declared.Comparison.TheVariants.{Less, Equal, NoLiteral}
+use Rattle.literal.specs.declared.Comparison.TheVariants.{Less, NoLiteral}
 use Rattle.literal.specs.contracts.Comparison.{the_type}
 use Rattle.literal.proofs.Orders.{key_order_lem, three_ways}
 use Rattle.literal.proofs.Searched.{Searches, never_none}

@@ -1,5 +1,5 @@
 -- The nodes of distinct literals in key order, among which an equal literal is looked for.
-use Rattle.std.specs.Prelude.{ℕ, ◌-◌, ◌≤◌, ◌<◌, Bool, Result, List, ◌≡◌, get_or}
+use Rattle.std.specs.Prelude.{ℕ, ◌-◌, ◌≤◌, ◌<◌, Result, List, ◌≡◌, get_or}
 use Rattle.std.proofs.Math.Option.{Option, some}
 use Rattle.literal.specs.Literal.{Literal}
 use Rattle.literal.specs.Order.{compared}
