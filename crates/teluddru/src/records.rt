@@ -15,7 +15,7 @@ pub(crate) struct NameWords {
 
 impl NameWords {
     // The words of the names.
-    pub fn pairs(&self) -> &[u32]
+    pub(crate) fn pairs(&self) -> &[u32]
         requires { self.now.count ≤ 129 }
         ensures { result.now ≡ held self.now }
     {
