@@ -150,17 +150,11 @@ fn flatten_items(
     requires { ItemsAsksIn scratch (contents tables.now) states.old lefts parent rights count at }
     ensures { ItemsFlattened states plan (contents tables.now) lefts rights count at result × WorkingSpaces binders scratch }
 {
-    let mut left_place = lefts;
-    let mut right_place = rights;
-    let mut more = count;
     let mut here = at;
-    while 0 < more {
-        let left = child_at(tables.children, left_place);
-        let right = child_at(tables.children, right_place);
+    for i in 0..count {
+        let left = child_at(tables.children, lefts + i);
+        let right = child_at(tables.children, rights + i);
         here = flatten(tables, states, left, right, binders, scratch, plan, here)?;
-        left_place += 1;
-        right_place += 1;
-        more -= 1;
     }
     Ok(here)
 }
@@ -203,11 +197,11 @@ fn flatten_fields(
     requires { ObjectFieldsAsksIn scratch (contents tables.now) states.old left right order.now total at }
     ensures { ObjectsFlattened states plan (contents tables.now) left right at result × WorkingSpaces binders scratch }
 {
-    let mut place = first_of(tables.nodes, right) as usize;
-    let mut more = count_of(tables.nodes, right) as usize;
+    let first = first_of(tables.nodes, right) as usize;
+    let count = count_of(tables.nodes, right) as usize;
     let mut here = at;
-    while 0 < more {
-        let sides = field_sides(tables, left, order, total, place);
+    for i in 0..count {
+        let sides = field_sides(tables, left, order, total, first + i * 2);
         here = flatten(
             tables,
             states,
@@ -218,8 +212,6 @@ fn flatten_fields(
             plan,
             here,
         )?;
-        place += 2;
-        more -= 1;
     }
     Ok(here)
 }

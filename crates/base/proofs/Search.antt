@@ -1,20 +1,70 @@
--- Binary search: what each turn knows.
-use Prim.Native.Nat.{ℕ, ◌+◌, ◌≤◌, ◌<◌}
-use mathlib.Core.Path.{◌≡◌, subst}
+-- Binary search: what the library's answer says of the places.
+use Prim.Native.Nat.{ℕ, ◌≤◌, ◌<◌}
+use mathlib.Core.Path.{◌≡◌, refl, sym, ap, ◌∙◌}
+use mathlib.Core.List.{List}
 use native.Mathlib.Omega.{arith}
-use Rattle.base.specs.code.Search.{Between}
+use mathlib.Core.Bool.{Bool, true, false}
+use lib.ListN.{length, get_or, take}
+use lib.Seq.{get_or-take, length-take-le}
+use denote.Ref.{Bor}
+use Rattle.std.specs.Prelude.{Result, Ok, Err}
+use Rattle.std.specs.declared.cmp.Ordering.{Ordering}
+use Rattle.std.specs.Ordering.{ordering_index}
+use Rattle.std.specs.Fn.{Mut, Called, ComputesKey}
+use Rattle.std.specs.List.Sorted.{IsSearchInRange, IsBinarySearchResult, IsNonDecreasingBy, IsPartitionedBy, IsPartitionPoint}
+use Rattle.std.proofs.lemmas.List.{get_or_default}
+use Rattle.std.proofs.lemmas.List.Sorted.{IsNonDecreasingBy-from_default, IsPartitionPoint-from_clause}
+use Rattle.base.specs.code.Search.{Between, Placed}
 
-pub between_start : (Before Behind : ℕ → Type 0) (m : ℕ) → Between Before Behind m 0 m
-between_start Before Behind m = record { spans = omega arith; inside = omega arith; before = λ q lt. absurd (omega arith); behind = λ q le lt. absurd (omega arith) }
+-- what comes before a `Less` is less, and what comes behind a `Greater` is greater
+module _ {X : Type 0} (ord : X → Ordering) (xs : List X) (d : X)
+    (less_before : (q : ℕ) → q < length xs → ord (get_or xs q d) ≡ Ordering.Less → (i : ℕ) → i ≤ q → ord (get_or xs i d) ≡ Ordering.Less)
+    (greater_behind : (q : ℕ) → q < length xs → ord (get_or xs q d) ≡ Ordering.Greater → (i : ℕ) → q ≤ i → i < length xs → ord (get_or xs i d) ≡ Ordering.Greater) where
+  rising : IsNonDecreasingBy (λ y. ordering_index (ord y)) xs
+  rising = IsNonDecreasingBy-from_default (λ y. ordering_index (ord y)) xs d (λ i j le lt. go i j le lt (ord (get_or xs i d)) (ord (get_or xs j d)) refl refl)
+    where
+      go : (i j : ℕ) → i ≤ j → j < length xs → (a b : Ordering) → ord (get_or xs i d) ≡ a → ord (get_or xs j d) ≡ b → ordering_index (ord (get_or xs i d)) ≤ ordering_index (ord (get_or xs j d))
+      go i j le lt Ordering.Less b e f = rw e (omega arith)
+      go i j le lt Ordering.Equal Ordering.Less e f = let h = ap ordering_index (sym e ∙ less_before j lt f i le) in absurd (omega arith)
+      go i j le lt Ordering.Equal Ordering.Equal e f = rw (e, f) (omega arith)
+      go i j le lt Ordering.Equal Ordering.Greater e f = rw (e, f) (omega arith)
+      go i j le lt Ordering.Greater b e f = let h = greater_behind i (omega arith) e j le lt in rw (e, h) (omega arith)
 
-module _ {Before Behind : ℕ → Type 0} {m low high : ℕ} (b : Between Before Behind m low high) where
-  -- place q is before the one that is looked for, and so are those before q
-  pub between_up : (q : ℕ) → low ≤ q → q < high → ((i : ℕ) → i ≤ q → Before i) → Between Before Behind m (q + 1) high
-  between_up q from to all = record { spans = omega arith; inside = b.inside; before = λ i lt. all i (omega arith); behind = b.behind }
+  pub placed : (r : Result ℕ ℕ) → IsSearchInRange r (length xs) → IsBinarySearchResult ord xs r
+      → Placed (λ (q : ℕ). ord (get_or xs q d) ≡ Ordering.Less) (λ (q : ℕ). ord (get_or xs q d) ≡ Ordering.Equal) (λ (q : ℕ). ord (get_or xs q d) ≡ Ordering.Greater) (length xs) r
+  placed (Ok q) inside equal = (inside, equal d)
+  placed (Err q) inside parted =
+      let p = parted rising in
+      record { spans = omega arith; inside = inside; before = λ i lt. p.0 i d (omega arith) lt; behind = λ i le lt. p.1 i d le lt }
 
-  -- place q is behind it, and so are those behind q
-  pub between_down : (q : ℕ) → low ≤ q → q < high → ((i : ℕ) → q ≤ i → i < m → Behind i) → Between Before Behind m low q
-  between_down q from to all = let n = b.inside in record { spans = from; inside = omega arith; before = b.before; behind = all }
+-- the same of the places as they are told by others
+module _ {Before At Behind Before' At' Behind' : ℕ → Type 0} {m : ℕ} (before : (q : ℕ) → q < m → Before q → Before' q) (at : (q : ℕ) → q < m → At q → At' q) (behind : (q : ℕ) → q < m → Behind q → Behind' q) where
+  pub placed_as : (r : Result ℕ ℕ) → Placed Before At Behind m r → Placed Before' At' Behind' m r
+  placed_as (Ok q) p = (p.0, at q p.0 p.1)
+  placed_as (Err q) b =
+      let n = b.inside in
+      record { spans = b.spans; inside = b.inside; before = λ i lt. before i (omega arith) (b.before i lt); behind = λ i le lt. behind i lt (b.behind i le lt) }
 
-  pub between_ends : high ≤ low → Between Before Behind m low low
-  between_ends le = let s = b.spans in let e : high ≡ low = omega arith in subst (λ (h : ℕ). Between Before Behind m low h) e b
+-- the first place of those that do not pass a test, by `partition_point`
+module _ {X : Type 0} (p : X → Bool) (order : List X) (d : X) (m : ℕ) (fits : m ≤ length order)
+    (before : (q : ℕ) → q < m → p (get_or order q d) ≡ true → (i : ℕ) → i ≤ q → p (get_or order i d) ≡ true) where
+  long : length (take m order) ≡ m
+  long = length-take-le m order fits
+
+  in_front : (q : ℕ) (e : X) → q < m → get_or (take m order) q e ≡ get_or order q d
+  in_front q e lt = let n = long in get_or_default (take m order) q e d (omega arith) ∙ get_or-take m order q d lt
+
+  pub parted : {F : Type 0} {g : Mut F (Bor X × Unit {0}) Bool} {f : F} (r : ℕ) → r ≤ length (take m order)
+      → ((q : X → Bool) → ComputesKey g q f → IsPartitionedBy q (take m order) → IsPartitionPoint (λ y. q y ≡ true) (λ y. q y ≡ false) (take m order) r)
+      → ((a : Bor X × Unit {0}) (r : Bool) (f' : F) → Called g f a r f' → (r ≡ p a.0.now) × (f' ≡ f))
+      → Between (λ (q : ℕ). p (get_or order q d) ≡ true) (λ (q : ℕ). p (get_or order q d) ≡ false) m r r
+  parted r inside clause calls =
+      let n = long in
+      let point = IsPartitionPoint-from_clause p (take m order) r clause
+      (λ i j e le lt h. rw (in_front i e (omega arith)) (before j (omega arith) (rw (in_front j e (omega arith)) at h) i le)) calls in
+      record {
+        spans = omega arith;
+        inside = omega arith;
+        before = λ q lt. rw (in_front q d (omega arith)) at (point.0 q d (omega arith) lt);
+        behind = λ q le lt. rw (in_front q d lt) at (point.1 q d le (omega arith));
+      }

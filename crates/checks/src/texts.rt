@@ -46,7 +46,7 @@ fn comes_after<'a>(
     }
 }
 
-// The place of a literal among `size` keys in the order of texts, by binary search.
+// The place of a literal among `size` keys in the order of texts: behind those that its text comes after.
 fn find_text<'a>(
     nodes: &[u32],
     numbers: &[u64],
@@ -59,17 +59,7 @@ fn find_text<'a>(
     requires { TextAsksIn nodes numbers strings text keys size key }
     ensures { TextPlace (lent_literal nodes numbers strings text) keys.now size (lent_referred numbers strings text key) result }
 {
-    let mut low: usize = 0;
-    let mut high = size;
-    while low < high {
-        let middle = low + (high - low) / 2;
-        if comes_after(nodes, numbers, strings, text, key, keys[middle]) {
-            low = middle + 1;
-        } else {
-            high = middle;
-        }
-    }
-    low
+    keys[..size].partition_point(|&other| comes_after(nodes, numbers, strings, text, key, other))
 }
 
 // One more key node, if it is a literal's; how many there are then.
@@ -105,9 +95,7 @@ fn sort_ordered(
     ensures { let T = contents tables.now in SortedKeys T (ordered_key T first order.now) total keys.old keys.new result }
 {
     let mut size: usize = 0;
-    let mut q = total;
-    while 0 < q {
-        q -= 1;
+    for q in (0..total).rev() {
         let key = child_at(tables.children, first + field_at(order, q) * 2);
         size = add_key(
             tables.nodes,
@@ -128,9 +116,7 @@ fn sort_written(tables: &Tables<'_>, first: usize, count: usize, keys: &mut [u32
     ensures { let T = contents tables.now in SortedKeys T (field_key T first) count keys.old keys.new result }
 {
     let mut size: usize = 0;
-    let mut i = count;
-    while 0 < i {
-        i -= 1;
+    for i in (0..count).rev() {
         let key = child_at(tables.children, first + i * 2);
         size = add_key(
             tables.nodes,
@@ -162,10 +148,9 @@ fn same_texts<'a>(
     if m != n {
         return false;
     }
-    let mut q: usize = 0;
-    while q < m {
+    for q in 0..m {
         match compare_key_texts(nodes, numbers, strings, text, a[q], b[q]) {
-            Comparison::Equal => q += 1,
+            Comparison::Equal => (),
             Comparison::Less => return false,
             Comparison::Greater => return false,
             Comparison::NoLiteral => return false,

@@ -229,10 +229,7 @@ fn join_round(
 fn names_class(class: u32, place: u32) -> u32
     ensures { result ≡ one_if (eqb class place) }
 {
-    if class == place {
-        return 1;
-    }
-    0
+    u32::from(class == place)
 }
 
 // How many classes there are.

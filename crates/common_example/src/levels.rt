@@ -16,18 +16,12 @@ fn capped(total: u32, size: u32) -> u32
     sum
 }
 
-fn wide(size: u16) -> u32
-    ensures { result ≡ size }
-{
-    size as u32
-}
-
 // The size of a place's value.
 pub(crate) fn size_at(sizes: &[u16; PLACES], place: u32) -> u32
     requires { place < 2052 }
     ensures { result ≡ get_or sizes.now place 0 }
 {
-    wide(sizes[place as usize])
+    sizes[place as usize] as u32
 }
 
 // The sizes of the places at `count` links, each `step` after the other; 0 where one has none yet.

@@ -61,10 +61,9 @@ pub(crate) fn missing_key(tables: &Tables<'_>, a: u32, b: u32) -> u32
     ensures { MissingTold (contents tables.now) a b result }
 {
     let first = first_of(tables.nodes, a) as usize;
-    let mut left = count_of(tables.nodes, a) as usize;
+    let count = count_of(tables.nodes, a) as usize;
     let mut least = 0;
-    while 0 < left {
-        left -= 1;
+    for left in (0..count).rev() {
         let key = child_at(tables.children, first + left * 2);
         least = lesser_missing(tables, b, left, key, least);
     }

@@ -1,4 +1,5 @@
 pub mod Orders
+pub mod Searched
 pub mod Numbers
 pub mod Decimals
 pub mod Keys

@@ -4,6 +4,7 @@ use Rattle.std.proofs.Math.Option.{Option, none, some}
 use Rattle.literal.specs.Literal.{Literal, null, boolean, number, string}
 use Rattle.literal.specs.declared.Comparison.{Comparison}
 use Rattle.literal.specs.declared.Comparison.TheVariants.{Less, Equal, Greater, NoLiteral}
+use Rattle.std.specs.declared.cmp.Ordering.{Ordering}
 
 pub data Order : Type 0 where
   less same more : Order
@@ -73,3 +74,10 @@ unfoldable pub compared : Option Literal → Option Literal → Comparison
 compared none b = NoLiteral
 compared (some a) none = NoLiteral
 compared (some a) (some b) = comparison_of (key_order a b)
+
+-- the library's word for it
+abbrev pub ordering_of : Comparison → Ordering
+ordering_of Less = Ordering.Less
+ordering_of Equal = Ordering.Equal
+ordering_of Greater = Ordering.Greater
+ordering_of NoLiteral = Ordering.Equal

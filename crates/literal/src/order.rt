@@ -1,12 +1,25 @@
 // The order of keys.
 ghost use Rattle.std.specs.Prelude.{◌≡◌, ◌+◌, ◌*◌, ◌^◌, ◌<◌, ◌≤◌, min, length};
-ghost use Rattle.literal.specs.Order.{nat_order, number_order, bytes_order, comparison_of, compared};
+ghost use Rattle.literal.specs.Order.{nat_order, number_order, bytes_order, comparison_of, compared, ordering_of};
 ghost use Rattle.literal.specs.Reading.{literal_of, bytes_of};
 ghost use Rattle.literal.specs.code.Chunks.{Prefix, same_from, Said};
 
 use super::key::key_of;
 use super::text::string_bytes;
 use super::{Comparison, LiteralRef};
+use std::cmp::Ordering;
+
+// For the library's searches; they never meet a NoLiteral.
+pub fn ordering_of(comparison: Comparison) -> Ordering
+    ensures { result ≡ ordering_of comparison }
+{
+    match comparison {
+        Comparison::Less => Ordering::Less,
+        Comparison::Equal => Ordering::Equal,
+        Comparison::Greater => Ordering::Greater,
+        Comparison::NoLiteral => Ordering::Equal,
+    }
+}
 
 pub(crate) fn compare_sizes(a: u64, b: u64) -> Comparison
     ensures { result ≡ comparison_of (nat_order a b) }

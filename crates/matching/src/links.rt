@@ -36,9 +36,7 @@ fn link_children(
     ensures { ChainLinked scratch.now nexts.now links.old at start count links.new result }
 {
     let mut child = at + 1;
-    let mut i: usize = 0;
-    while i < count {
-        i += 1;
+    for _i in 0..count {
         let position = wide(scratch[child * ENTRY_WORDS + 4]);
         links[start + position - 1] = child as u16;
         child = entry_number(nexts[child]);
@@ -55,9 +53,7 @@ pub(crate) fn link_entries(scratch: &[u32; PATTERN_WORDS], count: usize) -> Link
     let mut starts = [0u16; 512];
     let mut entries = [0u16; 512];
     let mut free: usize = 512;
-    let mut at = count;
-    while 0 < at {
-        at -= 1;
+    for at in (0..count).rev() {
         let children = wide(scratch[at * ENTRY_WORDS + 2]);
         free -= children;
         starts[at] = free as u16;

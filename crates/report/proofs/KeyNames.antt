@@ -246,30 +246,33 @@ pub record MarkingKeys (T : Tables) (states : List ℕ) (n : ℕ) (before : List
   pub same : marked (keys_at T at left) here ≡ marked (key_names (fields_of T n)) before
 
 pub marking_start : (T : Tables) (states before : List ℕ) (n : ℕ) → ObjectAsks T states n → {first size : ℕ} → first ≡ first_word_of T.nodes n → size ≡ count_of T.nodes n → first < 2 ^ 32 → size < 2 ^ 32
-    → MarkingKeys T states n before first size before
-marking_start T states before n a is_first is_size low few = record {
-  asks = ask_keys T states before n a.walks refl is_first is_size low few a.object;
-  same = rw (is_first, is_size);
-}
+    → MarkingKeys T states n before (first + 0) (size - 0) before
+marking_start T states before n a {first} {size} is_first is_size low few =
+    let p : first + 0 ≡ first = omega arith in
+    let q : size - 0 ≡ size = omega arith in
+    rw (p, q) (record {
+      asks = ask_keys T states before n a.walks refl is_first is_size low few a.object;
+      same = rw (is_first, is_size);
+    })
 
 module _ {T : Tables} {states : List ℕ} {n : ℕ} {before : List ℕ} {at left : ℕ} {here : List ℕ} (go : MarkingKeys T states n before at left here) where
   module _ (more : 0 < left) {key : ℕ} (is_key : key ≡ child_at T.children at) where
     pub marking_key : Walks T states key
     marking_key = walk_child go.asks more is_key
 
-    pub marking_on : {next : List ℕ} → next ≡ marked (key_name (expr T key)) here → MarkingKeys T states n before (at + 2) (left - 1) next
+    pub marking_on : {next : List ℕ} {place last : ℕ} → next ≡ marked (key_name (expr T key)) here → place ≡ at + 2 → last ≡ left - 1 → MarkingKeys T states n before place last next
     unfolding key_names fields
-    marking_on {next} e = record {
+    marking_on {next} e on of = rw (on, of) (record {
       asks = walk_on go.asks more;
       same =
           ap (λ (ws : List ℕ). marked (keys_at T (at + 2) (left - 1)) ws) (rw is_key at e)
           ∙ (sym (marked_append (key_name (expr T (child_at T.children at))) (keys_at T (at + 2) (left - 1)) here) ∙ (sym (ap (λ (xs : List ℕ). marked xs here) step) ∙ go.same));
-    }
+    })
       where
         step : keys_at T at left ≡ key_name (expr T (child_at T.children at)) ++ keys_at T (at + 2) (left - 1)
         step = let a : left ≡ suc (left - 1) = omega arith in ap (λ (k : ℕ). keys_at T at k) a
 
-  pub marking_fits : 0 < left → Fits w64 (at + 2)
+  pub marking_fits : 0 < left → Fits w64 at
   marking_fits more = walk_fits go.asks more
 
   pub marking_ends : left ≤ 0 → here ≡ marked (key_names (fields_of T n)) before
@@ -281,8 +284,9 @@ pub record MarkingBelow (T : Tables) (states : List ℕ) (parent at₀ step left
   pub asks : WalksChildren T states parent at step left
   pub same : marked (keys_below T at step left) here ≡ marked (keys_below T at₀ step left₀) before
 
-pub below_start : (T : Tables) (states : List ℕ) (parent at step left : ℕ) (before : List ℕ) → WalksChildren T states parent at step left → MarkingBelow T states parent at step left before at left before
-below_start T states parent at step left before a = record { asks = a; same = refl }
+pub below_start : (T : Tables) (states : List ℕ) (parent at step left : ℕ) (before : List ℕ) {place more : ℕ} → WalksChildren T states parent at step left → place ≡ at → more ≡ left
+    → MarkingBelow T states parent at step left before place more before
+below_start T states parent at step left before a is of = rw (is, of) (record { asks = a; same = refl })
 
 module _ {T : Tables} {states : List ℕ} {parent at₀ step left₀ : ℕ} {before : List ℕ} {at left : ℕ} {here : List ℕ} (go : MarkingBelow T states parent at₀ step left₀ before at left here) where
   module _ (more : 0 < left) {child : ℕ} (is-child : child ≡ child_at T.children at) where
@@ -292,19 +296,20 @@ module _ {T : Tables} {states : List ℕ} {parent at₀ step left₀ : ℕ} {bef
     pub below_lower : child < parent
     below_lower = walk_below go.asks more is-child
 
-    pub below_on : {next : List ℕ} → next ≡ marked (names_as_keys (expr T child)) here → MarkingBelow T states parent at₀ step left₀ before (at + step) (left - 1) next
+    pub below_on : {next : List ℕ} {place last : ℕ} → next ≡ marked (names_as_keys (expr T child)) here → place ≡ at + step → last ≡ left - 1
+        → MarkingBelow T states parent at₀ step left₀ before place last next
     unfolding keys_from
-    below_on {next} e = record {
+    below_on {next} e on of = rw (on, of) (record {
       asks = walk_on go.asks more;
       same =
           ap (λ (ws : List ℕ). marked (keys_below T (at + step) step (left - 1)) ws) (rw is-child at e)
           ∙ (sym (marked_append (names_as_keys (expr T (child_at T.children at))) (keys_below T (at + step) step (left - 1)) here) ∙ (sym (ap (λ (xs : List ℕ). marked xs here) one) ∙ go.same));
-    }
+    })
       where
         one : keys_below T at step left ≡ names_as_keys (expr T (child_at T.children at)) ++ keys_below T (at + step) step (left - 1)
         one = let a : left ≡ suc (left - 1) = omega arith in ap (λ (k : ℕ). keys_below T at step k) a
 
-  pub below_fits : 0 < left → Fits w64 (at + step)
+  pub below_fits : 0 < left → Fits w64 at
   below_fits more = walk_fits go.asks more
 
   pub below_ends : left ≤ 0 → here ≡ marked (keys_below T at₀ step left₀) before

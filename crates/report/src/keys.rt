@@ -32,13 +32,11 @@ fn mark_object_keys(tables: &Tables<'_>, states: &[u8; 128], object: u32, met: &
     requires { ObjectAsks (contents tables.now) states.now object }
     ensures { met.new ≡ marked (key_names (fields_of (contents tables.now) object)) met.old }
 {
-    let mut place = first_of(tables.nodes, object) as usize;
-    let mut more = count_of(tables.nodes, object) as usize;
-    while 0 < more {
-        let key = child_at(tables.children, place);
+    let first = first_of(tables.nodes, object) as usize;
+    let count = count_of(tables.nodes, object) as usize;
+    for i in 0..count {
+        let key = child_at(tables.children, first + i * 2);
         mark_key(tables, states, key, met);
-        place += 2;
-        more -= 1;
     }
 }
 
@@ -76,13 +74,9 @@ fn mark_keys_below(
     requires { WalksChildren (contents tables.now) states.now parent at step left }
     ensures { met.new ≡ marked (keys_below (contents tables.now) at step left) met.old }
 {
-    let mut place = at;
-    let mut more = left;
-    while 0 < more {
-        let child = child_at(tables.children, place);
+    for i in 0..left {
+        let child = child_at(tables.children, at + i * step);
         mark_keys(tables, states, child, met);
-        place += step;
-        more -= 1;
     }
 }
 

@@ -27,14 +27,14 @@ pub record Looking (r : Reading) (T : Tables) (pattern at left place more : ℕ)
   pub asks : ItemsAsks T pattern place more
   pub same : any_fits r (items_at T place more) (expr T pattern) ≡ any_fits r (items_at T at left) (expr T pattern)
 
-pub looking_start : (r : Reading) {T : Tables} {pattern at left : ℕ} → ItemsAsks T pattern at left → Looking r T pattern at left at left
-looking_start r a = record { asks = a; same = refl }
+pub looking_start : (r : Reading) {T : Tables} {pattern at left more : ℕ} → ItemsAsks T pattern at left → more ≡ left → Looking r T pattern at left at more
+looking_start r a of = rw of (record { asks = a; same = refl })
+
+pub looking_fits : {T : Tables} {pattern at left : ℕ} → ItemsAsks T pattern at left → Fits w64 (at + left)
+looking_fits a = let m = a.small in record { fits = omega arith }
 
 module _ {r : Reading} {T : Tables} {pattern at left place more : ℕ} (go : Looking r T pattern at left place more) where
   module _ (some : 0 < more) where
-    pub looking_fits : Fits w64 (place + 1)
-    looking_fits = let m = go.asks.small in record { fits = omega arith }
-
     module _ {e : ℕ} (is : e ≡ child_at T.children place) where
       pub looking_pair : GoodPair T pattern e
       looking_pair =
@@ -51,8 +51,8 @@ module _ {r : Reading} {T : Tables} {pattern at left place more : ℕ} (go : Loo
         pub looking_found : not m ≡ true → true ≡ any_fits r (items_at T at left) (expr T pattern)
         looking_found n = rw n at step
 
-        pub looking_on : not m ≡ false → Looking r T pattern at left (place + 1) (more - 1)
-        looking_on n = record {
+        pub looking_on : {last : ℕ} → not m ≡ false → last ≡ more - 1 → Looking r T pattern at left (place + 1) last
+        looking_on n of = rw of (record {
           asks = record {
             table = go.asks.table;
             node = go.asks.node;
@@ -60,7 +60,7 @@ module _ {r : Reading} {T : Tables} {pattern at left place more : ℕ} (go : Loo
             small = let m = go.asks.small in omega arith;
           };
           same = rw n at step;
-        }
+        })
 
   pub looking_ends : more ≤ 0 → false ≡ any_fits r (items_at T at left) (expr T pattern)
   unfolding any_fits

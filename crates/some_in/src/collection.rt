@@ -19,16 +19,12 @@ fn any_fits(tables: &Tables<'_>, pattern: u32, at: usize, left: usize, reading: 
     requires { ItemsAsks (contents tables.now) pattern at left }
     ensures { let T = contents tables.now in result ≡ any_fits reading (items_at T at left) (expr T pattern) }
 {
-    let mut place = at;
-    let mut more = left;
-    while 0 < more {
+    for place in at..at + left {
         let item = child_at(tables.children, place);
         let check = check_literal_structure(tables, pattern, item, reading);
         if !is_mismatch(check) {
             return true;
         }
-        place += 1;
-        more -= 1;
     }
     false
 }

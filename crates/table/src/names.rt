@@ -6,8 +6,7 @@ ghost use Rattle.table.specs.Rules.{names_differ};
 
 use crate::reading::name_bytes;
 use base::insertion::insert_at;
-use literal::Comparison;
-use literal::order::compare_bytes;
+use literal::order::{compare_bytes, ordering_of};
 
 fn wide(name: u8) -> u32
     ensures { result ≡ name }
@@ -15,24 +14,20 @@ fn wide(name: u8) -> u32
     name as u32
 }
 
-// The place of bytes among `count` names in order, by binary search; 128 if a name has the same.
-fn find_name(names: &[u32], text: &[u8], order: &[u8; 128], count: usize, bytes: &[u8]) -> usize
+// The place of bytes among `count` names in order: that of a name with the same bytes, or the one before which they go.
+fn find_name(
+    names: &[u32],
+    text: &[u8],
+    order: &[u8; 128],
+    count: usize,
+    bytes: &[u8],
+) -> Result<usize, usize>
     requires { Ascending (name_bytes names.now text.now) order.now count × (count < 128) }
     ensures { FoundName (name_bytes names.now text.now) bytes.now order.now count result }
 {
-    let mut low: usize = 0;
-    let mut high = count;
-    while low < high {
-        let middle = low + (high - low) / 2;
-        let other = name_bytes(names, text, wide(order[middle]));
-        match compare_bytes(bytes, other) {
-            Comparison::Less => high = middle,
-            Comparison::Greater => low = middle + 1,
-            Comparison::Equal => return 128,
-            Comparison::NoLiteral => return 128,
-        }
-    }
-    low
+    order[..count].binary_search_by(|&name| {
+        ordering_of(compare_bytes(bytes, name_bytes(names, text, wide(name)))).reverse()
+    })
 }
 
 pub(crate) fn names_differ(names: &[u32], text: &[u8]) -> bool
@@ -43,10 +38,9 @@ pub(crate) fn names_differ(names: &[u32], text: &[u8]) -> bool
     let total = names.len() / 2;
     for i in 0..total {
         let bytes = name_bytes(names, text, (i + 1) as u32);
-        let place = find_name(names, text, &order, i, bytes);
-        if 127 < place {
+        let Err(place) = find_name(names, text, &order, i, bytes) else {
             return false;
-        }
+        };
         insert_at(&mut order, place, i, (i + 1) as u8);
     }
     true

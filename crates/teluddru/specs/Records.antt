@@ -1,7 +1,5 @@
 -- Names as records, and as the pairs of words that the crates below read.
 use Rattle.std.specs.Prelude.{ℕ, List, [], ◌∷◌}
-use Rattle.std.specs.Borrow.{Bor}
-use denote.Triple.Both.{Both}
 use Rattle.table.specs.Tables.{Tables, tables}
 use Rattle.teluddru.specs.declared.Name.{Name}
 use Rattle.teluddru.specs.declared.Rule.{Rule}
@@ -10,13 +8,6 @@ use Rattle.teluddru.specs.declared.Rule.{Rule}
 unfoldable pub name_words : List Name → List ℕ
 name_words [] = []
 name_words (n ∷ ns) = n.start ∷ n.length ∷ name_words ns
-
--- lent records, as an `ensures` names them, and what they say
-abbrev pub Records : Type 0
-Records = Both (Bor (List Name)) (Bor (List Name))
-
-abbrev pub records_in : Records → List Name
-records_in names = names.entry.now
 
 -- the tables that a function is lent, the names as records
 abbrev pub lent_records : Rule → Tables

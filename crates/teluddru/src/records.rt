@@ -6,7 +6,7 @@ ghost use Rattle.teluddru.specs.code.Placing.{a_name, place_of};
 use crate::Name;
 use name_table::{NameAnswer, NameRefusal};
 
-// The first `count` pairs of the words are names.
+// The first `count` pairs of the words are names. They stand in place, since there is no heap, and the laws of proofs/laws/Passing name this type.
 #[derive(Clone, Copy)]
 pub(crate) struct NameWords {
     pub words: [u32; 258],
@@ -14,6 +14,7 @@ pub(crate) struct NameWords {
 }
 
 impl NameWords {
+    // The words of the names.
     pub fn pairs(&self) -> &[u32]
         requires { self.now.count ≤ 129 }
         ensures { result.now ≡ held self.now }
@@ -34,7 +35,7 @@ fn name_at(names: &[Name], i: usize) -> Name
 fn copied_count(count: usize) -> usize
     ensures { result ≡ min 129 count }
 {
-    if count < 129 { count } else { 129 }
+    count.min(129)
 }
 
 fn put_pair(words: &mut [u32; 258], i: usize, start: u32, length: u32)

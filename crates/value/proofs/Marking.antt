@@ -50,8 +50,8 @@ module _ {T : Tables} {at left : ℕ} (more : 0 < left) where
     pub first_value : Node T (child_at T.children (at + 1))
     first_value = a.each 1 (omega arith)
 
-    pub fields_fit : Fits w64 (at + 2)
-    fields_fit = let s = a.listed in let few = a.table.limits.children in record { fits = omega arith }
+    pub place_fits : Fits w64 at
+    place_fits = let s = a.listed in let few = a.table.limits.children in record { fits = omega arith }
 
     pub value_fits : Fits w64 (at + 1)
     value_fits = let s = a.listed in let few = a.table.limits.children in record { fits = omega arith }
@@ -65,8 +65,11 @@ pub record MarkingItems (ch : List ℕ) (marks : List ℕ) (at₀ left₀ at lef
   pub asks : EntriesAsks ch at 1 left
   pub same : items_marked ch marks at left ≡ items_marked ch marks at₀ left₀
 
-pub items_start : (ch : List ℕ) (marks : List ℕ) (at left : ℕ) → EntriesAsks ch at 1 left → MarkingItems ch marks at left at left
-items_start ch marks at left a = record { asks = a; same = refl }
+pub items_start : (ch : List ℕ) (marks : List ℕ) (at left : ℕ) {more : ℕ} → EntriesAsks ch at 1 left → more ≡ left → MarkingItems ch marks at left at more
+items_start ch marks at left a is = rw is (record { asks = a; same = refl })
+
+pub items_fit : {ch : List ℕ} {at left : ℕ} → EntriesAsks ch at 1 left → Fits w64 (at + left)
+items_fit a = let s = a.asks.listed in let few = a.asks.table.limits.children in record { fits = omega arith }
 
 items_step : (ch : List ℕ) (marks : List ℕ) (at left : ℕ) → 0 < left → items_marked ch marks at left ≡ (is_marked marks (child_at ch at) && items_marked ch marks (at + 1) (left - 1))
 unfolding items_marked
@@ -80,10 +83,10 @@ module _ {ch : List ℕ} {marks : List ℕ} {at₀ left₀ at left : ℕ} (go : 
     pub item_place : child - 1 < 512
     item_place = node-place go.asks.asks.table (first_item more go.asks.asks is)
 
-    pub item_marked : get_or marks (child - 1) 0 ≡ 1 → MarkingItems ch marks at₀ left₀ (at + 1) (left - 1)
-    item_marked one =
+    pub item_marked : {rest : ℕ} → get_or marks (child - 1) 0 ≡ 1 → rest ≡ left - 1 → MarkingItems ch marks at₀ left₀ (at + 1) rest
+    item_marked one last =
         let m : is_marked marks (child_at ch at) ≡ true = rw (← is) (eq-eqb (get_or marks (child - 1) 0) 1 one) in
-        record { asks = record { T = go.asks.T; asks = items_on more go.asks.asks }; same = sym (items_step ch marks at left more ∙ rw m) ∙ go.same }
+        rw last (record { asks = record { T = go.asks.T; asks = items_on more go.asks.asks }; same = sym (items_step ch marks at left more ∙ rw m) ∙ go.same })
 
     pub item_unmarked : (get_or marks (child - 1) 0 ≡ 1 → ⊥) → false ≡ items_marked ch marks at₀ left₀
     item_unmarked blank =
@@ -99,8 +102,8 @@ pub record MarkingFields (nodes ch : List ℕ) (marks : List ℕ) (at₀ left₀
   pub asks : EntriesAsks ch at 2 left
   pub same : fields_marked nodes ch marks at left ≡ fields_marked nodes ch marks at₀ left₀
 
-pub fields_start : (nodes ch : List ℕ) (marks : List ℕ) (at left : ℕ) → EntriesAsks ch at 2 left → MarkingFields nodes ch marks at left at left
-fields_start nodes ch marks at left a = record { asks = a; same = refl }
+pub fields_start : (nodes ch : List ℕ) (marks : List ℕ) (at left : ℕ) {place more : ℕ} → EntriesAsks ch at 2 left → place ≡ at → more ≡ left → MarkingFields nodes ch marks at left place more
+fields_start nodes ch marks at left a is of = rw (is, of) (record { asks = a; same = refl })
 
 fields_step : (nodes ch : List ℕ) (marks : List ℕ) (at left : ℕ) → 0 < left
     → fields_marked nodes ch marks at left ≡ (leb (kind_of nodes (child_at ch at)) 5 && (is_marked marks (child_at ch (at + 1)) && fields_marked nodes ch marks (at + 2) (left - 1)))
@@ -112,8 +115,8 @@ module _ {nodes ch : List ℕ} {marks : List ℕ} {at₀ left₀ at left : ℕ} 
     pub field_value_fits : Fits w64 (at + 1)
     field_value_fits = value_fits more go.asks.asks
 
-    pub field_next_fits : Fits w64 (at + 2)
-    field_next_fits = fields_fit more go.asks.asks
+    pub field_fits : Fits w64 at
+    field_fits = place_fits more go.asks.asks
 
     module _ {key kind : ℕ} (is_key : key ≡ child_at ch at) (is-kind : kind ≡ kind_of nodes key) where
       pub field_computed : 5 < kind → false ≡ fields_marked nodes ch marks at₀ left₀
@@ -125,11 +128,11 @@ module _ {nodes ch : List ℕ} {marks : List ℕ} {at₀ left₀ at left : ℕ} 
         leads : leb (kind_of nodes (child_at ch at)) 5 ≡ true
         leads = rw (← is_key) (rw (← is-kind) (le-leb kind 5 low))
 
-        pub field_marked : get_or marks (value - 1) 0 ≡ 1 → MarkingFields nodes ch marks at₀ left₀ (at + 2) (left - 1)
-        field_marked one =
+        pub field_marked : {next rest : ℕ} → get_or marks (value - 1) 0 ≡ 1 → next ≡ at + 2 → rest ≡ left - 1 → MarkingFields nodes ch marks at₀ left₀ next rest
+        field_marked one on last =
             let k = leads in
             let m : is_marked marks (child_at ch (at + 1)) ≡ true = rw (← is) (eq-eqb (get_or marks (value - 1) 0) 1 one) in
-            record { asks = record { T = go.asks.T; asks = fields_on more go.asks.asks }; same = sym (fields_step nodes ch marks at left more ∙ rw (k, m)) ∙ go.same }
+            rw (on, last) (record { asks = record { T = go.asks.T; asks = fields_on more go.asks.asks }; same = sym (fields_step nodes ch marks at left more ∙ rw (k, m)) ∙ go.same })
 
         pub field_unmarked : (get_or marks (value - 1) 0 ≡ 1 → ⊥) → false ≡ fields_marked nodes ch marks at₀ left₀
         field_unmarked blank =

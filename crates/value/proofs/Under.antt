@@ -26,7 +26,7 @@ use Rattle.value.specs.Value.{filled_field, value_of, value_fields_of, value_at,
 use Rattle.value.specs.code.Post.{ChildrenAsks, same_literals, under_from, under_in, KeyedObject, KeySetsAsks}
 use Rattle.value.proofs.Keys.{or_left, or_right, is_true, is_false, true_is, key→, key_refl, sets_by_count, sets_uneven}
 use Rattle.value.proofs.Admitted.{object_children, key-node}
-use Rattle.value.proofs.Marking.{fields_on, fields_fit, value_fits}
+use Rattle.value.proofs.Marking.{fields_on, place_fits, value_fits}
 
 -- the comparison of two literals
 module _ {way : Comparison} (a b : Option Literal) (is : way ≡ compared a b) where
@@ -77,16 +77,16 @@ pub record Seeking (T : Tables) (own : Option Literal) (at₀ left₀ at left : 
   pub asks : ChildrenAsks T at 2 left
   pub same : under_from T own at left ≡ under_from T own at₀ left₀
 
-pub seeking_start : (T : Tables) (own : Option Literal) (at left : ℕ) → ChildrenAsks T at 2 left → Seeking T own at left at left
-seeking_start T own at left a = record { asks = a; same = refl }
+pub seeking_start : (T : Tables) (own : Option Literal) (at left : ℕ) {place more : ℕ} → ChildrenAsks T at 2 left → place ≡ at → more ≡ left → Seeking T own at left place more
+seeking_start T own at left a is of = rw (is, of) (record { asks = a; same = refl })
 
 module _ {T : Tables} {own : Option Literal} {at₀ left₀ at left : ℕ} (go : Seeking T own at₀ left₀ at left) where
   module _ (more : 0 < left) where
     pub seeking_value_fits : Fits w64 (at + 1)
     seeking_value_fits = value_fits more go.asks
 
-    pub seeking_next_fits : Fits w64 (at + 2)
-    seeking_next_fits = fields_fit more go.asks
+    pub seeking_fits : Fits w64 at
+    seeking_fits = place_fits more go.asks
 
     module _ {other : ℕ} {equal : Bool} (is : other ≡ child_at T.children at) (of : equal ≡ same_literals own (literal_at T other)) where
       pub seeking_found : {value : ℕ} → equal ≡ true → value ≡ child_at T.children (at + 1) → value ≡ under_from T own at₀ left₀
@@ -94,10 +94,10 @@ module _ {T : Tables} {own : Option Literal} {at₀ left₀ at left : ℕ} (go :
           let s : same_literals own (literal_at T (child_at T.children at)) ≡ true = rw (← is) (sym of ∙ alike) in
           e ∙ (sym (under_step T own at left more ∙ rw s) ∙ go.same)
 
-      pub seeking_on : equal ≡ false → Seeking T own at₀ left₀ (at + 2) (left - 1)
-      seeking_on unlike =
+      pub seeking_on : {next rest : ℕ} → equal ≡ false → next ≡ at + 2 → rest ≡ left - 1 → Seeking T own at₀ left₀ next rest
+      seeking_on unlike on last =
           let s : same_literals own (literal_at T (child_at T.children at)) ≡ false = rw (← is) (sym of ∙ unlike) in
-          record { asks = fields_on more go.asks; same = sym (under_step T own at left more ∙ rw s) ∙ go.same }
+          rw (on, last) (record { asks = fields_on more go.asks; same = sym (under_step T own at left more ∙ rw s) ∙ go.same })
 
   pub seeking_ends : left ≤ 0 → 0 ≡ under_from T own at₀ left₀
   unfolding under_from

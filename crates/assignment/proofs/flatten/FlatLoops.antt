@@ -160,15 +160,20 @@ pub record PairingItems (T : Tables) (left₀ parent right₀ k₀ : ℕ) (state
   pub bound : used + most_items T right more ≤ most_items T right₀ k₀
   pub so_far : Flattening (items_flat T left₀ right₀ k₀) (items_flat T left right more) T used states₀ start at states mid here
 
-pub items_start : {T : Tables} {left parent right k : ℕ} {states : List ℕ} {at : ℕ} → ItemsAsks T states left parent right k at → (start : List ℕ) → PairingItems T left parent right k states start at left right k states start at
-items_start {T} {left} {parent} {right} {k} {states} {at} a start = record { asks = a; long = refl; used = 0; bound = omega arith; so_far = flattening_start (λ u seen. refl) T states start at }
+pub items_start : {T : Tables} {left parent right k : ℕ} {states : List ℕ} {at : ℕ} → ItemsAsks T states left parent right k at → (start : List ℕ)
+    → PairingItems T left parent right k states start at (left + 0) (right + 0) (k - 0) states start at
+items_start {T} {left} {parent} {right} {k} {states} {at} a start =
+    let x : left + 0 ≡ left = omega arith in
+    let y : right + 0 ≡ right = omega arith in
+    let z : k - 0 ≡ k = omega arith in
+    rw (x, y, z) (record { asks = a; long = refl; used = 0; bound = omega arith; so_far = flattening_start (λ u seen. refl) T states start at })
 
 module _ {T : Tables} {left₀ parent right₀ k₀ : ℕ} {states₀ start : List ℕ} {at left right more : ℕ} {states mid : List ℕ} {here : ℕ} (go : PairingItems T left₀ parent right₀ k₀ states₀ start at left right more states mid here) where
   module _ (some_left : 0 < more) where
-    pub items_left_fits : Fits w64 (left + 1)
+    pub items_left_fits : Fits w64 left
     items_left_fits = let s = go.asks.left_small in record { fits = omega arith }
 
-    pub items_right_fits : Fits w64 (right + 1)
+    pub items_right_fits : Fits w64 right
     items_right_fits = let s = go.asks.right_small in record { fits = omega arith }
 
     module _ {l r : ℕ} (is-l : l ≡ child_at T.children left) (is-r : r ≡ child_at T.children right) where
@@ -201,8 +206,9 @@ module _ {T : Tables} {left₀ parent right₀ k₀ : ℕ} {states₀ start : Li
       step u seen = rw (items_step (expr T) T.children left more some_left, items_step (expr T) T.children right more some_left, is-l, is-r)
 
       module _ {known next : List ℕ} {done : Result ℕ PlanRefusal} (a : Flattens (nodes_flat T l r) T (most_of T r) states mid here known next done) where
-        pub items_on : {there : ℕ} → done ≡ Ok there → PairingItems T left₀ parent right₀ k₀ states₀ start at (left + 1) (right + 1) (more - 1) known next there
-        items_on {there} e = record {
+        pub items_on : {there lefts rights last : ℕ} → done ≡ Ok there → lefts ≡ left + 1 → rights ≡ right + 1 → last ≡ more - 1
+            → PairingItems T left₀ parent right₀ k₀ states₀ start at lefts rights last known next there
+        items_on {there} e on also of = rw (on, also, of) (record {
           asks = record {
             table = go.asks.table;
             states_ok = next_states go.asks.table go.asks.states_ok a e;
@@ -216,7 +222,7 @@ module _ {T : Tables} {left₀ parent right₀ k₀ : ℕ} {states₀ start : Li
           used = go.used + most_of T r;
           bound = let b = go.bound in let n = most_step in omega arith;
           so_far = flattening_on go.asks.table go.so_far (items_flat T (left + 1) (right + 1) (more - 1)) step a e;
-        }
+        })
 
         pub items_fail : {answer : PlanRefusal} → done ≡ Err answer → Flattens (items_flat T left₀ right₀ k₀) T (most_items T right₀ k₀) states₀ start at known next (Err answer)
         items_fail e = flattening_fails go.asks.table go.so_far (items_flat T (left + 1) (right + 1) (more - 1)) step a e
@@ -246,9 +252,11 @@ pub record PairingFields (T : Tables) (left right : ℕ) (order : List ℕ) (tot
   pub so_far : Flattening (objects_flat T left right) (fields_flat T left place more) T used states₀ start at states mid here
 
 pub fields_start : {T : Tables} {states : List ℕ} {left right : ℕ} {order : List ℕ} {total at : ℕ} → ObjectFieldsAsks T states left right order total at → (start : List ℕ)
-    → {first count : ℕ} → first ≡ first_word_of T.nodes right → count ≡ count_of T.nodes right → PairingFields T left right order total states start at first count states start at
+    → {first count : ℕ} → first ≡ first_word_of T.nodes right → count ≡ count_of T.nodes right → PairingFields T left right order total states start at (first + 0) (count - 0) states start at
 fields_start {T} {states} {left} {right} {order} {total} {at} a start {first} {count} is_first is_count =
-    rw (is_first, is_count) (record {
+    let x : first + 0 ≡ first_word_of T.nodes right = omega arith in
+    let y : count - 0 ≡ count_of T.nodes right = omega arith in
+    rw (x, y) (record {
       table = a.asks.pair_ok.table;
       in_order = a.keys.in_order;
       states_ok = a.asks.states_ok;
@@ -266,7 +274,7 @@ fields_start {T} {states} {left} {right} {order} {total} {at} a start {first} {c
 
 module _ {T : Tables} {left right : ℕ} {order : List ℕ} {total : ℕ} {states₀ start : List ℕ} {at place more : ℕ} {states mid : List ℕ} {here : ℕ} (go : PairingFields T left right order total states₀ start at place more states mid here) where
   module _ (some_left : 0 < more) where
-    pub fields_fit : Fits w64 (place + 2)
+    pub fields_fit : Fits w64 place
     fields_fit = let s = go.small in record { fits = omega arith }
 
     field_ok : FieldOk T left right place
@@ -306,8 +314,9 @@ module _ {T : Tables} {left right : ℕ} {order : List ℕ} {total : ℕ} {state
           rw (t, p, sides.right_is, sides.left_is)
 
       module _ {known next : List ℕ} {done : Result ℕ PlanRefusal} (a : Flattens (nodes_flat T other value) T (most_of T value) states mid here known next done) where
-        pub fields_on : {there : ℕ} → done ≡ Ok there → PairingFields T left right order total states₀ start at (place + 2) (more - 1) known next there
-        fields_on {there} e = record {
+        pub fields_on : {there after last : ℕ} → done ≡ Ok there → after ≡ place + 2 → last ≡ more - 1
+            → PairingFields T left right order total states₀ start at after last known next there
+        fields_on {there} e on of = rw (on, of) (record {
           table = go.table;
           in_order = go.in_order;
           states_ok = next_states go.table go.states_ok a e;
@@ -318,7 +327,7 @@ module _ {T : Tables} {left right : ℕ} {order : List ℕ} {total : ℕ} {state
           used = go.used + most_of T value;
           bound = let b = go.bound in let n = most_field in omega arith;
           so_far = flattening_on go.table go.so_far (fields_flat T left (place + 2) (more - 1)) field_step a e;
-        }
+        })
 
         pub fields_fail : {answer : PlanRefusal} → done ≡ Err answer → Flattens (objects_flat T left right) T (most_of T right) states₀ start at known next (Err answer)
         fields_fail e = flattening_fails go.table go.so_far (fields_flat T left (place + 2) (more - 1)) field_step a e

@@ -58,12 +58,13 @@ pub record Missing (T : Tables) (n : ℕ) (order : List ℕ) (total from count p
   pub asks : MissingAsks T n order total place more
   pub same : missing_from T n place more ≡ missing_from T n from count
 
-pub missing_start : {T : Tables} {n : ℕ} {order : List ℕ} {total from count : ℕ} → MissingAsks T n order total from count → Missing T n order total from count from count
-missing_start a = record { asks = a; same = refl }
+pub missing_start : {T : Tables} {n : ℕ} {order : List ℕ} {total from count place more : ℕ} → MissingAsks T n order total from count → place ≡ from → more ≡ count
+    → Missing T n order total from count place more
+missing_start a is of = rw (is, of) (record { asks = a; same = refl })
 
 module _ {T : Tables} {n : ℕ} {order : List ℕ} {total from count place more : ℕ} (m : Missing T n order total from count place more) where
   module _ (some_left : 0 < more) where
-    pub missing_fits : Fits w64 (place + 2)
+    pub missing_fits : Fits w64 place
     missing_fits = let s = m.asks.small in record { fits = omega arith }
 
     module _ {key : ℕ} (is_key : key ≡ child_at T.children place) where
@@ -78,17 +79,17 @@ module _ {T : Tables} {n : ℕ} {order : List ℕ} {total from count place more 
         pub missing_found : other ≡ 0 → key ≡ missing_from T n from count
         missing_found e = let z = eq-eqb (partner_of T n key) 0 (sym is-other ∙ e) in sym (step ∙ simp z) ∙ m.same
 
-        pub missing_on : (other ≡ 0 → ⊥) → Missing T n order total from count (place + 2) (more - 1)
-        missing_on some-there =
+        pub missing_on : {after last : ℕ} → (other ≡ 0 → ⊥) → after ≡ place + 2 → last ≡ more - 1 → Missing T n order total from count after last
+        missing_on some-there on of =
             let z = ne_eqb (partner_of T n key) 0 (λ e. some-there (is-other ∙ e)) in
-            record {
+            rw (on, of) (record {
               asks = record {
                 in_order = m.asks.in_order;
                 keys = λ i lt. let e : place + (i + 1) * 2 ≡ place + 2 + i * 2 = omega arith in rw e at (m.asks.keys (i + 1) (omega arith));
                 small = let s = m.asks.small in omega arith;
               };
               same = sym (step ∙ simp z) ∙ m.same;
-            }
+            })
 
   pub missing_ends : more ≤ 0 → 0 ≡ missing_from T n from count
   unfolding missing_from

@@ -19,7 +19,7 @@ use Rattle.planner.specs.Steps.{written_steps, written_steps_all, written_steps_
 use Rattle.planner.specs.code.Post.{Walks, WalksChildren, StepRoom}
 use Rattle.planner.specs.code.Validation.{Places, places, places_by, SpanOf}
 use Rattle.planner.proofs.destructuring.Walking.{walk_fits, walk_on, walk_child, walk_below}
-use Rattle.planner.proofs.destructuring.Counting.{enter_fits, enter_room, entered, Counting, counting_one, counting_on, counting_ends}
+use Rattle.planner.proofs.destructuring.Counting.{enter_fits, enter_room, entered, Counting, counting_start, counting_one, counting_on, counting_ends}
 use Rattle.planner.proofs.destructuring.NodeKinds.{Plain, plain_literal, plain_set, plain_other, plain_kind}
 
 -- one name
@@ -203,8 +203,9 @@ pub record Deciding (T : Tables) (states : List ℕ) (parent at₀ step left₀ 
   pub asks : WalksChildren T states parent at step left
   pub same : binders_from (unbound_in states) (expr T) T.children at step left here ≡ binders_from (unbound_in states) (expr T) T.children at₀ step left₀ before
 
-pub deciding_start : (T : Tables) (states : List ℕ) (parent at step left : ℕ) (b : List ℕ) → WalksChildren T states parent at step left → Deciding T states parent at step left b at left b
-deciding_start T states parent at step left b a = record { asks = a; same = refl }
+pub deciding_start : (T : Tables) (states : List ℕ) (parent at step left : ℕ) (b : List ℕ) {place more : ℕ} → WalksChildren T states parent at step left → place ≡ at → more ≡ left
+    → Deciding T states parent at step left b place more b
+deciding_start T states parent at step left b a is of = rw (is, of) (record { asks = a; same = refl })
 
 module _ {T : Tables} {states : List ℕ} {parent at₀ step left₀ : ℕ} {before : List ℕ} {at left : ℕ} {here : List ℕ} (go : Deciding T states parent at₀ step left₀ before at left here) where
   module _ (more : 0 < left) {child : ℕ} (is-child : child ≡ child_at T.children at) where
@@ -214,19 +215,23 @@ module _ {T : Tables} {states : List ℕ} {parent at₀ step left₀ : ℕ} {bef
     pub deciding_below : child < parent
     deciding_below = walk_below go.asks more is-child
 
-    pub deciding_on : {next : List ℕ} → next ≡ binders_of (unbound_in states) (expr T child) here → Deciding T states parent at₀ step left₀ before (at + step) (left - 1) next
-    deciding_on {next} e = record {
+    pub deciding_on : {next : List ℕ} {place last : ℕ} → next ≡ binders_of (unbound_in states) (expr T child) here → place ≡ at + step → last ≡ left - 1 → Deciding T states parent at₀ step left₀ before place last next
+    deciding_on {next} e on of = rw (on, of) (record {
       asks = walk_on go.asks more;
       same = ap (λ (l : List ℕ). binders_from (unbound_in states) (expr T) T.children (at + step) step (left - 1) l) (rw is-child at e) ∙ (sym (from_step (unbound_in states) (expr T) T.children at step left here more) ∙ go.same);
-    }
+    })
 
-  pub deciding_fits : 0 < left → Fits w64 (at + step)
+  pub deciding_fits : 0 < left → Fits w64 at
   deciding_fits more = walk_fits go.asks more
 
   pub deciding_ends : left ≤ 0 → here ≡ binders_from (unbound_in states) (expr T) T.children at₀ step left₀ before
   deciding_ends no_more = sym (from_end (unbound_in states) (expr T) T.children at step left here no_more) ∙ go.same
 
 -- the children's steps
+pub counting_first : (T : Tables) (step : ℕ) {start at left place more : ℕ} → StepRoom start (steps_below T at step left) → place ≡ at → more ≡ left
+    → Counting start (steps_below T at step left) start (steps_below T place step more)
+counting_first T step r is of = rw (is, of) (counting_start r)
+
 module _ (T : Tables) (start all here at step left : ℕ) (go : Counting start all here (steps_below T at step left)) where
   module _ (more : 0 < left) {child : ℕ} (is-child : child ≡ child_at T.children at) where
     child_steps : steps_below T at step left ≡ written_steps (expr T child) + steps_below T (at + step) step (left - 1)
@@ -236,8 +241,8 @@ module _ (T : Tables) (start all here at step left : ℕ) (go : Counting start a
     pub counting_child : StepRoom here (written_steps (expr T child))
     counting_child = counting_one go (written_steps (expr T child)) (steps_below T (at + step) step (left - 1)) child_steps
 
-    pub counting_children : {next : ℕ} → next ≡ here + written_steps (expr T child) → Counting start all next (steps_below T (at + step) step (left - 1))
-    counting_children e = counting_on go (written_steps (expr T child)) (steps_below T (at + step) step (left - 1)) child_steps e
+    pub counting_children : {next place last : ℕ} → next ≡ here + written_steps (expr T child) → place ≡ at + step → last ≡ left - 1 → Counting start all next (steps_below T place step last)
+    counting_children e on of = rw (on, of) (counting_on go (written_steps (expr T child)) (steps_below T (at + step) step (left - 1)) child_steps e)
 
   pub counted_children : left ≤ 0 → here ≡ start + all
   unfolding steps_from

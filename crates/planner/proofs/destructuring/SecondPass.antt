@@ -176,8 +176,13 @@ pub record LayingItems (T : Tables) (states binders : List ℕ) (parent from lef
   pub wrote : Wrote before at entries mid here
   pub same : entries ++ lay_out_items binders T place more position ≡ lay_out_items binders T from left 1
 
-pub laying_start : (T : Tables) (states binders : List ℕ) (parent from left : ℕ) (before : List ℕ) (at : ℕ) → LayItemsAsks T states binders parent from left 1 at → LayingItems T states binders parent from left before at from left 1 before at
-laying_start T states binders parent from left before at a = record { asks = a; entries = []; wrote = wrote_none before at; same = refl }
+pub laying_start : (T : Tables) (states binders : List ℕ) (parent from left : ℕ) (before : List ℕ) (at : ℕ) {place more : ℕ} → LayItemsAsks T states binders parent from left 1 at → place ≡ from → more ≡ left
+    → LayingItems T states binders parent from left before at place more 1 before at
+laying_start T states binders parent from left before at a is of = rw (is, of) (record { asks = a; entries = []; wrote = wrote_none before at; same = refl })
+
+pub counting_items : (T : Tables) (binders : List ℕ) {start from left place more : ℕ} → StepRoom start (length (lay_out_items binders T from left 1)) → place ≡ from → more ≡ left
+    → Counting start (length (lay_out_items binders T from left 1)) start (length (lay_out_items binders T place more 1))
+counting_items T binders r is of = rw (is, of) (counting_start r)
 
 module _ {T : Tables} {states binders : List ℕ} {parent from left : ℕ} {before : List ℕ} {at place more position : ℕ} {mid : List ℕ} {here : ℕ} (go : LayingItems T states binders parent from left before at place more position mid here) where
   module _ (more_left : 0 < more) {child : ℕ} (is-child : child ≡ child_at T.children place) where
@@ -194,9 +199,9 @@ module _ {T : Tables} {states binders : List ℕ} {parent from left : ℕ} {befo
     pub laying_below : child < parent
     laying_below = Walking.walk_below go.asks.walks more_left is-child
 
-    pub laying_on : {next : List ℕ} {there : ℕ} → Wrote mid here (lay_out binders (expr T child) (below 0 position)) next there
-        → LayingItems T states binders parent from left before at (place + 1) (more - 1) (position + 1) next there
-    laying_on {next} {there} l = record {
+    pub laying_on : {next : List ℕ} {there after last : ℕ} → Wrote mid here (lay_out binders (expr T child) (below 0 position)) next there
+        → after ≡ place + 1 → last ≡ more - 1 → LayingItems T states binders parent from left before at after last (position + 1) next there
+    laying_on {next} {there} l on of = rw (on, of) (record {
       asks = record {
         walks = Walking.walk_on go.asks.walks more_left;
         room = let r = go.asks.room in let e = l.end in omega (arith, ap length step, length-append (lay_out binders (expr T child) (below 0 position)) (lay_out_items binders T (place + 1) (more - 1) (position + 1)));
@@ -205,7 +210,7 @@ module _ {T : Tables} {states binders : List ℕ} {parent from left : ℕ} {befo
       entries = go.entries ++ lay_out binders (expr T child) (below 0 position);
       wrote = wrote_append go.wrote l;
       same = append_assoc go.entries (lay_out binders (expr T child) (below 0 position)) (lay_out_items binders T (place + 1) (more - 1) (position + 1)) ∙ (ap (λ (es : List Entry). go.entries ++ es) (sym step) ∙ go.same);
-    }
+    })
 
     -- its steps
     item_steps : length (lay_out_items binders T place more position) ≡ length (lay_out binders (expr T child) (below 0 position)) + length (lay_out_items binders T (place + 1) (more - 1) (position + 1))
@@ -215,8 +220,9 @@ module _ {T : Tables} {states binders : List ℕ} {parent from left : ℕ} {befo
       pub item_room : StepRoom steps (length (lay_out binders (expr T child) (below 0 position)))
       item_room = counting_one counting (length (lay_out binders (expr T child) (below 0 position))) (length (lay_out_items binders T (place + 1) (more - 1) (position + 1))) item_steps
 
-      pub item_counted : {next : ℕ} → next ≡ steps + length (lay_out binders (expr T child) (below 0 position)) → Counting start all next (length (lay_out_items binders T (place + 1) (more - 1) (position + 1)))
-      item_counted e = counting_on counting (length (lay_out binders (expr T child) (below 0 position))) (length (lay_out_items binders T (place + 1) (more - 1) (position + 1))) item_steps e
+      pub item_counted : {next after last : ℕ} → next ≡ steps + length (lay_out binders (expr T child) (below 0 position)) → after ≡ place + 1 → last ≡ more - 1
+          → Counting start all next (length (lay_out_items binders T after last (position + 1)))
+      item_counted e on of = rw (on, of) (counting_on counting (length (lay_out binders (expr T child) (below 0 position))) (length (lay_out_items binders T (place + 1) (more - 1) (position + 1))) item_steps e)
 
   pub items_counted : (start all steps : ℕ) → Counting start all steps (length (lay_out_items binders T place more position)) → more ≤ 0 → steps ≡ start + all
   unfolding lay_out
@@ -227,10 +233,10 @@ module _ {T : Tables} {states binders : List ℕ} {parent from left : ℕ} {befo
   pub laying_long : length mid ≡ length before
   laying_long = wrote_long go.wrote
 
-  pub laying_fits : 0 < more → Fits w64 (place + 1)
+  pub laying_fits : 0 < more → Fits w64 place
   laying_fits more_left = Walking.walk_fits go.asks.walks more_left
 
-  pub laying_position : 0 < more → Fits w32 (position + 1)
+  pub laying_position : 0 < more → Fits w32 position
   laying_position more_left = let f = go.asks.few in record { fits = omega arith }
 
   pub laying_ends : more ≤ 0 → Wrote before at (lay_out_items binders T from left 1) mid here

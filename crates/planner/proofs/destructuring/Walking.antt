@@ -43,8 +43,8 @@ last_step left step more = let s : left ≡ left - 1 + 1 = omega arith in ap (λ
 
 -- the first of the children, and the rest
 module _ {T : Tables} {states : List ℕ} {parent at step left : ℕ} (a : WalksChildren T states parent at step left) (more : 0 < left) where
-  pub walk_fits : Fits w64 (at + step)
-  walk_fits = let m = a.small in let p = last_step left step more in record { fits = omega arith }
+  pub walk_fits : Fits w64 at
+  walk_fits = let m = a.small in record { fits = omega arith }
 
   pub walk_on : WalksChildren T states parent (at + step) step (left - 1)
   walk_on = record {

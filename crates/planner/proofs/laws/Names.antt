@@ -279,8 +279,9 @@ pub record Looking (sets keys : Bool) (T : Tables) (states : List ℕ) (parent a
   pub asks : WalksChildren T states parent at step left
   pub same : first_node (marked_in states) (occurrences_from sets keys (expr T) T.children at step left) ≡ first_node (marked_in states) (occurrences_from sets keys (expr T) T.children at₀ step left₀)
 
-pub looking_start : (sets keys : Bool) (T : Tables) (states : List ℕ) (parent at step left : ℕ) → WalksChildren T states parent at step left → Looking sets keys T states parent at step left at left
-looking_start sets keys T states parent at step left a = record { asks = a; same = refl }
+pub looking_start : (sets keys : Bool) (T : Tables) (states : List ℕ) (parent at step left : ℕ) {place more : ℕ} → WalksChildren T states parent at step left → place ≡ at → more ≡ left
+    → Looking sets keys T states parent at step left place more
+looking_start sets keys T states parent at step left a is of = rw (is, of) (record { asks = a; same = refl })
 
 module _ {sets keys : Bool} {T : Tables} {states : List ℕ} {parent at₀ step left₀ at left : ℕ} (go : Looking sets keys T states parent at₀ step left₀ at left) where
   module _ (more : 0 < left) {child : ℕ} (is-child : child ≡ child_at T.children at) where
@@ -301,13 +302,13 @@ module _ {sets keys : Bool} {T : Tables} {states : List ℕ} {parent at₀ step 
           ∙ (ap (λ (c : ℕ). first_node (marked_in states) (occurrences sets keys (expr T c) ++ rest)) is-child
           ∙ (sym (ap (first_node (marked_in states)) (from_step sets keys (expr T) T.children at step left more)) ∙ go.same)))
 
-      pub looking_on : found ≡ 0 → Looking sets keys T states parent at₀ step left₀ (at + step) (left - 1)
-      looking_on zero-found = record { asks = walk_on go.asks more; same = simp (eq-eqb found 0 zero-found) at split }
+      pub looking_on : {next last : ℕ} → found ≡ 0 → next ≡ at + step → last ≡ left - 1 → Looking sets keys T states parent at₀ step left₀ next last
+      looking_on zero-found on of = rw (on, of) (record { asks = walk_on go.asks more; same = simp (eq-eqb found 0 zero-found) at split })
 
       pub looking_found : (found ≡ 0 → ⊥) → found ≡ first_node (marked_in states) (occurrences_from sets keys (expr T) T.children at₀ step left₀)
       looking_found some = simp (ne_eqb found 0 some) at split
 
-  pub looking_fits : 0 < left → Fits w64 (at + step)
+  pub looking_fits : 0 < left → Fits w64 at
   looking_fits more = walk_fits go.asks more
 
   pub looking_ends : left ≤ 0 → 0 ≡ first_node (marked_in states) (occurrences_from sets keys (expr T) T.children at₀ step left₀)

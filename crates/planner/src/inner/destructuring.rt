@@ -78,13 +78,9 @@ fn decide_children(
     ensures bound { binders.new ≡ binders_below states.now (contents tables.now) at step left binders.old }
     ensures counted { Counts steps (steps_below (contents tables.now) at step left) }
 {
-    let mut place = at;
-    let mut more = left;
-    while 0 < more {
-        let child = child_at(tables.children, place);
+    for i in 0..left {
+        let child = child_at(tables.children, at + i * step);
         decide(tables, states, binders, child, steps);
-        place += step;
-        more -= 1;
     }
 }
 

@@ -101,16 +101,12 @@ fn first_name_children(
     requires { WalksChildren (contents tables.now) flags.now parent at step left }
     ensures { result ≡ first_node (marked_in flags.now) (occurrences_below sets keys (contents tables.now) at step left) }
 {
-    let mut place = at;
-    let mut more = left;
-    while 0 < more {
-        let child = child_at(tables.children, place);
+    for i in 0..left {
+        let child = child_at(tables.children, at + i * step);
         let found = first_name(tables, flags, sets, keys, child);
         if found != 0 {
             return found;
         }
-        place += step;
-        more -= 1;
     }
     0
 }

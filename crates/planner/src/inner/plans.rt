@@ -109,18 +109,13 @@ fn lay_items(
     ensures laid { WroteIn plan at (lay_out_items binders.now (contents tables.now) from left 1) result }
     ensures counted { Counts steps (length (lay_out_items binders.now (contents tables.now) from left 1)) }
 {
-    let mut place = from;
-    let mut more = left;
-    let mut position: u32 = 1;
     let mut here = at;
-    while 0 < more {
-        let child = child_at(tables.children, place);
+    for i in 0..left {
+        let child = child_at(tables.children, from + i);
+        let position = (i + 1) as u32;
         here = lay_out(
             tables, states, binders, child, 0, position, plan, here, steps,
         );
-        place += 1;
-        more -= 1;
-        position += 1;
     }
     here
 }

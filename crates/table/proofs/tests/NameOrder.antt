@@ -7,13 +7,16 @@ use mathlib.Core.List.{List, []}
 use native.Mathlib.Nat.{eq-or-lt_of_le}
 use native.Mathlib.Omega.{arith}
 use lib.ListN.{length, get_or, replicate}
+use Rattle.std.specs.Prelude.{Result, Ok, Err}
+use Rattle.base.specs.code.Search.{Placed}
 use Rattle.literal.specs.Order.{Order, less, same, more, opposite, bytes_order, comparison_of}
 use Rattle.literal.specs.declared.Comparison.{Comparison}
-use Rattle.literal.specs.declared.Comparison.TheVariants.{Less, Equal, Greater, NoLiteral}
+use Rattle.literal.specs.declared.Comparison.TheVariants.{Less, Equal, Greater}
 use Rattle.literal.proofs.Orders.{three_ways, bytes_order_lem}
+use Rattle.literal.proofs.Searched.{Searches, never_none}
 use Rattle.base.specs.Insertion.{moved}
 use Rattle.base.proofs.Moving.{moved_front, moved_here, moved_next, moved_length}
-use Rattle.base.proofs.Search.{between_start, between_up, between_down, between_ends}
+use Rattle.base.proofs.Search.{placed_as}
 use Rattle.table.specs.Tables.{tables, name_bytes}
 use Rattle.table.specs.code.NameOrder.{order_at, Ascending, NameBetween, FoundName}
 use Rattle.table.specs.Rules.{differ_at, new_name_at, names_differ}
@@ -33,11 +36,6 @@ more_told less e = never (cc)
 more_told same e = never (cc)
 more_told more e = refl
 
-none_told : (o : Order) → comparison_of o ≡ NoLiteral → ⊥
-none_told less e = never (cc)
-none_told same e = never (cc)
-none_told more e = never (cc)
-
 flip_more : (a b : List ℕ) → bytes_order a b ≡ more → bytes_order b a ≡ less
 flip_more a b e = bytes_order_lem.antisymmetric a b ∙ ap opposite e
 
@@ -45,9 +43,9 @@ flip_less : (a b : List ℕ) → bytes_order a b ≡ less → bytes_order b a �
 flip_less a b e = bytes_order_lem.antisymmetric a b ∙ ap opposite e
 
 -- what a comparison at place m says of the places before and behind
-module _ {name : ℕ → List ℕ} {order : List ℕ} {count : ℕ} (a : Ascending name order count) (bytes : List ℕ) (m : ℕ) (lt : m < count) where
-  more_before : order_at name bytes order m ≡ more → (q : ℕ) → q ≤ m → order_at name bytes order q ≡ more
-  more_before e q le = go (eq-or-lt_of_le le)
+module _ {name : ℕ → List ℕ} {order : List ℕ} {count : ℕ} (a : Ascending name order count) (bytes : List ℕ) where
+  more_before : (m : ℕ) → m < count → order_at name bytes order m ≡ more → (q : ℕ) → q ≤ m → order_at name bytes order q ≡ more
+  more_before m lt e q le = go (eq-or-lt_of_le le)
     where
       go : (q ≡ m) ⊎ (q < m) → order_at name bytes order q ≡ more
       go (inl h) = rw h e
@@ -55,56 +53,31 @@ module _ {name : ℕ → List ℕ} {order : List ℕ} {count : ℕ} (a : Ascendi
           flip_less (name (get_or order q 0)) bytes
           (bytes_order_lem.transitive (name (get_or order q 0)) (name (get_or order m 0)) bytes (a.ascend q m h lt) (flip_more bytes (name (get_or order m 0)) e))
 
-  less_behind : order_at name bytes order m ≡ less → (q : ℕ) → m ≤ q → q < count → order_at name bytes order q ≡ less
-  less_behind e q le inside = go (eq-or-lt_of_le le)
+  less_behind : (m : ℕ) → m < count → order_at name bytes order m ≡ less → (q : ℕ) → m ≤ q → q < count → order_at name bytes order q ≡ less
+  less_behind m lt e q le inside = go (eq-or-lt_of_le le)
     where
       go : (m ≡ q) ⊎ (m < q) → order_at name bytes order q ≡ less
       go (inl h) = rw (← h) e
       go (inr h) = bytes_order_lem.transitive bytes (name (get_or order m 0)) (name (get_or order q 0)) e (a.ascend m q h inside)
 
--- `find_name`
-pub record Finding (name : ℕ → List ℕ) (bytes order : List ℕ) (count low high : ℕ) : Type 0 where
-  pub ascending : Ascending name order count
-  pub few : count < 128
-  pub between : NameBetween name bytes order count low high
+  -- `find_name`
+  pub name_searches : count ≤ length order → Searches (λ x. comparison_of (bytes_order bytes (name x))) order 0 count
+  name_searches fits = record {
+    fits = fits;
+    before = λ q lt e i le. ap comparison_of (more_before q lt (more_told _ e) i le);
+    behind = λ q lt e i le inside. ap comparison_of (less_behind q lt (less_told _ e) i le inside);
+    told = λ q lt e. never_none _ e;
+  }
 
-pub finding_start : {name : ℕ → List ℕ} (bytes : List ℕ) {order : List ℕ} {count : ℕ} → Ascending name order count → count < 128 → Finding name bytes order count 0 count
-finding_start bytes {order} {count} a few = record { ascending = a; few = few; between = between_start _ _ count }
+  abbrev way_at : ℕ → Comparison
+  way_at q = comparison_of (order_at name bytes order q)
 
-module _ {name : ℕ → List ℕ} {bytes order : List ℕ} {count low high : ℕ} (f : Finding name bytes order count low high) where
-  module _ {q x : ℕ} {other : List ℕ} {way : Comparison} (lt : low < high) (is-q : q ≡ low + (high - low) / 2) (is_x : x ≡ get_or order q 0) (is-other : other ≡ name x) (is-way : way ≡ comparison_of (bytes_order bytes other)) where
-    way_at : comparison_of (order_at name bytes order q) ≡ way
-    way_at = rw (← is_x, ← is-other) (sym is-way)
-
-    inside_at : q < count
-    inside_at = let n = f.between.inside in omega arith
-
-    pub finding_down : way ≡ Less → Finding name bytes order count low q
-    finding_down e = record {
-      ascending = f.ascending;
-      few = f.few;
-      between = between_down f.between q (omega arith) (omega arith) (less_behind f.ascending bytes q inside_at (less_told (order_at name bytes order q) (way_at ∙ e)));
-    }
-
-    pub finding_up : way ≡ Greater → Finding name bytes order count (q + 1) high
-    finding_up e = record {
-      ascending = f.ascending;
-      few = f.few;
-      between = between_up f.between q (omega arith) (omega arith) (more_before f.ascending bytes q inside_at (more_told (order_at name bytes order q) (way_at ∙ e)));
-    }
-
-    pub finding_same : way ≡ Equal → FoundName name bytes order count 128
-    finding_same e = record { new = λ h. absurd (omega arith); old = λ h. (q, (inside_at, same_bytes_equal bytes other (sym (same_equal bytes other is-way e)) ∙ (is-other ∙ ap name is_x))) }
-
-    pub finding_none : way ≡ NoLiteral → FoundName name bytes order count 128
-    finding_none e = absurd (none_told (order_at name bytes order q) (way_at ∙ e))
-
-  pub finding_ends : high ≤ low → FoundName name bytes order count low
-  finding_ends le =
-      let s = f.between.spans in
-      let n = f.between.inside in
-      let t = f.few in
-      record { new = λ h. between_ends f.between le; old = λ h. absurd (omega arith) }
+  pub name_found : (r : Result ℕ ℕ) → Placed (λ (q : ℕ). way_at q ≡ Greater) (λ (q : ℕ). way_at q ≡ Equal) (λ (q : ℕ). way_at q ≡ Less) count r → FoundName name bytes order count r
+  name_found r = placed_as
+      (λ q lt e. more_told _ e)
+      (λ q lt e. same_bytes_equal bytes (name (get_or order q 0)) (sym (same_equal bytes (name (get_or order q 0)) refl e)))
+      (λ q lt e. less_told _ e)
+      r
 
 -- `names_differ`: the numbers of the first i names, and each of them somewhere
 pub record Naming (names text order : List ℕ) (i : ℕ) : Type 0 where
@@ -127,20 +100,20 @@ naming_start names text few =
     }
 
 module _ {names text order : List ℕ} {i : ℕ} (w : Naming names text order i) (lt : i < length names / 2) {bytes : List ℕ} (b : bytes ≡ name_bytes names text (i + 1))
-    {place : ℕ} (found : FoundName (name_bytes names text) bytes order i place) where
+    {found : Result ℕ ℕ} (is : FoundName (name_bytes names text) bytes order i found) where
   -- a name before has the same bytes
-  pub naming_fails : 127 < place → false ≡ names_differ (tables [] [] [] names [] text)
-  naming_fails h =
-      let old = found.old (omega arith) in
-      let x = w.numbers old.0 old.1.0 in
-      let e : name_bytes names text (x.0 + 1) ≡ bytes = rw (← x.1.1) (sym old.1.1) in
+  pub naming_fails : {q : ℕ} → found ≡ Ok q → false ≡ names_differ (tables [] [] [] names [] text)
+  naming_fails {q} e' =
+      let old = rw e' at is in
+      let x = w.numbers q old.0 in
+      let e : name_bytes names text (x.0 + 1) ≡ bytes = rw (← x.1.1) (sym old.1) in
       let s = equal_same_bytes (name_bytes names text (x.0 + 1)) (name_bytes names text (i + 1)) (e ∙ b) in
       names_fail (tables [] [] [] names [] text) w.scan lt refl
       (ap not (all_not (differ_at (tables [] [] [] names [] text) i) i x.0 x.1.0 (ap not s)))
 
-  module _ (h : place ≤ 127) where
+  module _ {place : ℕ} (e' : found ≡ Err place) where
     space : NameBetween (name_bytes names text) bytes order i place place
-    space = found.new (omega arith)
+    space = rw e' at is
 
     pub naming_room : place ≤ i
     naming_room = space.inside

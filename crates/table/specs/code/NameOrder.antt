@@ -1,6 +1,6 @@
 -- Numbers of names in an array, by the order of the names' bytes.
-use Rattle.std.specs.Prelude.{ℕ, ◌≤◌, ◌<◌, ◌≡◌, List, get_or}
-use Rattle.base.specs.code.Search.{Between}
+use Rattle.std.specs.Prelude.{ℕ, ◌<◌, ◌≡◌, List, Result, get_or}
+use Rattle.base.specs.code.Search.{Between, Placed}
 use Rattle.literal.specs.Order.{Order, less, more, bytes_order}
 
 -- bytes with those of the name at place q
@@ -15,7 +15,6 @@ pub record Ascending (name : ℕ → List ℕ) (order : List ℕ) (count : ℕ) 
 abbrev pub NameBetween : (ℕ → List ℕ) → List ℕ → List ℕ → ℕ → ℕ → ℕ → Type 0
 NameBetween name bytes order = Between (λ (q : ℕ). order_at name bytes order q ≡ more) (λ (q : ℕ). order_at name bytes order q ≡ less)
 
--- `find_name`: the name before which the bytes go, or 128 if a name has the same
-pub record FoundName (name : ℕ → List ℕ) (bytes order : List ℕ) (count place : ℕ) : Type 0 where
-  pub new : place < 128 → NameBetween name bytes order count place place
-  pub old : 128 ≤ place → (q : ℕ) × ((q < count) × (bytes ≡ name (get_or order q 0)))
+-- `find_name`: a name that has the same bytes, or the one before which the bytes go
+abbrev pub FoundName : (ℕ → List ℕ) → List ℕ → List ℕ → ℕ → Result ℕ ℕ → Type 0
+FoundName name bytes order = Placed (λ (q : ℕ). order_at name bytes order q ≡ more) (λ (q : ℕ). bytes ≡ name (get_or order q 0)) (λ (q : ℕ). order_at name bytes order q ≡ less)

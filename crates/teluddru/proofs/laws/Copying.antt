@@ -1,11 +1,10 @@
 -- Records copied into words one by one.
-use Prim.Native.Nat.{ℕ, zero, suc, ◌+◌, ◌*◌, ◌^◌, ◌≤◌, ◌<◌, min}
+use Prim.Native.Nat.{ℕ, zero, suc, ◌+◌, ◌*◌, ◌≤◌, ◌<◌, min}
 use mathlib.Core.Path.{◌≡◌, refl, sym, ◌∙◌, ap}
 use mathlib.Core.List.{List, [], ◌∷◌}
 use native.Mathlib.Omega.{arith}
 use native.Mathlib.Nat.{not-suc-le-zero}
 use lib.ListN.{length, set, take, length-take}
-use lib.Seq.{length-take-le}
 use Rattle.teluddru.specs.declared.Name.{Name}
 use Rattle.teluddru.specs.Records.{name_words}
 use Rattle.teluddru.specs.code.Copying.{name_at, Copied}
@@ -13,9 +12,6 @@ use Rattle.teluddru.specs.code.Copying.{name_at, Copied}
 -- how many are copied
 count_small : (n : ℕ) → min 129 n ≤ 129
 count_small n = omega arith
-
-pub count_fits : (n : ℕ) → min 129 n < 2 ^ 64
-count_fits n = omega arith
 
 -- xs in place of the first words, as far as there are words
 overwrite : List ℕ → List ℕ → List ℕ
@@ -72,10 +68,6 @@ unfolding overwrite
 first_words [] ws l = refl
 first_words (x ∷ xs) [] l = absurd (not-suc-le-zero l)
 first_words (x ∷ xs) (w ∷ ws) l = ap (λ (l' : List ℕ). x ∷ l') (first_words xs ws (omega (arith, l)))
-
--- the part that holds `count` names
-pub part_count : (count : ℕ) (words : List ℕ) → count ≤ 129 → 258 ≡ length words → count * 2 ≡ length (take (count * 2) words)
-part_count count words l e = sym (length-take-le (count * 2) words (omega (arith, l, e)))
 
 -- what `copy_names` returns
 pub all_copied : (ns : List Name) (ws : List ℕ) → length ws ≡ 258 → Copied ns (record { words = after (min 129 (length ns)) ns ws; count = min 129 (length ns) })

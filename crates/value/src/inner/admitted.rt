@@ -26,15 +26,11 @@ fn items_marked(children: &[u32], marks: &[u8; 512], at: usize, left: usize) -> 
     requires { EntriesAsks children.now at 1 left }
     ensures { result ≡ items_marked children.now marks.now at left }
 {
-    let mut place = at;
-    let mut more = left;
-    while 0 < more {
+    for place in at..at + left {
         let child = child_at(children, place) as usize;
         if marks[child - 1] != 1 {
             return false;
         }
-        place += 1;
-        more -= 1;
     }
     true
 }
@@ -44,9 +40,8 @@ fn fields_marked(nodes: &[u32], children: &[u32], marks: &[u8; 512], at: usize, 
     requires { EntriesAsks children.now at 2 left }
     ensures { result ≡ fields_marked nodes.now children.now marks.now at left }
 {
-    let mut place = at;
-    let mut more = left;
-    while 0 < more {
+    for i in 0..left {
+        let place = at + i * 2;
         let key = child_at(children, place);
         if node_kind::LAST_LITERAL < kind_of(nodes, key) {
             return false;
@@ -55,8 +50,6 @@ fn fields_marked(nodes: &[u32], children: &[u32], marks: &[u8; 512], at: usize, 
         if marks[value - 1] != 1 {
             return false;
         }
-        place += 2;
-        more -= 1;
     }
     true
 }

@@ -36,9 +36,8 @@ fn scan_under(tables: &Tables<'_>, at: usize, left: usize, key: u32) -> u32
     requires { ChildrenAsks (contents tables.now) at 2 left }
     ensures { let T = contents tables.now in result ≡ under_from T (literal_at T key) at left }
 {
-    let mut place = at;
-    let mut more = left;
-    while 0 < more {
+    for i in 0..left {
+        let place = at + i * 2;
         let other = child_at(tables.children, place);
         if same_literals(
             tables.nodes,
@@ -50,8 +49,6 @@ fn scan_under(tables: &Tables<'_>, at: usize, left: usize, key: u32) -> u32
         ) {
             return child_at(tables.children, place + 1);
         }
-        place += 2;
-        more -= 1;
     }
     0
 }

@@ -4,6 +4,3 @@ use Rattle.checks.proofs.texts.sort_ordered.Given as goal
 
 abbrev pub invariant-loop-q : goal.invariant-loop-q
 invariant-loop-q l = SortingOrdered (contents l.tables) l.first l.order l.total l.initial.keys l.keys l.size l.q
-
-abbrev pub decreases-loop-q : goal.decreases-loop-q
-decreases-loop-q l = l.q

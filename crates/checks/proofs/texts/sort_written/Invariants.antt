@@ -4,6 +4,3 @@ use Rattle.checks.proofs.texts.sort_written.Given as goal
 
 abbrev pub invariant-loop-i : goal.invariant-loop-i
 invariant-loop-i l = SortingWritten (contents l.tables) l.first l.count l.initial.keys l.keys l.size l.i
-
-abbrev pub decreases-loop-i : goal.decreases-loop-i
-decreases-loop-i l = l.i

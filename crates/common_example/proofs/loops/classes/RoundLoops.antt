@@ -58,12 +58,6 @@ module _ {heads links before : List ℕ} {left : ℕ} {here : List ℕ} (go : Ro
   rounding_ends no_more = record { classes = λ literal_of told. let z : left ≡ 0 = omega arith in rw z at (go.same literal_of told); ok = go.asks.ok }
 
 -- 2. how many classes
-pub names_own : {class place : ℕ} → class ≡ place → 1 ≡ one_if (eqb class place)
-names_own {class} {place} e = let q = eq-eqb class place e in rw q
-
-pub names_other : {class place : ℕ} → (class ≡ place → ⊥) → 0 ≡ one_if (eqb class place)
-names_other {class} {place} n = let q = ne_eqb class place n in rw q
-
 pub record CountingClasses (classes : List ℕ) (left total : ℕ) : Type 0 where
   pub ok : ClassesOk classes
   pub inside : left ≤ 2048

@@ -4,6 +4,3 @@ use Rattle.first_miss.proofs.keys.missing_key.Given as goal
 
 abbrev pub invariant-loop-left : goal.invariant-loop-left
 invariant-loop-left l = Leasting (contents l.tables) l.a l.b l.first l.left l.least
-
-abbrev pub decreases-loop-left : goal.decreases-loop-left
-decreases-loop-left l = l.left

@@ -3,6 +3,3 @@ use Rattle.matching.proofs.links.link_entries.Given as goal
 
 abbrev pub invariant-loop-at : goal.invariant-loop-at
 invariant-loop-at l = Linking l.scratch l.count l.at l.nexts l.starts l.entries l.free
-
-abbrev pub decreases-loop-at : goal.decreases-loop-at
-decreases-loop-at l = l.at

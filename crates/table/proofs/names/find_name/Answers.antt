@@ -1,21 +1,12 @@
-use Rattle.table.proofs.tests.NameOrder.{finding_start, finding_down, finding_up, finding_same, finding_none, finding_ends}
-use borrow.Author.Rules.{rules}
+use Rattle.table.proofs.tests.NameOrder.{name_searches, name_found}
+use Rattle.literal.proofs.Searched.{searched}
+use Rattle.std.proofs.Common.{rules, of_calls}
+use native.Mathlib.Omega.{arith}
 use Rattle.table.proofs.names.find_name.Goals as goal
 
-pub loop-low-init : goal.loop-low-init
-loop-low-init c = search (finding_start, rules)
-
-pub loop-low-preserved-in-Less : goal.loop-low-preserved-in-Less
-loop-low-preserved-in-Less c = search (finding_down, rules)
-
-pub loop-low-preserved : goal.loop-low-preserved
-loop-low-preserved c = search (finding_up, rules)
-
-pub returns-in-Equal : goal.returns-in-Equal
-returns-in-Equal c = search (finding_same, rules)
-
-pub returns-in-NoLiteral : goal.returns-in-NoLiteral
-returns-in-NoLiteral c = search (finding_none, rules)
-
 pub returns : goal.returns
-returns c = search (finding_ends, rules)
+returns c =
+    let ascending = c.requires.0 in
+    let bytes = c.args.bytes.now in
+    let order = name_searches ascending bytes (omega (arith, c.told-order)) in
+    name_found ascending bytes _ (searched order _ c.binary_search_by.ensures.bound c.binary_search_by.ensures.position (λ a r f k. search (rules, of_calls)))

@@ -6,8 +6,8 @@ use Rattle.table.proofs.names.names_differ.Goals as goal
 pub loop-i-init : goal.loop-i-init
 loop-i-init c = search (naming_start, rules)
 
-pub returns-then-place-gt127 : goal.returns-then-place-gt127
-returns-then-place-gt127 c = search (naming_fails, rules)
+pub returns-in_default : goal.returns-in_default
+returns-in_default c = search (naming_fails, rules)
 
 pub loop-i-preserved : goal.loop-i-preserved
 loop-i-preserved c = search (naming_on, rules)

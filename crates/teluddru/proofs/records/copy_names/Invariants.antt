@@ -1,4 +1,4 @@
-use Rattle.std.proofs.Common.{◌≡◌, ◌-◌, ◌≤◌, replicate}
+use Rattle.std.proofs.Common.{◌≡◌, ◌≤◌, replicate}
 use Rattle.teluddru.proofs.laws.Copying.{after}
 use Rattle.teluddru.proofs.records.copy_names.Given as goal
 

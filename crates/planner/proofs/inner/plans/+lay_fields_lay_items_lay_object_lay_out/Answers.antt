@@ -1,5 +1,5 @@
-use Rattle.planner.proofs.destructuring.SecondPass.{next_fits, lay_fits, object_room, object_counted, name_counted, items_room, array_counted, plain_counted, item_room, item_counted, items_counted, fields_counting, field_room, field_counted, fields_counted, object_next_fits, ask_object, ask_name, laid_name, ask_items, laid_array, laid_plain, laying_start, laying_child, laying_below, laying_on, laying_long, laying_fits, laying_position, laying_ends, ordering_start, ordering_long, ordering_place, ordering_key, ordering_next, ordering_position, ordering_value, ordering_child, ordering_below, ordering_on, ordering_ends, object_falls, items_fall, fields_fall, child_falls}
-use Rattle.planner.proofs.destructuring.Counting.{counting_start}
+use Rattle.planner.proofs.destructuring.SecondPass.{next_fits, lay_fits, object_room, object_counted, name_counted, items_room, array_counted, plain_counted, counting_items, item_room, item_counted, items_counted, fields_counting, field_room, field_counted, fields_counted, object_next_fits, ask_object, ask_name, laid_name, ask_items, laid_array, laid_plain, laying_start, laying_child, laying_below, laying_on, laying_long, laying_fits, laying_position, laying_ends, ordering_start, ordering_long, ordering_place, ordering_key, ordering_next, ordering_position, ordering_value, ordering_child, ordering_below, ordering_on, ordering_ends, object_falls, items_fall, fields_fall, child_falls}
+use Rattle.planner.proofs.Left.{some_left, none_left, one_less, one_on}
 use Rattle.planner.proofs.fields.Objects.{ask_order, ask_ordered, laid_object, fields_room, fields_taken}
 use borrow.Author.Rules.{rules}
 use Rattle.planner.proofs.inner.plans.+lay_fields_lay_items_lay_object_lay_out.Goals as goal
@@ -47,29 +47,29 @@ lay_fields-returns-clause-laid t c = search (ordering_ends, rules)
 pub lay_fields-returns-clause-counted : goal.lay_fields-returns-clause-counted
 lay_fields-returns-clause-counted t c = search (fields_counted, rules)
 
-pub lay_items-loop-more-init : goal.lay_items-loop-more-init
-lay_items-loop-more-init t c = (search (laying_start, rules), search (counting_start, rules))
+pub lay_items-loop-i-init : goal.lay_items-loop-i-init
+lay_items-loop-i-init t c = (search (laying_start, rules), search (counting_items, rules))
 
 pub lay_items-lay_out-here-requires : goal.lay_items-lay_out-here-requires
-lay_items-lay_out-here-requires t c = (search (child_falls, laying_below, rules), (search (laying_child, rules), search (item_room, rules)))
+lay_items-lay_out-here-requires t c = (search (child_falls, laying_below, some_left, rules), (search (laying_child, some_left, rules), search (item_room, some_left, rules)))
 
-pub lay_items-overflow_add-place : goal.lay_items-overflow_add-place
-lay_items-overflow_add-place t c = search (laying_fits, rules)
+pub lay_items-overflow_add-from : goal.lay_items-overflow_add-from
+lay_items-overflow_add-from t c = search (laying_fits, some_left, rules)
 
-pub lay_items-overflow_add-position : goal.lay_items-overflow_add-position
-lay_items-overflow_add-position t c = search (laying_position, rules)
+pub lay_items-overflow_cast-position : goal.lay_items-overflow_cast-position
+lay_items-overflow_cast-position t c = search (laying_position, some_left, rules)
 
-pub lay_items-loop-more-preserved : goal.lay_items-loop-more-preserved
-lay_items-loop-more-preserved t c = (search (laying_on, rules), search (item_counted, rules))
+pub lay_items-loop-i-preserved : goal.lay_items-loop-i-preserved
+lay_items-loop-i-preserved t c = (search (laying_on, some_left, one_less, one_on, rules), search (item_counted, some_left, one_less, one_on, rules))
 
 pub lay_items-shape_of-plan : goal.lay_items-shape_of-plan
 lay_items-shape_of-plan t c = search (laying_long, rules)
 
 pub lay_items-returns-clause-laid : goal.lay_items-returns-clause-laid
-lay_items-returns-clause-laid t c = search (laying_ends, rules)
+lay_items-returns-clause-laid t c = search (laying_ends, none_left, rules)
 
 pub lay_items-returns-clause-counted : goal.lay_items-returns-clause-counted
-lay_items-returns-clause-counted t c = search (items_counted, rules)
+lay_items-returns-clause-counted t c = search (items_counted, none_left, rules)
 
 pub lay_object-order_fields-total-requires : goal.lay_object-order_fields-total-requires
 lay_object-order_fields-total-requires t c = search (ask_order, rules)

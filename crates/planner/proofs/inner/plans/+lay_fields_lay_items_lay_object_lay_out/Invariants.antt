@@ -1,5 +1,5 @@
 use Rattle.table.specs.Contents.{contents}
-use Prim.Native.Nat.{◌-◌, ◌*◌}
+use Prim.Native.Nat.{◌+◌, ◌-◌, ◌*◌}
 use Rattle.planner.proofs.destructuring.SecondPass.{LayingItems, LayingFields}
 use Rattle.planner.proofs.destructuring.Counting.{Counting}
 use Rattle.planner.specs.code.Passes.{lay_out_items, lay_out_ordered}
@@ -16,12 +16,9 @@ invariant-lay_fields-loop-q l = LayingFields (contents l.tables) l.states l.bind
 abbrev pub decreases-lay_items : goal.decreases-lay_items
 decreases-lay_items l = 4 * l.parent - 2
 
-abbrev pub invariant-lay_items-loop-more : goal.invariant-lay_items-loop-more
-invariant-lay_items-loop-more l = LayingItems (contents l.tables) l.states l.binders l.parent l.from l.left l.initial.plan l.at l.place l.more l.position l.plan l.here
-    × Counting l.initial.steps (length (lay_out_items l.binders (contents l.tables) l.from l.left 1)) l.steps (length (lay_out_items l.binders (contents l.tables) l.place l.more l.position))
-
-abbrev pub decreases-lay_items-loop-more : goal.decreases-lay_items-loop-more
-decreases-lay_items-loop-more l = l.more
+abbrev pub invariant-lay_items-loop-i : goal.invariant-lay_items-loop-i
+invariant-lay_items-loop-i l = LayingItems (contents l.tables) l.states l.binders l.parent l.from l.left l.initial.plan l.at (l.from + l.i) (l.left - l.i) (l.i + 1) l.plan l.here
+    × Counting l.initial.steps (length (lay_out_items l.binders (contents l.tables) l.from l.left 1)) l.steps (length (lay_out_items l.binders (contents l.tables) (l.from + l.i) (l.left - l.i) (l.i + 1)))
 
 abbrev pub decreases-lay_object : goal.decreases-lay_object
 decreases-lay_object l = 4 * l.node - 1

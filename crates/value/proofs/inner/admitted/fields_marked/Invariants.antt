@@ -1,8 +1,6 @@
+use Prim.Native.Nat.{◌+◌, ◌-◌, ◌*◌}
 use Rattle.value.proofs.Marking.{MarkingFields}
 use Rattle.value.proofs.inner.admitted.fields_marked.Given as goal
 
-abbrev pub invariant-loop-more : goal.invariant-loop-more
-invariant-loop-more l = MarkingFields l.nodes l.children l.marks l.at l.left l.place l.more
-
-abbrev pub decreases-loop-more : goal.decreases-loop-more
-decreases-loop-more l = l.more
+abbrev pub invariant-loop-i : goal.invariant-loop-i
+invariant-loop-i l = MarkingFields l.nodes l.children l.marks l.at l.left (l.at + l.i * 2) (l.left - l.i)

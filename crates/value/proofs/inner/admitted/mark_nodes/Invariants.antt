@@ -1,6 +1,4 @@
 use Rattle.table.specs.Contents.{contents}
-use Prim.Native.Nat.{◌-◌}
-use Rattle.table.specs.Tables.{tables}
 use Rattle.value.proofs.Marking.{MarkingNodes}
 use Rattle.value.proofs.inner.admitted.mark_nodes.Given as goal
 

@@ -1,6 +1,5 @@
 use Rattle.table.specs.Contents.{contents}
 use Prim.Native.Nat.{◌-◌, ◌*◌}
-use Rattle.table.specs.Tables.{tables}
 use Rattle.value.proofs.SameValues.{Pairing, ByKey}
 use Rattle.value.proofs.inner.equality.+same_fields_same_items_same_value.Given as goal
 

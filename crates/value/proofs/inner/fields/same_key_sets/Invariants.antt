@@ -1,6 +1,4 @@
 use Rattle.table.specs.Contents.{contents}
-use Prim.Native.Nat.{◌-◌}
-use Rattle.table.specs.Tables.{tables}
 use Rattle.value.proofs.Under.{Covering}
 use Rattle.value.proofs.inner.fields.same_key_sets.Given as goal
 
