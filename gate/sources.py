@@ -13,7 +13,8 @@ QUOTED = re.compile(r""""(?:[^"\\\n]|\\.)*"|b'(?:[^'\\]|\\.)'""")
 COMMENT = {".antt": re.compile(r"--.*"), ".rt": re.compile(r"//.*")}
 # A name may have any character but these; what stands behind a point is a member of what is before it.
 WORD = re.compile(r"(?<!\.)(?:\[\]|[^\s(){}\[\],;.⌜⌝⟦⟧]+)")
-CLAUSE = re.compile(r"^ *(?:requires|ensures)\*?(?: \w+)? (?={)", re.MULTILINE)
+# A clause, or the ghost member of an impl, which says what its methods give.
+CLAUSE = re.compile(r"^ *(?:(?:requires|ensures)\*?(?: \w+)?|ghost \w+ =) (?={)", re.MULTILINE)
 
 
 class Import(NamedTuple):

@@ -70,6 +70,11 @@ class UnusedImports(unittest.TestCase):
         contract = uses + "\nfn h(x: &u8)\n    requires low { one x.now }\n    ensures* high {\n        two\n    }\n{\n}\n"
         self.assertEqual(self.names(SOURCE, contract), ["three"])
 
+    def test_ghost_members(self):
+        uses = "ghost use a.B.{one, two};\n"
+        member = uses + "\nimpl From<A> for B {\n    ghost from_gives = { λ a b. b ≡ one a };\n}\n"
+        self.assertEqual(self.names(SOURCE, member), ["two"])
+
     def test_what_rt_keeps_is_no_source(self):
         self.names("crates/c/out/rlib/c.rlib/lang/antt/P.antt", "use a.B.{one}\nx = two\n")
         self.assertEqual(self.run_main(), (0, ["every import is used"]))

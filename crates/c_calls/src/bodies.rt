@@ -15,7 +15,7 @@ use operation::inner::{put_word, tell};
 use operation::row::{Row, refusal_row, row_from};
 use planner::Plan;
 use planner::buffer::clear;
-use scope::{MarkOutside, Scope};
+use scope::{ByteScope, MarkOutside, Scope};
 use table::limits::within_limits;
 use table::tables::Tables;
 
@@ -46,7 +46,7 @@ fn marks_first(tables: &Tables<'_>, made: Result<Scope, MarkOutside>) -> u32
 fn put_marks(marks: &mut [u8], scope: Scope)
     ensures { marks.new ≡ marks_in scope marks.old }
 {
-    let bytes = scope.to_bytes();
+    let bytes = ByteScope::from(scope);
     let all = bytes.marks;
     for i in 0..128 {
         if marks.len() <= i {
