@@ -4,13 +4,12 @@ ghost use Rattle.table.specs.Lent.{given, lent};
 ghost use Rattle.std.specs.Prelude.{◌≡◌};
 ghost use Rattle.assignment.specs.code.KeyMatching.{literal_keys, FindAsks, partner_of, MissingAsks, missing_from, KeysAsks, KeysMatched, FieldAsks, FieldSides};
 
-use literal::Comparison;
 use planner::PlanRefusal;
 use planner::fields::field_at;
-use planner::inner::fields::order_fields;
-use table::node_kind;
-use table::reading::{child_at, compare_literals, count_of, first_of, kind_of};
+use planner::inner::fields::{find_field, order_fields};
+use table::reading::{child_at, count_of, extract_literal_key, first_of, kind_of};
 use table::tables::Tables;
+use table::{Key, node_kind};
 
 // A left and a right node.
 #[derive(Clone, Copy)]
@@ -34,34 +33,19 @@ pub(crate) fn literal_keys(nodes: &[u32], children: &[u32], node: u32) -> bool
     true
 }
 
-// The node of an object's last value under a literal key, by binary search, or 0.
+// The node of an object's last value under a literal key, or 0.
 fn find_value(tables: &Tables<'_>, object: u32, order: &[u8; 256], total: usize, key: u32) -> u32
     requires { FindAsks (contents tables.now) object order.now total key }
     ensures { result ≡ partner_of (contents tables.now) object key }
 {
+    let Key::Literal(literal) = extract_literal_key(tables.nodes, key) else {
+        return 0;
+    };
     let first = first_of(tables.nodes, object) as usize;
-    let mut low: usize = 0;
-    let mut high = total;
-    while low < high {
-        let middle = low + (high - low) / 2;
-        let place = first + field_at(order, middle) * 2;
-        let other = child_at(tables.children, place);
-        let way = compare_literals(
-            tables.nodes,
-            tables.numbers,
-            tables.strings,
-            tables.text,
-            key,
-            other,
-        );
-        match way {
-            Comparison::Equal => return child_at(tables.children, place + 1),
-            Comparison::Less => high = middle,
-            Comparison::Greater => low = middle + 1,
-            Comparison::NoLiteral => return 0,
-        }
+    match find_field(tables, first, order, total, literal) {
+        Ok(q) => child_at(tables.children, first + field_at(order, q) * 2 + 1),
+        Err(_) => 0,
     }
-    0
 }
 
 // The first key, of `count` fields from child entry `from` on, that the object lacks, or 0.

@@ -3,12 +3,17 @@ use Prim.Native.Nat.{ℕ, ◌≤◌, ◌<◌}
 use mathlib.Core.Path.{◌≡◌, refl, sym, ap, ◌∙◌}
 use mathlib.Core.List.{List}
 use native.Mathlib.Omega.{arith}
-use lib.ListN.{length, get_or}
+use mathlib.Core.Bool.{Bool, true, false}
+use lib.ListN.{length, get_or, take}
+use lib.Seq.{get_or-take, length-take-le}
+use denote.Ref.{Bor}
 use Rattle.std.specs.Prelude.{Result, Ok, Err}
 use Rattle.std.specs.declared.cmp.Ordering.{Ordering}
 use Rattle.std.specs.Ordering.{ordering_index}
-use Rattle.std.specs.List.Sorted.{IsSearchInRange, IsBinarySearchResult, IsNonDecreasingBy}
-use Rattle.std.proofs.lemmas.List.Sorted.{IsNonDecreasingBy-from_default}
+use Rattle.std.specs.Fn.{Mut, Called, ComputesKey}
+use Rattle.std.specs.List.Sorted.{IsSearchInRange, IsBinarySearchResult, IsNonDecreasingBy, IsPartitionedBy, IsPartitionPoint}
+use Rattle.std.proofs.lemmas.List.{get_or_default}
+use Rattle.std.proofs.lemmas.List.Sorted.{IsNonDecreasingBy-from_default, IsPartitionPoint-from_clause}
 use Rattle.base.specs.code.Search.{Between, Placed}
 
 -- what comes before a `Less` is less, and what comes behind a `Greater` is greater
@@ -39,3 +44,27 @@ module _ {Before At Behind Before' At' Behind' : ℕ → Type 0} {m : ℕ} (befo
   placed_as (Err q) b =
       let n = b.inside in
       record { spans = b.spans; inside = b.inside; before = λ i lt. before i (omega arith) (b.before i lt); behind = λ i le lt. behind i lt (b.behind i le lt) }
+
+-- the first place of those that do not pass a test, by `partition_point`
+module _ {X : Type 0} (p : X → Bool) (order : List X) (d : X) (m : ℕ) (fits : m ≤ length order)
+    (before : (q : ℕ) → q < m → p (get_or order q d) ≡ true → (i : ℕ) → i ≤ q → p (get_or order i d) ≡ true) where
+  long : length (take m order) ≡ m
+  long = length-take-le m order fits
+
+  in_front : (q : ℕ) (e : X) → q < m → get_or (take m order) q e ≡ get_or order q d
+  in_front q e lt = let n = long in get_or_default (take m order) q e d (omega arith) ∙ get_or-take m order q d lt
+
+  pub parted : {F : Type 0} {g : Mut F (Bor X × Unit {0}) Bool} {f : F} (r : ℕ) → r ≤ length (take m order)
+      → ((q : X → Bool) → ComputesKey g q f → IsPartitionedBy q (take m order) → IsPartitionPoint (λ y. q y ≡ true) (λ y. q y ≡ false) (take m order) r)
+      → ((a : Bor X × Unit {0}) (r : Bool) (f' : F) → Called g f a r f' → (r ≡ p a.0.now) × (f' ≡ f))
+      → Between (λ (q : ℕ). p (get_or order q d) ≡ true) (λ (q : ℕ). p (get_or order q d) ≡ false) m r r
+  parted r inside clause calls =
+      let n = long in
+      let point = IsPartitionPoint-from_clause p (take m order) r clause
+      (λ i j e le lt h. rw (in_front i e (omega arith)) (before j (omega arith) (rw (in_front j e (omega arith)) at h) i le)) calls in
+      record {
+        spans = omega arith;
+        inside = omega arith;
+        before = λ q lt. rw (in_front q d (omega arith)) at (point.0 q d (omega arith) lt);
+        behind = λ q le lt. rw (in_front q d lt) at (point.1 q d le (omega arith));
+      }

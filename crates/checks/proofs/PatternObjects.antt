@@ -227,7 +227,7 @@ module _ {T : Tables} {pattern : ℕ} {order : List ℕ} {m key : ℕ} (a : Part
         unfolding first₀
         place_absent {place} e =
             let l = own is-sought in
-            let b = rw (refers is-sought, is_first) at (found.new e) in
+            let b = rw (refers is-sought, is_first) at (rw e at found.place) in
             rw l.1 (place_none a.asks l.0 (λ q lt. go l.0 l.1 b q lt (leb place q) refl))
           where
             go : (l : Literal) → literal_at T key ≡ Option.some l → KeyBetween (field_key T (first_word_of T.nodes pattern)) (literal_at T key) order m place place → (q : ℕ) → q < m → (b : Bool) → leb place q ≡ b
@@ -239,7 +239,7 @@ module _ {T : Tables} {pattern : ℕ} {order : List ℕ} {m key : ℕ} (a : Part
         unfolding first₀
         place_there {place} e =
             let l = own is-sought in
-            let p = rw (refers is-sought, is_first) at (found.old e) in
+            let p = rw (refers is-sought, is_first) at (rw e at found.place) in
             rw l.1 (place_found a.asks l.0 place p.0 (to_slot (in_order a.asks) l.1 same place p.0 p.1))
 
         pub place_or : {r : ℕ} → r ≡ result_unwrap_or found_at m → PlaceIs (patterns_of T pattern).literals (literal_at T key) r

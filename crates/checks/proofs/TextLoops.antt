@@ -1,5 +1,5 @@
 -- The loops that sort key nodes by their texts and hold two sorted arrays against each other.
-use Prim.Native.Nat.{ℕ, suc, ◌+◌, ◌-◌, ◌*◌, ◌/◌, ◌≤◌, ◌<◌}
+use Prim.Native.Nat.{ℕ, suc, ◌+◌, ◌-◌, ◌*◌, ◌≤◌, ◌<◌}
 use mathlib.Core.Path.{◌≡◌, refl, sym, ap, subst, ◌∙◌}
 use mathlib.Core.Bool.{Bool, true, false, ◌&&◌}
 use mathlib.Core.List.{List, []}
@@ -27,11 +27,10 @@ use Rattle.planner.specs.code.Passes.{key_node, field_key}
 use Rattle.base.specs.Insertion.{moved}
 use Rattle.planner.specs.code.Post.{OrderAsks}
 use Rattle.base.proofs.Moving.{moved_take, moved_drop}
-use Rattle.base.proofs.Search.{between_start, between_up, between_down, between_ends}
 use Rattle.planner.proofs.fields.FieldLoops.{ref_above, never_computed}
 use Rattle.checks.specs.Structure.{sort_texts}
-use Rattle.checks.specs.code.Texts.{is_greater, is_equal, literals_of, KeysOf, text_at, TextAsks, TextBetween, TextPlace, AddKeyAsks, insert_or, KeyAdded, texts_from, SortedKeys, ordered_key, OrderedAsks, agree_from, texts_agree, BothAsks, TextsCompared}
-use Rattle.checks.proofs.TextOrder.{after, sort_ascending, after_before, after_behind, blank_text, keys_length, compared_at, put_key, texts_agree_lem}
+use Rattle.checks.specs.code.Texts.{is_greater, is_equal, literals_of, KeysOf, text_at, TextAsks, TextPlace, AddKeyAsks, insert_or, KeyAdded, texts_from, SortedKeys, ordered_key, OrderedAsks, agree_from, texts_agree, BothAsks, TextsCompared}
+use Rattle.checks.proofs.TextOrder.{after, sort_ascending, after_before, blank_text, keys_length, compared_at, put_key, texts_agree_lem}
 use Rattle.checks.proofs.KeyTexts.{field_below, sort_or, sort_length, texts_step, texts_none}
 
 -- one comparison
@@ -49,50 +48,20 @@ module _ (x y : Option Literal) {way : Comparison} (is : way ≡ texts_compared 
   after_none e = sym (ap is_greater (sym is ∙ e))
 
 -- the search for a text's place
-pub record Seeking (lit : ℕ → Option Literal) (keys : List ℕ) (size : ℕ) (key : Option Literal) (low high : ℕ) : Type 0 where
-  pub asks : TextAsks lit keys size key
-  pub few : size ≤ 256
-  pub between : TextBetween lit keys key size low high
-
-pub seeking_start : {lit : ℕ → Option Literal} {keys : List ℕ} {size : ℕ} {key : Option Literal} → TextAsks lit keys size key → Seeking lit keys size key 0 size
-seeking_start {size = size} a = record { asks = a; few = a.few; between = between_start _ _ size }
-
-module _ {lit : ℕ → Option Literal} {keys : List ℕ} {size : ℕ} {key : Option Literal} {low high : ℕ} (s : Seeking lit keys size key low high) where
+module _ {lit : ℕ → Option Literal} {keys : List ℕ} {size : ℕ} {key : Option Literal} (asks : TextAsks lit keys size key) where
   texts : List (List ℕ)
-  texts = sort_texts s.asks.texts
+  texts = sort_texts asks.texts
 
   -- by the texts
-  at_text : (q : ℕ) → q < size → is_greater (text_at lit key keys q) ≡ after (key_text s.asks.own) (get_or texts q blank_text)
+  at_text : (q : ℕ) → q < size → is_greater (text_at lit key keys q) ≡ after (key_text asks.own) (get_or texts q blank_text)
   unfolding texts
-  at_text q lt = ap is_greater (compared_at s.asks.sorted s.asks.literal q lt)
+  at_text q lt = ap is_greater (compared_at asks.sorted asks.literal q lt)
 
-  module _ (lt : low < high) {q : ℕ} (is-q : q ≡ low + (high - low) / 2) {b : Bool} (is_b : b ≡ is_greater (text_at lit key keys q)) where
-    pub seeking_up : b ≡ true → Seeking lit keys size key (q + 1) high
-    unfolding texts
-    seeking_up e =
-        let n = s.between.inside in
-        let l = keys_length s.asks.sorted in
-        record {
-          asks = s.asks;
-          few = s.few;
-          between = between_up s.between q (omega arith) (omega arith) (λ i h. at_text i (omega arith)
-              ∙ after_before blank_text (key_text s.asks.own) texts (sort_ascending s.asks.texts) q (omega arith) (sym (at_text q (omega arith)) ∙ (sym is_b ∙ e)) i (omega arith));
-        }
-
-    pub seeking_down : b ≡ false → Seeking lit keys size key low q
-    unfolding texts
-    seeking_down e =
-        let n = s.between.inside in
-        let l = keys_length s.asks.sorted in
-        record {
-          asks = s.asks;
-          few = s.few;
-          between = between_down s.between q (omega arith) (omega arith) (λ i le h. at_text i h
-              ∙ after_behind blank_text (key_text s.asks.own) texts (sort_ascending s.asks.texts) q (omega arith) (sym (at_text q (omega arith)) ∙ (sym is_b ∙ e)) i le (omega arith));
-        }
-
-  pub seeking_ends : high ≤ low → TextPlace lit keys size key low
-  seeking_ends le = record { place = between_ends s.between le }
+  pub text_before : (q : ℕ) → q < size → is_greater (text_at lit key keys q) ≡ true → (i : ℕ) → i ≤ q → is_greater (text_at lit key keys i) ≡ true
+  unfolding texts
+  text_before q lt e i le =
+      let l = keys_length asks.sorted in
+      at_text i (omega arith) ∙ after_before blank_text (key_text asks.own) texts (sort_ascending asks.texts) q (omega arith) (sym (at_text q lt) ∙ e) i le
 
 further_behind : (m n : ℕ) (l start : List ℕ) → m ≤ n → drop m l ≡ drop m start → drop n l ≡ drop n start
 further_behind m n l start le e =

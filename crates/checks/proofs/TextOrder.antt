@@ -97,7 +97,7 @@ module _ (d : List ℕ) where
   ascending_at (t ∷ ts) h (suc i) zero le lt = absurd (omega arith)
   ascending_at (t ∷ ts) h (suc i) (suc j) le lt = ascending_at ts h.1 i j (omega arith) (omega arith)
 
-  -- what the text at place q says of those before and behind
+  -- what the text at place q says of those before
   module _ (t : List ℕ) (ts : List (List ℕ)) (h : Ascending ts) (q : ℕ) (lt : q < length ts) where
     pub after_before : after t (get_or ts q d) ≡ true → (i : ℕ) → i ≤ q → after t (get_or ts i d) ≡ true
     after_before e i le = go (after t (get_or ts i d)) refl
@@ -105,9 +105,6 @@ module _ (d : List ℕ) where
         go : (b : Bool) → after t (get_or ts i d) ≡ b → after t (get_or ts i d) ≡ true
         go true p = p
         go false p = let z = sym e ∙ after_trans t (get_or ts i d) (get_or ts q d) p (ascending_at ts h i q le lt) in never cc
-
-    pub after_behind : after t (get_or ts q d) ≡ false → (i : ℕ) → q ≤ i → i < length ts → after t (get_or ts i d) ≡ false
-    after_behind e i le lt' = after_trans t (get_or ts q d) (get_or ts i d) e (ascending_at ts h q i le lt')
 
   -- insertion at a place
   pub insert_place : (t : List ℕ) (ts : List (List ℕ)) (p : ℕ) → p ≤ length ts → ((q : ℕ) → q < p → after t (get_or ts q d) ≡ true)

@@ -46,7 +46,7 @@ fn comes_after<'a>(
     }
 }
 
-// The place of a literal among `size` keys in the order of texts, by binary search.
+// The place of a literal among `size` keys in the order of texts: behind those that its text comes after.
 fn find_text<'a>(
     nodes: &[u32],
     numbers: &[u64],
@@ -59,17 +59,7 @@ fn find_text<'a>(
     requires { TextAsksIn nodes numbers strings text keys size key }
     ensures { TextPlace (lent_literal nodes numbers strings text) keys.now size (lent_referred numbers strings text key) result }
 {
-    let mut low: usize = 0;
-    let mut high = size;
-    while low < high {
-        let middle = low + (high - low) / 2;
-        if comes_after(nodes, numbers, strings, text, key, keys[middle]) {
-            low = middle + 1;
-        } else {
-            high = middle;
-        }
-    }
-    low
+    keys[..size].partition_point(|&other| comes_after(nodes, numbers, strings, text, key, other))
 }
 
 // One more key node, if it is a literal's; how many there are then.

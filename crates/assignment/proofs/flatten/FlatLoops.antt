@@ -13,7 +13,6 @@ use Rattle.table.specs.Expr.{parts, parts_all, parts_fields, Exprs, Fields}
 use Rattle.table.specs.Decode.{expr, items, fields}
 use Rattle.table.specs.code.Sound.{Node, WellFormed}
 use Rattle.table.proofs.trees.Trees.{expr_object, items_step, items_end, fields_step, fields_end}
-use Rattle.planner.specs.declared.Plan.{Plan}
 use Rattle.planner.specs.declared.PlanRefusal.{PlanRefusal}
 use Rattle.planner.specs.Layout.{Entry}
 use Rattle.planner.specs.code.Passes.{unbound_in}

@@ -1,9 +1,10 @@
 -- The search for a key among an object's fields in order.
-use Prim.Native.Nat.{ℕ, zero, suc, ◌+◌, ◌-◌, ◌*◌, ◌/◌, ◌≤◌, ◌<◌}
+use Prim.Native.Nat.{ℕ, zero, suc, ◌+◌, ◌*◌, ◌≤◌, ◌<◌}
 use mathlib.Core.Path.{◌≡◌, refl, sym, ap, ◌∙◌}
 use mathlib.Core.Bool.{Bool, true, false}
 use mathlib.Core.List.{List, [], ◌∷◌, ◌++◌, map, append-nil}
 use mathlib.Core.Option.{Option}
+use Rattle.std.proofs.Common.{Result, Ok, Err}
 use native.Mathlib.Omega.{arith}
 use mir.Val.{Fits}
 use mir.Syntax.{w64}
@@ -12,16 +13,20 @@ use lib.Dec.{leb}
 use lib.ListN.{length, get_or, take, length-map, get_or-map}
 use lib.Seq.{get_or-take}
 use Rattle.literal.specs.Literal.{Literal, null}
-use Rattle.literal.specs.declared.Comparison.{Comparison}
-use Rattle.literal.specs.declared.Comparison.TheVariants.{Less, Equal, Greater, NoLiteral}
-use Rattle.literal.specs.Order.{Order, less, same, more, key_order, compared, comparison_of}
+use Rattle.literal.specs.declared.LiteralRef.{LiteralRef}
+use Rattle.literal.specs.Order.{less, same, more, key_order}
 use Rattle.literal.proofs.Orders.{key_order_lem}
 use Rattle.table.specs.Names.{is_same}
 use Rattle.table.specs.Tables.{Tables, first_word_of, count_of, child_at}
-use Rattle.table.specs.Decode.{literal_at, fields_of}
+use Rattle.table.specs.Decode.{literal_at, literal_node, fields_of, referred, ref_of}
+use Rattle.table.specs.declared.Key.{Key}
+use Rattle.table.specs.declared.Key.TheVariants.{Computed}
+use Rattle.table.proofs.tests.Bytes.{node_refers}
+use Rattle.planner.specs.code.Ordering as planner
+use Rattle.planner.specs.code.Ordering.{At, KeyBetween, FoundBy}
 use Rattle.planner.specs.Layout.{Slot, held_in, FieldOrder, in_order}
 use Rattle.planner.specs.code.Passes.{field_key, order_of}
-use Rattle.planner.proofs.fields.FieldOrder.{all_at, Sorted, Keyed, Ordered, ordered_first, more_before, less_behind, same_before}
+use Rattle.planner.proofs.fields.FieldOrder.{Sorted, Ordered, ordered_first, to_slot, same_before}
 use Rattle.planner.proofs.fields.Objects.{AllBelow, order_below}
 use Rattle.planner.specs.Held.{held_under}
 use Rattle.assignment.specs.Pairs.{distinct_keys}
@@ -69,9 +74,6 @@ module _ {T : Tables} {n : ℕ} {order : List ℕ} {total : ℕ} (o : InOrder T 
   held_at : (q : ℕ) → q < total → get_or order q 0 ≡ (get_or (slots_of T n) q blank).held
   held_at q lt = sym (get_or-take total order q 0 lt) ∙ (ap (λ (l : List ℕ). get_or l q 0) (o.ordered.fields ∙ in_order_lem) ∙ get_or-map held_in (slots_of T n) q blank)
 
-  key_at_lem : (q : ℕ) → q < total → field_key T (first_word_of T.nodes n) (get_or order q 0) ≡ Option.some (get_or (slots_of T n) q blank).at
-  key_at_lem q lt = let c = slots_count in ap (field_key T (first_word_of T.nodes n)) (held_at q lt) ∙ all_at (Keyed (field_key T (first_word_of T.nodes n))) blank (slots_of T n) q (omega arith) ordered.keyed
-
   slots_sorted : Sorted (slots_of T n)
   slots_sorted = ordered.sorted
 
@@ -87,125 +89,78 @@ module _ {T : Tables} {n : ℕ} {order : List ℕ} {total : ℕ} (o : InOrder T 
       let e : get_or (take total order) q 0 ≡ get_or order q 0 = get_or-take total order q 0 lt in
       rw (← e) (rw o.ordered.fields (below_at (count_of T.nodes n) (in_order (order_of T (first_word_of T.nodes n) (count_of T.nodes n))) q (omega arith) (order_below (field_key T (first_word_of T.nodes n)) (count_of T.nodes n))))
 
--- the key's place is from low to high
-pub record Searching (T : Tables) (n : ℕ) (order : List ℕ) (total key first low high : ℕ) : Type 0 where
-  pub asks : FindAsks T n order total key
-  pub is_first : first ≡ first_word_of T.nodes n
-  pub spans : low ≤ high
-  pub inside : high ≤ total
-  pub few : total ≤ 256
-  pub before : (q : ℕ) → q < low → key_order asks.key_ok.own (get_or (slots_of T n) q blank).at ≡ more
-  pub behind : (q : ℕ) → high ≤ q → q < total → key_order asks.key_ok.own (get_or (slots_of T n) q blank).at ≡ less
+-- the search among the fields, by the literal of the key
+module _ {T : Tables} {n : ℕ} {order : List ℕ} {total key : ℕ} (asks : FindAsks T n order total key) {ref : Key} (is-ref : ref ≡ ref_of T.nodes key) where
+  pub value_computed : ref ≡ Computed → 0 ≡ partner_of T n key
+  unfolding literal_node partner_of
+  value_computed e =
+      let r = sym is-ref ∙ e in
+      let none : literal_at T key ≡ Option.none = rw r in
+      rw none
 
-pub searching_start : {T : Tables} {n : ℕ} {order : List ℕ} {total key first : ℕ} → FindAsks T n order total key → first ≡ first_word_of T.nodes n → Searching T n order total key first 0 total
-searching_start a is = record {
-  asks = a;
-  is_first = is;
-  spans = omega arith;
-  inside = omega arith;
-  few = a.in_order.ordered.few;
-  before = λ q lt. absurd (omega arith);
-  behind = λ q le lt. absurd (omega arith);
-}
+  module _ {sought : LiteralRef} (is-sought : ref ≡ Key.Literal sought) {first : ℕ} (is_first : first ≡ first_word_of T.nodes n) where
+    refers : referred T sought ≡ literal_at T key
+    refers = node_refers T.nodes T.numbers T.strings T.text key is-ref is-sought
 
-module _ {T : Tables} {n : ℕ} {order : List ℕ} {total key first low high : ℕ} (s : Searching T n order total key first low high) where
-  module _ {q : ℕ} (lt : low < high) (is-q : q ≡ low + (high - low) / 2) where
-    here : q < total
-    here = let i = s.inside in omega arith
+    first_few : first + count_of T.nodes n * 2 ≤ 512
+    first_few =
+        let listed = object_listed T asks.in_order.asks in
+        let few = asks.in_order.asks.table.limits.children in
+        omega arith
 
-    module _ {i : ℕ} (is-i : i ≡ get_or order q 0) where
-      place_low : first + i * 2 + 1 < 512
-      place_low =
-          let f = s.is_first in
-          let listed = object_listed T s.asks.in_order.asks in
-          let few = s.asks.in_order.asks.table.limits.children in
-          let l = field_low s.asks.in_order q here in
-          omega arith
+    pub value_asks : planner.FindAsks T first order total sought
+    value_asks =
+        let o = asks.in_order.ordered in
+        let f = first_few in
+        record {
+          fields = count_of T.nodes n;
+          total = total;
+          so_far = rw is_first (record { counted = slots_count asks.in_order; sized = o.total; listed = o.fields });
+          few = o.few;
+          small = omega arith;
+          own = asks.key_ok.own;
+          literal = refers ∙ asks.key_ok.literal;
+        }
 
-      pub searching_twice : Fits w64 (i * 2)
-      searching_twice = let p = place_low in record { fits = omega arith }
+    module _ {found : Result ℕ ℕ} (is : FoundBy (field_key T first) (referred T sought) order total found) where
+      module _ {q : ℕ} (there : found ≡ Ok q) {i : ℕ} (is-i : i ≡ get_or order q 0) where
+        here : (q < total) × At same (field_key T (first_word_of T.nodes n)) (literal_at T key) order q
+        here = rw (refers, is_first, there) at is.place
 
-      pub searching_key : Fits w64 (first + i * 2)
-      searching_key = let p = place_low in record { fits = omega arith }
+        place_low : first + i * 2 + 1 < 512
+        place_low =
+            let f = first_few in
+            let l = field_low asks.in_order q here.0 in
+            omega arith
 
-      pub searching_value : Fits w64 (first + i * 2 + 1)
-      searching_value = let p = place_low in record { fits = omega arith }
+        pub value_twice : Fits w64 (i * 2)
+        value_twice = let p = place_low in record { fits = omega arith }
 
-      module _ {other : ℕ} {way : Comparison} (is-other : other ≡ child_at T.children (first + i * 2)) (is-way : way ≡ compared (literal_at T key) (literal_at T other)) where
-        way_is : way ≡ comparison_of (key_order s.asks.key_ok.own (get_or (slots_of T n) q blank).at)
-        unfolding compared
-        way_is =
-            let k : literal_at T other ≡ Option.some (get_or (slots_of T n) q blank).at = rw (is-other, is-i, s.is_first) (key_at_lem s.asks.in_order q here) in
-            is-way ∙ rw (s.asks.key_ok.literal, k)
+        pub value_key : Fits w64 (first + i * 2)
+        value_key = let p = place_low in record { fits = omega arith }
 
-        to_order : (r : Order) → (way ≡ comparison_of r → key_order s.asks.key_ok.own (get_or (slots_of T n) q blank).at ≡ r)
-        to_order r e = told_order (key_order s.asks.key_ok.own (get_or (slots_of T n) q blank).at) r (sym way_is ∙ e)
-          where
-            told_order : (a b : Order) → comparison_of a ≡ comparison_of b → a ≡ b
-            told_order less less e = refl
-            told_order less same e = cc
-            told_order less more e = cc
-            told_order same less e = cc
-            told_order same same e = refl
-            told_order same more e = cc
-            told_order more less e = cc
-            told_order more same e = cc
-            told_order more more e = refl
+        pub value_place : Fits w64 (first + i * 2 + 1)
+        value_place = let p = place_low in record { fits = omega arith }
 
-        pub searching_found : {value : ℕ} → value ≡ child_at T.children (first + i * 2 + 1) → way ≡ Equal → value ≡ partner_of T n key
-        searching_found {value} is-value e =
-            let equal = to_order same e in
-            let c = slots_count s.asks.in_order in
-            let in-slots : q < length (slots_of T n) = let h = here in omega arith in
-            let held = held_found s.asks.key_ok.own (slots_of T n) q in-slots
-            (same_before key_order_lem blank s.asks.key_ok.own (slots_of T n) (slots_sorted s.asks.in_order) q in-slots equal) equal in
-            is-value ∙ (rw (is-i, held_at s.asks.in_order q here, s.is_first)
-            (sym (partner_held T s.asks.in_order.asks s.asks.key_ok ∙ ap (held_node T (first_word_of T.nodes n)) held)))
+        pub value_found : {value : ℕ} → value ≡ child_at T.children (first + i * 2 + 1) → value ≡ partner_of T n key
+        value_found {value} is-value =
+            let equal = to_slot (ordered asks.in_order) asks.key_ok.literal same q here.0 here.1 in
+            let c = slots_count asks.in_order in
+            let in-slots : q < length (slots_of T n) = let h = here.0 in omega arith in
+            let held = held_found asks.key_ok.own (slots_of T n) q in-slots
+            (same_before key_order_lem blank asks.key_ok.own (slots_of T n) (slots_sorted asks.in_order) q in-slots equal) equal in
+            is-value ∙ (rw (is-i, held_at asks.in_order q here.0, is_first)
+            (sym (partner_held T asks.in_order.asks asks.key_ok ∙ ap (held_node T (first_word_of T.nodes n)) held)))
 
-        pub searching_down : way ≡ Less → Searching T n order total key first low q
-        searching_down e =
-            let c = slots_count s.asks.in_order in
-            record {
-              asks = s.asks;
-              is_first = s.is_first;
-              spans = omega arith;
-              inside = let h = here in omega arith;
-              few = s.few;
-              before = s.before;
-              behind = λ p le below. less_behind key_order_lem blank s.asks.key_ok.own (slots_of T n) (slots_sorted s.asks.in_order) q (let h = here in omega arith) (to_order less e) p le (omega arith);
-            }
+      pub value_absent : {place : ℕ} → found ≡ Err place → 0 ≡ partner_of T n key
+      value_absent {place} e =
+          let c = slots_count asks.in_order in
+          sym (partner_held T asks.in_order.asks asks.key_ok
+          ∙ ap (held_node T (first_word_of T.nodes n)) (held_none asks.key_ok.own (slots_of T n) (λ q lt. at q (omega arith) (leb place q) refl)))
+        where
+          between : KeyBetween (field_key T (first_word_of T.nodes n)) (literal_at T key) order total place place
+          between = rw (refers, is_first, e) at is.place
 
-        up : key_order s.asks.key_ok.own (get_or (slots_of T n) q blank).at ≡ more → Searching T n order total key first (q + 1) high
-        up e =
-            let c = slots_count s.asks.in_order in
-            record {
-              asks = s.asks;
-              is_first = s.is_first;
-              spans = omega arith;
-              inside = s.inside;
-              few = s.few;
-              before = λ p below. more_before key_order_lem blank s.asks.key_ok.own (slots_of T n) (slots_sorted s.asks.in_order) q (let h = here in omega arith) e p (omega arith);
-              behind = s.behind;
-            }
-
-        pub searching_up : way ≡ Greater → Searching T n order total key first (q + 1) high
-        searching_up e = up (to_order more e)
-
-        -- both keys are literals
-        pub searching_never : way ≡ NoLiteral → 0 ≡ partner_of T n key
-        searching_never e = absurd (go (key_order s.asks.key_ok.own (get_or (slots_of T n) q blank).at) (sym way_is ∙ e))
-          where
-            go : (r : Order) → comparison_of r ≡ NoLiteral → ⊥
-            go less p = let z : ◌≡◌ {A = ℕ} 0 1 = cc in omega arith
-            go same p = let z : ◌≡◌ {A = ℕ} 0 1 = cc in omega arith
-            go more p = let z : ◌≡◌ {A = ℕ} 0 1 = cc in omega arith
-
-  pub searching_ends : high ≤ low → 0 ≡ partner_of T n key
-  searching_ends le =
-      let c = slots_count s.asks.in_order in
-      sym (partner_held T s.asks.in_order.asks s.asks.key_ok
-      ∙ ap (held_node T (first_word_of T.nodes n)) (held_none s.asks.key_ok.own (slots_of T n) (λ q lt. at q (omega arith) (leb low q) refl)))
-    where
-      at : (q : ℕ) → q < total → (b : Bool) → leb low q ≡ b → is_same (key_order s.asks.key_ok.own (get_or (slots_of T n) q blank).at) ≡ false
-      at q lt true p = let h = leb-true low q p in rw (s.behind q (omega arith) lt)
-      at q lt false p = rw (s.before q (leb-false low q p))
+          at : (q : ℕ) → q < total → (b : Bool) → leb place q ≡ b → is_same (key_order asks.key_ok.own (get_or (slots_of T n) q blank).at) ≡ false
+          at q lt true p = ap is_same (to_slot (ordered asks.in_order) asks.key_ok.literal less q lt (between.behind q (leb-true place q p) lt))
+          at q lt false p = ap is_same (to_slot (ordered asks.in_order) asks.key_ok.literal more q lt (between.before q (leb-false place q p)))

@@ -1,9 +1,8 @@
 -- The pairs of nodes of a table, and how many entries they can have.
-use Rattle.std.specs.Prelude.{ℕ, ◌*◌, ◌≡◌, Bool, List, [], ◌∷◌, eqb, length, Result, Err}
+use Rattle.std.specs.Prelude.{ℕ, ◌*◌, ◌≡◌, Bool, List, [], ◌∷◌, eqb, length, Err}
 use Rattle.table.specs.Tables.{Tables, first_word_of, count_of}
 use Rattle.table.specs.Decode.{expr, items, fields, fields_of}
 use Rattle.table.specs.Expr.{parts, parts_all, parts_fields}
-use Rattle.planner.specs.declared.Plan.{Plan}
 use Rattle.planner.specs.declared.PlanRefusal.{PlanRefusal}
 use Rattle.base.specs.Refusal.{Refusal, array_size_mismatch, object_field_count_mismatch, refusal_line}
 use Rattle.planner.specs.Answer.{line_of}

@@ -4,7 +4,6 @@ use Rattle.base.specs.Lent.{MutSlice, MutSlices, old, new}
 use Rattle.table.specs.Tables.{Tables, kind_of, child_at}
 use Rattle.base.specs.Lists.{elem}
 use Rattle.table.specs.code.Sound.{Node, WellFormed}
-use Rattle.planner.specs.declared.Plan.{Plan}
 use Rattle.planner.specs.declared.PlanRefusal.{PlanRefusal}
 use Rattle.planner.specs.Layout.{Entry, below, top, entry}
 use Rattle.planner.specs.code.Post.{NameNumber, States, GoodPair}

@@ -5,7 +5,7 @@ ghost use Rattle.common_example.specs.code.arrays.Distinct.{FindAsks, LiteralFou
 ghost use Rattle.common_example.specs.code.arrays.Likes.{likes, LikesAsks};
 
 use base::insertion::insert_at;
-use literal::Comparison;
+use literal::order::ordering_of;
 use table::reading::compare_literals;
 use value::inner::fields::same_literals;
 
@@ -16,7 +16,7 @@ struct Added {
     pub count: usize,
 }
 
-// The place of an equal literal among `count` in key order, or the place where a new one goes in, by binary search.
+// The place of an equal literal among `count` in key order, or the place where a new one goes in.
 fn find_literal<'a>(
     nodes: &[u32],
     numbers: &[u64],
@@ -29,21 +29,10 @@ fn find_literal<'a>(
     requires { FindAsks (literal_node nodes.now numbers.now strings.now text.now) node order.now count }
     ensures { LiteralFound (literal_node nodes.now numbers.now strings.now text.now) node order.now count result }
 {
-    let mut low: usize = 0;
-    let mut high = count;
-    while low < high {
-        let middle = low + (high - low) / 2;
-        let other = order[middle];
+    order[..count].binary_search_by(|&other| {
         let way = compare_literals(nodes, numbers, strings, text, node, other);
-        match way {
-            Comparison::Equal => {
-                return Ok(middle);
-            }
-            Comparison::Less => high = middle,
-            _ => low = middle + 1,
-        }
-    }
-    Err(low)
+        ordering_of(way).reverse()
+    })
 }
 
 // One more node; one that is not equal to itself is no literal, and has 0.

@@ -1,30 +1,26 @@
 -- The loops that put an object's fields in order: the search for a key's place, the move of the numbers behind it, and the pass over the fields.
 use Rattle.std.proofs.Common.{Result, Ok, Err}
-use Prim.Native.Nat.{ℕ, ◌+◌, ◌-◌, ◌*◌, ◌/◌, ◌≤◌, ◌<◌}
-use mathlib.Core.Path.{◌≡◌, refl, sym, ap, subst, ◌∙◌}
+use Prim.Native.Nat.{ℕ, ◌+◌, ◌-◌, ◌*◌, ◌≤◌, ◌<◌}
+use mathlib.Core.Path.{◌≡◌, refl, sym, ap, ◌∙◌}
 use mathlib.Core.Bool.{Bool, true, false}
 use mathlib.Core.List.{List, [], ◌∷◌, ◌++◌}
-use mathlib.Core.Logic.{inl, inr}
 use mathlib.Core.Option.{Option}
 use native.Mathlib.Omega.{arith}
-use lib.ListN.{length, get_or, take, drop, set, take-append-drop}
+use lib.ListN.{length, take, drop, set, take-append-drop}
 use lib.Seq.{take_at, drop-drop, drop-set-lt}
 use mir.Syntax.{w64}
 use mir.Val.{Fits}
 use borrow.Author.Tests.{leb-true, leb-false}
 use lib.Dec.{leb}
-use types.Run.{OneOf}
 use denote.Enum.Declared.{tag_of}
 use Rattle.base.specs.Insertion.{moved}
 use Rattle.base.proofs.Moving.{moved_take, moved_drop}
-use Rattle.base.proofs.Search.{between_start, between_ends}
 use Rattle.literal.specs.Literal.{Literal}
-use Rattle.literal.specs.Order.{same, compared}
+use Rattle.literal.specs.Order.{compared}
 use Rattle.literal.specs.declared.Comparison.{Comparison}
 use Rattle.literal.specs.declared.LiteralRef.{LiteralRef}
-use Rattle.literal.specs.declared.Comparison.TheVariants.{Less, Equal}
-use Rattle.literal.specs.contracts.Comparison.{the_type}
 use Rattle.literal.proofs.Orders.{key_order_lem}
+use Rattle.literal.proofs.Searched.{Searches}
 use Rattle.table.specs.declared.Key.{Key}
 use Rattle.table.specs.declared.Key.TheVariants.{Computed}
 use Rattle.table.specs.Tables.{Tables, kind_of, child_at}
@@ -35,9 +31,9 @@ use Rattle.table.proofs.tests.Bytes.{node_refers}
 use Rattle.planner.specs.Layout.{FieldOrder, no_fields, add_field, in_order}
 use Rattle.planner.specs.code.Passes.{key_node, field_key, order_from, order_of}
 use Rattle.planner.specs.code.Post.{OrderAsks, OrderedBy, Arranged}
-use Rattle.planner.specs.code.Ordering.{At, KeyBetween, FieldsIn, AddAsks, FieldAdded, FindAsks, FoundBy}
+use Rattle.planner.specs.code.Ordering.{FieldsIn, AddAsks, FieldAdded, FindAsks, FoundBy}
 use Rattle.planner.proofs.laws.Sizes.{order_few}
-use Rattle.planner.proofs.fields.FieldOrder.{Ordered, literals_first, at_more, keys_up, keys_down, between_insert, ordered_replace, ordered_append, order_next, ordered_first}
+use Rattle.planner.proofs.fields.FieldOrder.{Ordered, literals_first, keys_search, between_insert, ordered_replace, ordered_append, order_next, ordered_first}
 
 -- the fields so far
 
@@ -82,59 +78,9 @@ pub compared_keys : (nodes children numbers strings text : List ℕ) (own : Opti
     → r ≡ compared own (literal_node nodes numbers strings text b) → r ≡ compared own (literal_node nodes numbers strings text (child_at children (first + j * 2)))
 compared_keys nodes children numbers strings text own first j is_b is-r = rw (← is_b) is-r
 
--- neither less nor equal
-abbrev pub Otherwise : Comparison → Type 0
-Otherwise way = OneOf (2 ∷ 3 ∷ []) (tag_of the_type way)
-
-not_first : (tag : ℕ) → tag ≤ 1 → OneOf (2 ∷ 3 ∷ []) tag → ⊥
-not_first tag le (inl e) = omega arith
-not_first tag le (inr e) = omega arith
-
-pub record Finding (T : Tables) (first : ℕ) (order : List ℕ) (m : ℕ) (key : LiteralRef) (low high : ℕ) : Type 0 where
-  pub asks : FindAsks T first order m key
-  pub between : KeyBetween (field_key T first) (referred T key) order m low high
-  pub few : m ≤ 256
-  pub small : first ≤ 512
-
-pub finding_start : {T : Tables} {first : ℕ} {order : List ℕ} {m : ℕ} {key : LiteralRef} → FindAsks T first order m key → Finding T first order m key 0 m
-finding_start {T} {first} {order} {m} {key} a =
-    record { asks = a; between = between_start _ _ m; few = a.few; small = a.small }
-
-module _ {T : Tables} {first : ℕ} {order : List ℕ} {m : ℕ} {key : LiteralRef} {low high : ℕ} (f : Finding T first order m key low high) where
-  module _ {q other : ℕ} {way : Comparison} (lt : low < high) (is-q : q ≡ low + (high - low) / 2) (is-other : other ≡ get_or order q 0) (is-way : way ≡ compared (referred T key) (field_key T first other)) where
-    way_at : way ≡ compared (referred T key) (field_key T first (get_or order q 0))
-    way_at = rw is-other at is-way
-
-    pub finding_equal : way ≡ Equal → FoundBy (field_key T first) (referred T key) order m (Ok q)
-    finding_equal e =
-        let n = f.between.inside in
-        let l : q < m = omega arith in
-        let here : (q < m) × At same (field_key T first) (referred T key) order q = (l, sym way_at ∙ e) in
-        record { old = λ {place = p} x. let z : q ≡ p = cc in rw z at here; new = λ {place = p} x. let z : ◌≡◌ {A = ℕ} 0 1 = cc in absurd (omega arith) }
-
-    pub finding_down : way ≡ Less → Finding T first order m key low q
-    finding_down e = record {
-      asks = f.asks;
-      between = keys_down key_order_lem (in_order_lem f.asks.so_far) f.asks.literal f.between q (omega arith) (omega arith) (sym way_at ∙ e);
-      few = f.few;
-      small = f.small;
-    }
-
-    pub finding_up : Otherwise way → Finding T first order m key (q + 1) high
-    finding_up otherwise =
-        let n = f.between.inside in
-        record {
-          asks = f.asks;
-          between = keys_up key_order_lem (in_order_lem f.asks.so_far) f.asks.literal f.between q (omega arith) (omega arith)
-              (at_more (in_order_lem f.asks.so_far) f.asks.literal q (omega arith) (λ e. not_first 1 (omega arith) (subst Otherwise (way_at ∙ e) otherwise)) (λ e. not_first 0 (omega arith) (subst Otherwise (way_at ∙ e) otherwise)));
-          few = f.few;
-          small = f.small;
-        }
-
-  pub finding_ends : high ≤ low → FoundBy (field_key T first) (referred T key) order m (Err low)
-  finding_ends le =
-      let b = between_ends f.between le in
-      record { old = λ {place = p} x. let z : ◌≡◌ {A = ℕ} 0 1 = cc in absurd (omega arith); new = λ {place = p} x. let z : low ≡ p = cc in rw z at b }
+pub field_searches : {T : Tables} {first : ℕ} {order : List ℕ} {m : ℕ} {key : LiteralRef} → FindAsks T first order m key → length order ≡ 256
+    → Searches (λ x. compared (referred T key) (field_key T first x)) order 0 m
+field_searches a long = let f = a.few in keys_search key_order_lem (in_order_lem a.so_far) a.literal (omega arith)
 
 -- one field more
 
@@ -198,7 +144,7 @@ module _ {T : Tables} {first i : ℕ} {order : List ℕ} {m total : ℕ} (a : Ad
         pub added_equal : found_at ≡ Ok place → FieldAdded T first i order total (set order place i) m total
         added_equal e =
             let x = key_found in
-            let p = rw key_is at (found.old e) in
+            let p = rw key_is at (rw e at found.place) in
             let k = literals_few a.so_far in
             record {
               fields = in_next a.so_far (ordered_replace key_order_lem (in_order_lem a.so_far) i (set order place i) x.0 x.1 place p.0 p.1 refl);
@@ -209,7 +155,7 @@ module _ {T : Tables} {first i : ℕ} {order : List ℕ} {m total : ℕ} (a : Ad
         pub added_new : found_at ≡ Err place → length order ≡ 256 → {later : List ℕ} → later ≡ moved order place total i → FieldAdded T first i order total later (m + 1) (total + 1)
         added_new e long {later} is =
             let x = key_found in
-            let b = rw key_is at (found.new e) in
+            let b = rw key_is at (rw e at found.place) in
             let n = b.inside in
             let k = literals_few a.so_far in
             let f = add_few a in
@@ -223,7 +169,7 @@ module _ {T : Tables} {first i : ℕ} {order : List ℕ} {m total : ℕ} (a : Ad
   module _ {own : Option Literal} {found_at : Result ℕ ℕ} (found : FoundBy (field_key T first) own order m found_at) {place : ℕ} where
     pub found_place : found_at ≡ Ok place → place < 256
     found_place e =
-        let p = found.old e in
+        let p = rw e at found.place in
         let k = literals_few a.so_far in
         let f = add_few a in
         omega (arith, p.0)

@@ -9,10 +9,10 @@ use borrow.Author.Tests.{eqb-true, eqb-false}
 use lib.Dec.{eqb}
 use lib.ListN.{length, get_or, take, drop, set, length-append, length-map, length-set, take-append-drop, get_or-append, get_or-map}
 use lib.Seq.{take-nil, take-append-le, drop-append-le, take-take, get_or-take, set_split, set-append_left, take-set-lt}
-use Rattle.base.proofs.Search.{between_up, between_down}
 use Rattle.literal.specs.Literal.{Literal, null}
 use Rattle.literal.specs.Order.{Order, less, same, more, opposite, key_order, compared, comparison_of}
 use Rattle.literal.specs.Laws.{TotalOrder}
+use Rattle.literal.proofs.Searched.{Searches, never_none}
 use Rattle.table.specs.Expr.{Expr, node_of}
 use Rattle.table.specs.Tables.{child_at}
 use Rattle.table.specs.Decode.{fields}
@@ -310,15 +310,6 @@ module _ {key : ℕ → Option Literal} {o : FieldOrder ℕ} {order : List ℕ} 
     from_slot : (r : Order) (q : ℕ) → q < m → key_order l (get_or o.literals q blank).at ≡ r → At r key k order q
     from_slot r q lt h = at_slot q lt ∙ ap comparison_of h
 
-    -- neither equal nor less
-    pub at_more : (q : ℕ) → q < m → (At same key k order q → ⊥) → (At less key k order q → ⊥) → At more key k order q
-    at_more q lt not_same not-less = go (key_order l (get_or o.literals q blank).at) refl
-      where
-        go : (r : Order) → key_order l (get_or o.literals q blank).at ≡ r → At more key k order q
-        go less h = absurd (not-less (from_slot less q lt h))
-        go same h = absurd (not_same (from_slot same q lt h))
-        go more h = from_slot more q lt h
-
     -- what a comparison at place q says of the places before and behind
     module _ (laws : TotalOrder key_order) (q : ℕ) (lt : q < m) where
       pub order_before : At more key k order q → (i : ℕ) → i ≤ q → At more key k order i
@@ -433,13 +424,14 @@ module _ (laws : TotalOrder key_order) {key : ℕ → Option Literal} {o : Field
 -- search
 
 module _ (laws : TotalOrder key_order) {key : ℕ → Option Literal} {o : FieldOrder ℕ} {order : List ℕ} {m total : ℕ} (a : Ordered key o order m total)
-    {k : Option Literal} {l : Literal} (own : k ≡ Option.some l) {low high : ℕ} (b : KeyBetween key k order m low high) where
-  module _ (q : ℕ) (from : low ≤ q) (to : q < high) where
-    pub keys_up : At more key k order q → KeyBetween key k order m (q + 1) high
-    keys_up h = between_up b q from to (λ i le. let n = b.inside in order_before a own laws q (omega arith) h i le)
-
-    pub keys_down : At less key k order q → KeyBetween key k order m low q
-    keys_down h = between_down b q from to (λ i le lt. let n = b.inside in order_behind a own laws q (omega arith) h i le lt)
+    {k : Option Literal} {l : Literal} (own : k ≡ Option.some l) where
+  pub keys_search : m ≤ length order → Searches (λ x. compared k (key x)) order 0 m
+  keys_search fits = record {
+    fits = fits;
+    before = order_before a own laws;
+    behind = order_behind a own laws;
+    told = λ q lt e. never_none _ (sym (at_slot a own q lt) ∙ e);
+  }
 
 -- nothing between: the key is new, and goes in at low
 pub between_insert : (laws : TotalOrder key_order) {key : ℕ → Option Literal} {o : FieldOrder ℕ} {order : List ℕ} {m total : ℕ} → Ordered key o order m total

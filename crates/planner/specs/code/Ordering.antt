@@ -1,7 +1,7 @@
 -- What the functions that put an object's fields in order ask and say.
-use Rattle.std.specs.Prelude.{ℕ, ◌+◌, ◌≤◌, ◌<◌, ◌≡◌, Result, Ok, Err, List, length, get_or, take, drop}
+use Rattle.std.specs.Prelude.{ℕ, ◌+◌, ◌≤◌, ◌≡◌, Result, List, length, get_or, take, drop}
 use Rattle.std.proofs.Math.Option.{Option, some}
-use Rattle.base.specs.code.Search.{Between}
+use Rattle.base.specs.code.Search.{Between, Placed}
 use Rattle.literal.specs.Literal.{Literal}
 use Rattle.literal.specs.declared.LiteralRef.{LiteralRef}
 use Rattle.literal.specs.Order.{Order, less, same, more, compared, comparison_of}
@@ -48,8 +48,7 @@ pub record FindAsks (T : Tables) (first : ℕ) (order : List ℕ) (m : ℕ) (key
 
 -- either a literal field has an equal key, or the key goes in before a place
 pub record FoundBy (key : ℕ → Option Literal) (own : Option Literal) (order : List ℕ) (m : ℕ) (r : Result ℕ ℕ) : Type 0 where
-  pub old : {place : ℕ} → r ≡ Ok place → (place < m) × At same key own order place
-  pub new : {place : ℕ} → r ≡ Err place → KeyBetween key own order m place place
+  pub place : Placed (At more key own order) (At same key own order) (At less key own order) m r
 
 -- a literal among the keys of an object's fields
 abbrev pub FoundIn : Tables → ℕ → LiteralRef → List ℕ → ℕ → Result ℕ ℕ → Type 0

@@ -9,6 +9,7 @@ ghost use Rattle.planner.specs.code.Ordering.{FieldAdded, FindAsks, FoundIn, Add
 
 use crate::fields::wide;
 use base::insertion::insert_at;
+use literal::order::ordering_of;
 use literal::{Comparison, LiteralRef};
 use table::Key;
 use table::reading::{child_at, compare_literal_to_node, extract_literal_key};
@@ -39,7 +40,7 @@ fn compare_keys<'a>(
     compare_literal_to_node(nodes, numbers, strings, text, key, other)
 }
 
-// The place of an equal key among the literal fields, or the place where a new key goes in, by binary search.
+// The place of an equal key among the literal fields, or the place where a new key goes in.
 pub fn find_field(
     tables: &Tables<'_>,
     first: usize,
@@ -50,11 +51,7 @@ pub fn find_field(
     requires { FindAsks (contents tables.now) first order.now literals key }
     ensures { FoundIn (contents tables.now) first key order.now literals result }
 {
-    let mut low: usize = 0;
-    let mut high = literals;
-    while low < high {
-        let middle = low + (high - low) / 2;
-        let other = wide(order[middle]);
+    order[..literals].binary_search_by(|&field| {
         let way = compare_keys(
             tables.nodes,
             tables.children,
@@ -63,17 +60,10 @@ pub fn find_field(
             tables.text,
             first,
             key,
-            other,
+            wide(field),
         );
-        match way {
-            Comparison::Equal => {
-                return Ok(middle);
-            }
-            Comparison::Less => high = middle,
-            _ => low = middle + 1,
-        }
-    }
-    Err(low)
+        ordering_of(way).reverse()
+    })
 }
 
 // One more field: by its literal key, replacing an equal one, or at the end if its key is computed.

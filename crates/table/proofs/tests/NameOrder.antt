@@ -6,17 +6,14 @@ use mathlib.Core.Bool.{true, false, not}
 use mathlib.Core.List.{List, []}
 use native.Mathlib.Nat.{eq-or-lt_of_le}
 use native.Mathlib.Omega.{arith}
-use lib.ListN.{length, get_or, take, replicate}
-use denote.Ref.{Bor}
+use lib.ListN.{length, get_or, replicate}
 use Rattle.std.specs.Prelude.{Result, Ok, Err}
-use Rattle.std.specs.declared.cmp.Ordering.{Ordering}
-use Rattle.std.specs.Fn.{Mut, Called, ComputesKey}
-use Rattle.std.specs.List.Sorted.{IsSearchInRange, IsBinarySearchResult}
+use Rattle.base.specs.code.Search.{Placed}
 use Rattle.literal.specs.Order.{Order, less, same, more, opposite, bytes_order, comparison_of}
 use Rattle.literal.specs.declared.Comparison.{Comparison}
-use Rattle.literal.specs.declared.Comparison.TheVariants.{Less, Equal, Greater, NoLiteral}
+use Rattle.literal.specs.declared.Comparison.TheVariants.{Less, Equal, Greater}
 use Rattle.literal.proofs.Orders.{three_ways, bytes_order_lem}
-use Rattle.literal.proofs.Searched.{answer_of, searched}
+use Rattle.literal.proofs.Searched.{Searches, never_none}
 use Rattle.base.specs.Insertion.{moved}
 use Rattle.base.proofs.Moving.{moved_front, moved_here, moved_next, moved_length}
 use Rattle.base.proofs.Search.{placed_as}
@@ -38,11 +35,6 @@ more_told : (o : Order) → comparison_of o ≡ Greater → o ≡ more
 more_told less e = never (cc)
 more_told same e = never (cc)
 more_told more e = refl
-
-none_told : (o : Order) → comparison_of o ≡ NoLiteral → ⊥
-none_told less e = never (cc)
-none_told same e = never (cc)
-none_told more e = never (cc)
 
 flip_more : (a b : List ℕ) → bytes_order a b ≡ more → bytes_order b a ≡ less
 flip_more a b e = bytes_order_lem.antisymmetric a b ∙ ap opposite e
@@ -69,19 +61,23 @@ module _ {name : ℕ → List ℕ} {order : List ℕ} {count : ℕ} (a : Ascendi
       go (inr h) = bytes_order_lem.transitive bytes (name (get_or order m 0)) (name (get_or order q 0)) e (a.ascend m q h inside)
 
   -- `find_name`
-  module _ (fits : count ≤ length order) where
-    pub name_found : {F : Type 0} {g : Mut F (Bor ℕ × Unit {0}) Ordering} {f : F} (r : Result ℕ ℕ)
-        → IsSearchInRange r (length (take count order))
-        → ((ord : ℕ → Ordering) → ComputesKey g ord f → IsBinarySearchResult ord (take count order) r)
-        → ((a : Bor ℕ × Unit {0}) (r : Ordering) (f' : F) → Called g f a r f' → (r ≡ answer_of (comparison_of (bytes_order bytes (name a.0.now)))) × (f' ≡ f))
-        → FoundName name bytes order count r
-    name_found r inside clause calls =
-        placed_as (λ q lt e. more_told _ e) (λ q lt e. same_bytes_equal bytes (name (get_or order q 0)) (sym (same_equal bytes (name (get_or order q 0)) refl e))) (λ q lt e. less_told _ e) r
-        (searched (λ x. comparison_of (bytes_order bytes (name x))) order 0 count fits
-        (λ q lt e i le. ap comparison_of (more_before q lt (more_told _ e) i le))
-        (λ q lt e i le inside. ap comparison_of (less_behind q lt (less_told _ e) i le inside))
-        (λ q lt e. none_told _ e)
-        r inside clause calls)
+  pub name_searches : count ≤ length order → Searches (λ x. comparison_of (bytes_order bytes (name x))) order 0 count
+  name_searches fits = record {
+    fits = fits;
+    before = λ q lt e i le. ap comparison_of (more_before q lt (more_told _ e) i le);
+    behind = λ q lt e i le inside. ap comparison_of (less_behind q lt (less_told _ e) i le inside);
+    told = λ q lt e. never_none _ e;
+  }
+
+  abbrev way_at : ℕ → Comparison
+  way_at q = comparison_of (order_at name bytes order q)
+
+  pub name_found : (r : Result ℕ ℕ) → Placed (λ (q : ℕ). way_at q ≡ Greater) (λ (q : ℕ). way_at q ≡ Equal) (λ (q : ℕ). way_at q ≡ Less) count r → FoundName name bytes order count r
+  name_found r = placed_as
+      (λ q lt e. more_told _ e)
+      (λ q lt e. same_bytes_equal bytes (name (get_or order q 0)) (sym (same_equal bytes (name (get_or order q 0)) refl e)))
+      (λ q lt e. less_told _ e)
+      r
 
 -- `names_differ`: the numbers of the first i names, and each of them somewhere
 pub record Naming (names text order : List ℕ) (i : ℕ) : Type 0 where

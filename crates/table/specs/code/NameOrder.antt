@@ -1,5 +1,5 @@
 -- Numbers of names in an array, by the order of the names' bytes.
-use Rattle.std.specs.Prelude.{ℕ, ◌≤◌, ◌<◌, ◌≡◌, List, Result, get_or}
+use Rattle.std.specs.Prelude.{ℕ, ◌<◌, ◌≡◌, List, Result, get_or}
 use Rattle.base.specs.code.Search.{Between, Placed}
 use Rattle.literal.specs.Order.{Order, less, more, bytes_order}
 

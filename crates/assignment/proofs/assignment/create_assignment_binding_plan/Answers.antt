@@ -1,4 +1,3 @@
-use Rattle.std.proofs.Common.{Err}
 use Rattle.assignment.proofs.laws.Sides.{left_outside, right_outside, both_inside}
 use Rattle.planner.proofs.laws.Operations.{table_refuses, sound_well, root_node}
 use borrow.Author.Rules.{rules}

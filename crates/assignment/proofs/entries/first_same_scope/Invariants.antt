@@ -1,5 +1,4 @@
 use Rattle.assignment.specs.code.Previewing.{ReadAsks}
-use Prim.Native.Nat.{◌-◌}
 use Rattle.assignment.specs.Assignment.{first_same_scope}
 use Rattle.assignment.proofs.entries.Reading.{Scanning}
 use Rattle.assignment.proofs.entries.first_same_scope.Given as goal

@@ -1,6 +1,5 @@
 use Rattle.table.specs.Contents.{contents}
 use Prim.Native.Nat.{◌-◌, ◌*◌}
-use Rattle.table.specs.Tables.{tables}
 use Rattle.assignment.proofs.flatten.FlatLoops.{Kept, PairingItems, PairingFields}
 use Rattle.assignment.proofs.flatten.+flatten_flatten_arrays_flatten_fields_flatten_items_flatten_objects.Given as goal
 

@@ -1,30 +1,24 @@
-use Rattle.assignment.proofs.keys.KeySearch.{searching_start, searching_twice, searching_key, searching_value, searching_found, searching_down, searching_up, searching_never, searching_ends}
+use Rattle.assignment.proofs.keys.KeySearch.{value_computed, value_asks, value_twice, value_key, value_place, value_found, value_absent}
 use borrow.Author.Rules.{rules}
 use Rattle.assignment.proofs.keys.find_value.Goals as goal
 
-pub loop-low-init : goal.loop-low-init
-loop-low-init c = search (searching_start, rules)
+pub returns-in_default : goal.returns-in_default
+returns-in_default c = search (value_computed, rules)
 
-pub overflow_mul-place : goal.overflow_mul-place
-overflow_mul-place c = search (searching_twice, rules)
+pub find_field-requires : goal.find_field-requires
+find_field-requires c = search (value_asks, rules)
 
-pub overflow_add-place : goal.overflow_add-place
-overflow_add-place c = search (searching_key, rules)
+pub overflow_mul-field_at : goal.overflow_mul-field_at
+overflow_mul-field_at c = search (value_twice, rules)
 
-pub overflow_add-place-in-Equal : goal.overflow_add-place-in-Equal
-overflow_add-place-in-Equal c = search (searching_value, rules)
+pub overflow_add-first : goal.overflow_add-first
+overflow_add-first c = search (value_key, rules)
 
-pub returns-in-Equal : goal.returns-in-Equal
-returns-in-Equal c = search (searching_found, rules)
+pub overflow_add-first-in-Ok : goal.overflow_add-first-in-Ok
+overflow_add-first-in-Ok c = search (value_place, rules)
 
-pub loop-low-preserved-in-Less : goal.loop-low-preserved-in-Less
-loop-low-preserved-in-Less c = search (searching_down, rules)
+pub returns-in-Ok : goal.returns-in-Ok
+returns-in-Ok c = search (value_found, rules)
 
-pub loop-low-preserved : goal.loop-low-preserved
-loop-low-preserved c = search (searching_up, rules)
-
-pub returns-in-NoLiteral : goal.returns-in-NoLiteral
-returns-in-NoLiteral c = search (searching_never, rules)
-
-pub returns : goal.returns
-returns c = search (searching_ends, rules)
+pub returns-in-Err : goal.returns-in-Err
+returns-in-Err c = search (value_absent, rules)

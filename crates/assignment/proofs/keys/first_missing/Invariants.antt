@@ -1,5 +1,4 @@
 use Rattle.table.specs.Contents.{contents}
-use Rattle.table.specs.Tables.{tables}
 use Rattle.assignment.proofs.keys.KeyLoops.{Missing}
 use Rattle.assignment.proofs.keys.first_missing.Given as goal
 

@@ -1,4 +1,3 @@
-use Prim.Native.Nat.{◌-◌}
 use Rattle.assignment.proofs.keys.KeyLoops.{Testing}
 use Rattle.assignment.proofs.keys.literal_keys.Given as goal
 

@@ -1,4 +1,3 @@
-use Prim.Native.Nat.{◌-◌}
 use Rattle.planner.specs.Layout.{binds_any}
 use Rattle.assignment.proofs.entries.Reading.{Scanning}
 use Rattle.assignment.proofs.preview.introduces_binding.Given as goal

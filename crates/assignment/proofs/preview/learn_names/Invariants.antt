@@ -1,4 +1,3 @@
-use Prim.Native.Nat.{◌-◌}
 use Rattle.assignment.proofs.preview.Learning.{Learning}
 use Rattle.assignment.proofs.preview.learn_names.Given as goal
 

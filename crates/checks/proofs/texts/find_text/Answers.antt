@@ -1,15 +1,20 @@
-use Rattle.checks.proofs.TextLoops.{seeking_start, seeking_up, seeking_down, seeking_ends}
-use borrow.Author.Rules.{rules}
+use Rattle.checks.specs.code.Texts.{is_greater}
+use Rattle.literal.specs.Text.{texts_compared}
+use Rattle.literal.specs.Reading.{literal_of}
+use Rattle.table.specs.Decode.{literal_node}
+use Rattle.checks.proofs.TextLoops.{text_before}
+use Rattle.base.proofs.Search.{parted}
+use Rattle.std.proofs.Common.{rules, of_calls}
+use native.Mathlib.Omega.{arith}
 use Rattle.checks.proofs.texts.find_text.Goals as goal
 
-pub loop-low-init : goal.loop-low-init
-loop-low-init c = search (seeking_start, rules)
-
-pub loop-low-preserved-then-comes_after : goal.loop-low-preserved-then-comes_after
-loop-low-preserved-then-comes_after c = search (seeking_up, rules)
-
-pub loop-low-preserved : goal.loop-low-preserved
-loop-low-preserved c = search (seeking_down, rules)
-
 pub returns : goal.returns
-returns c = search (seeking_ends, rules)
+returns c =
+    let a = c.args in
+    let few = c.requires.few in
+    let key = literal_of a.numbers.now a.strings.now a.text.now a.key in
+    let node = literal_node a.nodes.now a.numbers.now a.strings.now a.text.now in
+    record {
+      place = parted (λ x. is_greater (texts_compared key (node x))) a.keys.now 0 a.size (omega (arith, c.told-keys)) (text_before c.requires)
+          _ c.partition_point.ensures.bound c.partition_point.ensures.partitioned (λ b r f k. search (rules, of_calls));
+    }

@@ -1,6 +1,6 @@
 -- Distinct literals in key order: the search for a literal's place, and one node more.
 use Rattle.std.proofs.Common.{Result, Ok, Err}
-use Prim.Native.Nat.{ℕ, ◌+◌, ◌-◌, ◌*◌, ◌/◌, ◌≤◌, ◌<◌}
+use Prim.Native.Nat.{ℕ, ◌+◌, ◌-◌, ◌*◌, ◌≤◌, ◌<◌}
 use mathlib.Core.Bool.{Bool, true, false, cond, not, false≢true}
 use mathlib.Core.List.{List}
 use mathlib.Core.Logic.{◌⊎◌, inl, inr}
@@ -13,15 +13,13 @@ use mir.Val.{Fits}
 use denote.Enum.Declared.{tag_of}
 use Rattle.base.specs.Insertion.{moved}
 use Rattle.base.proofs.Moving.{moved_front, moved_here, moved_next}
-use Rattle.base.proofs.Search.{between_start, between_up, between_down, between_ends}
 use Rattle.literal.specs.Literal.{Literal}
 use Rattle.literal.specs.Order.{Order, less, same, more, opposite, key_order, compared, comparison_of}
-use Rattle.literal.specs.declared.Comparison.{Comparison}
-use Rattle.literal.specs.declared.Comparison.TheVariants.{Less, Equal, NoLiteral}
+use Rattle.literal.specs.declared.Comparison.TheVariants.{Less, NoLiteral}
 use Rattle.literal.specs.contracts.Comparison.{the_type}
 use Rattle.literal.proofs.Orders.{key_order_lem, three_ways}
+use Rattle.literal.proofs.Searched.{Searches, never_none}
 use Rattle.planner.specs.code.Ordering.{At, KeyBetween, FoundBy}
-use Rattle.planner.proofs.fields.FieldLoops.{Otherwise}
 use Rattle.value.specs.code.Post.{same_literals}
 use Rattle.value.proofs.Keys.{key→, key_refl, is_true, true_is}
 use Rattle.common_example.specs.code.arrays.Likes.{like_from}
@@ -109,58 +107,17 @@ module _ {literals : ℕ → Option Literal} {n : ℕ} {order : List ℕ} {m : �
         go (inr (inl e)) = rw e h
         go (inr (inr g)) = tells (less_less (told own (literals (get_or order q 0)) less h) (up q i g lt'))
 
--- neither less nor equal
-not_more : (r : Order) → Otherwise (comparison_of r) → r ≡ more
-not_more less (inl e) = absurd (omega arith)
-not_more less (inr e) = absurd (omega arith)
-not_more same (inl e) = absurd (omega arith)
-not_more same (inr e) = absurd (omega arith)
-not_more more o = refl
-
-otherwise_more : (a b : Option Literal) (x y : Literal) → a ≡ some x → b ≡ some y → Otherwise (compared a b) → compared a b ≡ comparison_of more
+pub literal_searches : {literals : ℕ → Option Literal} {node : ℕ} {order : List ℕ} {m : ℕ} → FindAsks literals node order m → length order ≡ 512
+    → Searches (λ x. compared (literals node) (literals x)) order 0 m
 unfolding compared
-otherwise_more a b x y p q o = let e = not_more (key_order x y) (rw (p, q) at o) in rw (p, q) (ap comparison_of e)
-
-pub record Finding (literals : ℕ → Option Literal) (own : Option Literal) (order : List ℕ) (m low high : ℕ) : Type 0 where
-  pub before : ℕ
-  pub distinct : Distinct literals before order m
-  pub l : Literal
-  pub literal : own ≡ some l
-  pub between : KeyBetween literals own order m low high
-  pub few : m ≤ 512
-
-pub finding_start : {literals : ℕ → Option Literal} {node : ℕ} {order : List ℕ} {m : ℕ} → FindAsks literals node order m → Finding literals (literals node) order m 0 m
-finding_start {m = m} a = record { before = a.before; distinct = a.distinct; l = a.own; literal = a.literal; between = between_start _ _ m; few = a.few }
-
-module _ {literals : ℕ → Option Literal} {own : Option Literal} {order : List ℕ} {m low high : ℕ} (f : Finding literals own order m low high) where
-  narrowed : {low' high' : ℕ} → KeyBetween literals own order m low' high' → Finding literals own order m low' high'
-  narrowed b = record { before = f.before; distinct = f.distinct; l = f.l; literal = f.literal; between = b; few = f.few }
-
-  module _ {q other : ℕ} {way : Comparison} (lt : low < high) (is-q : q ≡ low + (high - low) / 2) (is-other : other ≡ get_or order q 0) (is-way : way ≡ compared own (literals other)) where
-    way_at : way ≡ compared own (literals (get_or order q 0))
-    way_at = rw is-other at is-way
-
-    inside : q < m
-    inside = let n = f.between.inside in omega arith
-
-    pub finding_equal : way ≡ Equal → FoundBy literals own order m (Ok q)
-    finding_equal e =
-        let here : (q < m) × At same literals own order q = (inside, sym way_at ∙ e) in
-        record { old = λ {place = p} x. let z : q ≡ p = cc in rw z at here; new = λ {place = p} x. let z : ◌≡◌ {A = ℕ} 0 1 = cc in absurd (omega arith) }
-
-    pub finding_down : way ≡ Less → Finding literals own order m low q
-    finding_down e = narrowed (between_down f.between q (omega arith) (omega arith) (behind_less f.distinct own q inside (sym way_at ∙ e)))
-
-    pub finding_up : Otherwise way → Finding literals own order m (q + 1) high
-    finding_up o =
-        let (k, p) = literal_at_lem f.distinct q inside in
-        let e = otherwise_more own (literals (get_or order q 0)) f.l k f.literal p (subst Otherwise way_at o) in
-        narrowed (between_up f.between q (omega arith) (omega arith) (before_more f.distinct own q inside e))
-
-  pub finding_ends : high ≤ low → FoundBy literals own order m (Err low)
-  finding_ends le =
-      let b = between_ends f.between le in
-      record { old = λ {place = p} x. let z : ◌≡◌ {A = ℕ} 0 1 = cc in absurd (omega arith); new = λ {place = p} x. let z : low ≡ p = cc in rw z at b }
+literal_searches {literals} {node} {order} {m} a long = record {
+  fits = let f = a.few in omega arith;
+  before = before_more a.distinct (literals node);
+  behind = behind_less a.distinct (literals node);
+  told = λ q lt e.
+      let (k, p) = literal_at_lem a.distinct q lt in
+      never_none (key_order a.own k) (sym (ap (λ (o : Option Literal). compared o (literals (get_or order q 0))) a.literal ∙ ap (compared (some a.own)) p) ∙ e);
+}
 
 -- 3. one node more
 module _ (literals : ℕ → Option Literal) where
@@ -318,7 +275,7 @@ module _ {literals : ℕ → Option Literal} {node : ℕ} {order : List ℕ} {m 
 
       module _ {found_at : Result ℕ ℕ} (found : FoundBy literals (literals node) order m found_at) {place : ℕ} where
         pub found_place : found_at ≡ Ok place → place < 512
-        found_place e = let p = found.old e in let f = few_in in omega (arith, p.0, f)
+        found_place e = let p = rw e at found.place in let f = few_in in omega (arith, p.0, f)
 
         -- the byte at which its number begins
         pub place_fits : found_at ≡ Ok place → Fits w64 (place * 4)
@@ -326,7 +283,7 @@ module _ {literals : ℕ → Option Literal} {node : ℕ} {order : List ℕ} {m 
 
         pub added_old : found_at ≡ Ok place → NodeAdded literals node order m (get_or order place 0)
         added_old e =
-            let (lt, s) = found.old e in
+            let (lt, s) = rw e at found.place in
             let p : literals node ≡ literals (get_or order place 0) = alike (told (literals node) (literals (get_or order place 0)) same s) in
             record {
               distinct = subst (λ (n : ℕ). Distinct literals n order m) last_node (passed literals a.distinct (λ l h k. h place lt (sym p ∙ (rw last_node at k))));
@@ -338,7 +295,7 @@ module _ {literals : ℕ → Option Literal} {node : ℕ} {order : List ℕ} {m 
         pub added_new : found_at ≡ Err place → length order ≡ 512 → {later : List ℕ} → later ≡ moved order place m node → NodeAdded literals node later (m + 1) node
         added_new e long {later} moves =
             let f = few_in in
-            let b = found.new e in
+            let b = rw e at found.place in
             let p = subst (λ (n : ℕ). literals n ≡ some own.0) (sym last_node) own.1 in
             let c = subst (λ (n : ℕ). KeyBetween literals (literals n) order m place place) (sym last_node) b in
             let i = subst (λ (n : ℕ). later ≡ moved order place m n) (sym last_node) moves in

@@ -1,5 +1,3 @@
-use Prim.Native.Nat.{◌-◌}
-use lib.ListN.{length}
 use Rattle.table.proofs.tests.Fresh.{Distinct}
 use Rattle.table.proofs.distinct.distinct_entries.Given as goal
 

@@ -1,4 +1,3 @@
-use Prim.Native.Nat.{◌-◌}
 use Rattle.table.proofs.tests.Fresh.{Marking}
 use Rattle.table.proofs.distinct.mark_places.Given as goal
 

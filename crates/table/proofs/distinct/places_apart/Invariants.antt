@@ -1,4 +1,3 @@
-use Prim.Native.Nat.{◌-◌}
 use Rattle.table.proofs.tests.Fresh.{Apart}
 use Rattle.table.proofs.distinct.places_apart.Given as goal
 

@@ -1,5 +1,4 @@
 use Rattle.table.proofs.tests.NameOrder.{Naming}
-use Prim.Native.Nat.{◌-◌}
 use Rattle.table.proofs.names.names_differ.Given as goal
 
 abbrev pub invariant-loop-i : goal.invariant-loop-i

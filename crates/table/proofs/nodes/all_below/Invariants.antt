@@ -1,4 +1,4 @@
-use Prim.Native.Nat.{◌-◌, ◌/◌}
+use Prim.Native.Nat.{◌/◌}
 use mathlib.Core.List.{[]}
 use lib.ListN.{length}
 use Rattle.table.specs.Tables.{tables}

@@ -1,7 +1,6 @@
 use Rattle.table.specs.Contents.{contents}
-use Prim.Native.Nat.{◌-◌, ◌/◌}
+use Prim.Native.Nat.{◌/◌}
 use lib.ListN.{length}
-use Rattle.table.specs.Tables.{tables}
 use Rattle.table.specs.code.Passes.{head_ok_at}
 use Rattle.table.proofs.tests.Scan.{Scan}
 use Rattle.table.proofs.nodes.heads_ok.Given as goal

@@ -1,18 +1,9 @@
-use Rattle.common_example.proofs.loops.graph.LiteralOrder.{finding_start, finding_equal, finding_down, finding_up, finding_ends}
-use borrow.Author.Rules.{rules}
+use Rattle.common_example.proofs.loops.graph.LiteralOrder.{literal_searches}
+use Rattle.literal.proofs.Searched.{searched}
+use Rattle.std.proofs.Common.{rules, of_calls}
 use Rattle.common_example.proofs.graph.likes.find_literal.Goals as goal
 
-pub loop-low-init : goal.loop-low-init
-loop-low-init c = search (finding_start, rules)
-
-pub returns-in-Equal : goal.returns-in-Equal
-returns-in-Equal c = search (finding_equal, rules)
-
-pub loop-low-preserved-in-Less : goal.loop-low-preserved-in-Less
-loop-low-preserved-in-Less c = search (finding_down, rules)
-
-pub loop-low-preserved : goal.loop-low-preserved
-loop-low-preserved c = search (finding_up, rules)
-
 pub returns : goal.returns
-returns c = search (finding_ends, rules)
+returns c =
+    let literals = literal_searches c.requires c.told-order in
+    record { place = searched literals _ c.binary_search_by.ensures.bound c.binary_search_by.ensures.position (λ a r f k. search (rules, of_calls)) }

@@ -1,18 +1,9 @@
-use Rattle.planner.proofs.fields.FieldLoops.{finding_start, finding_equal, finding_down, finding_up, finding_ends}
-use borrow.Author.Rules.{rules}
+use Rattle.planner.proofs.fields.FieldLoops.{field_searches}
+use Rattle.literal.proofs.Searched.{searched}
+use Rattle.std.proofs.Common.{rules, of_calls}
 use Rattle.planner.proofs.inner.fields.find_field.Goals as goal
 
-pub loop-low-init : goal.loop-low-init
-loop-low-init c = search (finding_start, rules)
-
-pub returns-in-Equal : goal.returns-in-Equal
-returns-in-Equal c = search (finding_equal, rules)
-
-pub loop-low-preserved-in-Less : goal.loop-low-preserved-in-Less
-loop-low-preserved-in-Less c = search (finding_down, rules)
-
-pub loop-low-preserved : goal.loop-low-preserved
-loop-low-preserved c = search (finding_up, rules)
-
 pub returns : goal.returns
-returns c = search (finding_ends, rules)
+returns c =
+    let keys = field_searches c.requires c.told-order in
+    record { place = searched keys _ c.binary_search_by.ensures.bound c.binary_search_by.ensures.position (λ a r f k. search (rules, of_calls)) }

@@ -1,4 +1,3 @@
-use Prim.Native.Nat.{◌-◌}
 use Rattle.table.proofs.trees.Deepest.{Deepening}
 use Rattle.table.proofs.inner.depth.deepest_of.Given as goal
 

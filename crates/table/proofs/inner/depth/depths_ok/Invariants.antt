@@ -1,4 +1,3 @@
-use Prim.Native.Nat.{◌-◌}
 use Rattle.table.proofs.trees.Deepest.{Deep}
 use Rattle.table.proofs.inner.depth.depths_ok.Given as goal
 

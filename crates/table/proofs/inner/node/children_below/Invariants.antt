@@ -1,4 +1,3 @@
-use Prim.Native.Nat.{◌-◌}
 use mathlib.Core.List.{[]}
 use Rattle.table.specs.Tables.{tables}
 use Rattle.table.specs.Rules.{below_at}
