@@ -94,7 +94,7 @@ fn carry_out(
     );
     let count = planned.next;
     copy_entries(plan, 0, &scratch, count);
-    close(plan, 0, count);
+    let _ = close(plan, 0, count);
     if plan.len() / ENTRY_WORDS < count {
         return Err(RunRefusal::PlanTooLarge { needed: count });
     }

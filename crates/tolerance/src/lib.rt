@@ -87,7 +87,7 @@ fn judge(
 {
     let mut binders = [0u32; 128];
     let planned = plan_pattern(tables, scope, scoping, pattern, &mut binders, plan, 0);
-    close(plan, 0, planned.next);
+    let _ = close(plan, 0, planned.next);
     let mut list = known;
     let answer = decide(tables, lowest, highest, &mut list, pattern, value);
     if let ToleranceAnswer::Always = answer {
