@@ -1,5 +1,5 @@
 use Rattle.matching.proofs.Entries.{ask_bind, bound, ignored, ask_compare, compared, ask_literal, literal_compared, some_rest, ask_items, ask_fields, parts_fall, entry_falls}
-use Rattle.matching.proofs.Parts.{not_array, uneven_items, taking_start, taking_link, taking_from_fits, taking_asks, taking_fails, taking_on, taking_ends, not_object, ask_key_sets, other_keys, fields_start, fields_object, fields_link, fields_index_fits, fields_next_fits, fields_child, fields_key_word, fields_asks, fields_fail, fields_on, fields_end}
+use Rattle.matching.proofs.Parts.{not_array, uneven_items, taking_start, taking_link, taking_from_fits, taking_asks, taking_fails, taking_on, taking_ends, not_object, ask_key_sets, other_keys, fields_start, fields_object, fields_link, fields_index_fits, fields_child, fields_key_word, fields_asks, fields_fail, fields_on, fields_end}
 use borrow.Author.Rules.{rules}
 use Rattle.matching.proofs.inner.+match_entry_match_fields_match_items.Goals as goal
 

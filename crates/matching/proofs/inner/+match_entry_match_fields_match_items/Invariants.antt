@@ -1,6 +1,5 @@
 use Rattle.table.specs.Contents.{contents}
-use Prim.Native.Nat.{◌+◌, ◌-◌, ◌*◌}
-use Rattle.table.specs.Tables.{tables}
+use Prim.Native.Nat.{◌+◌, ◌*◌}
 use Rattle.matching.proofs.Parts.{TakingItems, TakingFields}
 use Rattle.matching.proofs.inner.+match_entry_match_fields_match_items.Given as goal
 
