@@ -1,6 +1,8 @@
 // Plans that take values apart (compiler/destructuring_planner).
 #![tactic(auto)]
 
+ghost use Rattle.planner.specs.declared.PlanRefusal.TheVariants.{TableRefused};
+
 pub mod buffer;
 pub mod context;
 pub mod destructuring;

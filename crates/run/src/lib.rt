@@ -4,6 +4,7 @@
 ghost use Rattle.table.specs.Contents.{contents};
 ghost use Rattle.run.specs.Operations.{RanIn};
 ghost use Rattle.run.specs.code.Post.{RunAsks, MatchValuesAsks, ValuesCameIn, CarriedIn};
+ghost use Rattle.run.specs.declared.RunRefusal.TheVariants.{TableRefused};
 
 use inner::names::{set_names, start_list};
 use inner::refusals::check_run;

@@ -4,7 +4,7 @@
 ghost use Rattle.std.specs.Prelude.{◌≡◌, cond};
 ghost use Rattle.scope.specs.Says.{marked_unbound, taken};
 ghost use Rattle.scope.specs.Scope.{says, new_scope, child_of, bind_variable, add_unbound_variable, is_unbound, same_scope, bound_count, Called, asked, question_of};
-ghost use Rattle.scope.specs.Bytes.{sum_of};
+ghost use Rattle.scope.specs.Bytes.{sum_of, to_bytes, ConvertedFrom};
 
 use bytes::{marked, marks_ok, weight};
 use name_set::{NameSet, is_name};

@@ -5,6 +5,7 @@ ghost use Rattle.table.specs.Contents.{contents};
 ghost use Rattle.std.specs.Prelude.{◌≡◌, Ok};
 ghost use Rattle.tolerance.specs.Operations.{JudgedIn};
 ghost use Rattle.tolerance.specs.code.Post.{ToJudge, GivenAsks, given_ok};
+ghost use Rattle.tolerance.specs.declared.ToleranceRefusal.TheVariants.{Run};
 
 use deciding::decide;
 use names::{known_values, set_names};
