@@ -1,6 +1,7 @@
 // Plans that take values apart (compiler/destructuring_planner).
 #![tactic(auto)]
 
+ghost use Rattle.std.specs.Prelude.{◌≡◌};
 ghost use Rattle.planner.specs.declared.PlanRefusal.TheVariants.{TableRefused};
 
 pub mod buffer;
