@@ -10,7 +10,6 @@ use Rattle.base.specs.Lists.{all_from, tabulate}
 use Rattle.base.specs.Refusal as Refusal
 use Rattle.base.specs.Refusal.{over_limit, breaks_rules, passed, require, tested_or, Line, line}
 use Rattle.scope.specs.Bytes.{small_marks, marks_ok, of_bytes}
-use Rattle.table.specs.declared.TableRefusal.{TableRefusal}
 use Rattle.table.specs.Tables.{Tables}
 use Rattle.table.specs.Rules.{within_limits}
 use Rattle.table.specs.Check.{table_refused, checked}
@@ -32,9 +31,9 @@ use Rattle.c_calls.specs.Faults.{FaultCallPromise}
 pub fault_none : (answer : Option BrokenRule) {l : Line} → answer ≡ None → l ≡ line 0 0 0 0 → l ≡ fault_line (fault_told answer)
 fault_none answer e is = rw e is
 
-pub fault_some : (answer : Option BrokenRule) {t : TableRefusal} {rule place n : ℕ} {l : Line} → answer ≡ Some (record { refused = t; rule = rule; place = place }) → n ≡ (table_refused t).number → l ≡ line n rule place 0
+pub fault_some : (answer : Option BrokenRule) {b : BrokenRule} {n : ℕ} {l : Line} → answer ≡ Some b → n ≡ (table_refused b.refused).number → l ≡ line n b.rule b.place 0
     → l ≡ fault_line (fault_told answer)
-fault_some answer {rule = rule} {place = place} e n is = rw e (is ∙ ap (λ (m : ℕ). line m rule place 0) n)
+fault_some answer {b} e n is = rw e (is ∙ ap (λ (m : ℕ). line m b.rule b.place 0) n)
 
 -- what is told fits in the words
 module _ (T : Tables) (marks : List ℕ) where

@@ -38,15 +38,12 @@ fn example_row(answer: Result<Option<Example>, ExampleRefusal>) -> Row
     ensures { row_line result ≡ example_line (example_result answer) }
 {
     match answer {
-        Ok(
-            Some(
-                Example {
-                    node,
-                    nodes,
-                    children,
-                },
-            ),
-        ) => row_from(0, node as u64, nodes as u64, children as u64),
+        Ok(Some(found)) => row_from(
+            0,
+            found.node as u64,
+            found.nodes as u64,
+            found.children as u64,
+        ),
         Ok(None) => row_from(100, 0, 0, 0),
         Err(ExampleRefusal::SideRefused(refused)) => side_row(refused),
         Err(ExampleRefusal::ValueTooLarge) => row_from(36, 0, 0, 0),

@@ -16,13 +16,10 @@ fn fault_row(answer: Option<BrokenRule>) -> Row
 {
     match answer {
         None => row_from(0, 0, 0, 0),
-        Some(
-            BrokenRule {
-                refused,
-                rule,
-                place,
-            },
-        ) => row_from(refusal_number(refused) as u64, rule as u64, place as u64, 0),
+        Some(broken) => {
+            let number = refusal_number(broken.refused) as u64;
+            row_from(number, broken.rule as u64, broken.place as u64, 0)
+        }
     }
 }
 

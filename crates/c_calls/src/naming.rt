@@ -16,12 +16,7 @@ fn name_row(answer: Result<NameAnswer, NameRefusal>) -> Row
     match answer {
         Ok(NameAnswer::Existing { name }) => row_from(0, name as u64, 0, 0),
         Ok(NameAnswer::Added { name }) => row_from(0, name as u64, 1, 0),
-        Err(NameRefusal::TableRefused(refused)) => row_from(
-            refusal_number(refused) as u64,
-            0,
-            0,
-            0,
-        ),
+        Err(NameRefusal::TableRefused(r)) => row_from(refusal_number(r) as u64, 0, 0, 0),
         Err(NameRefusal::NoPlace) => row_from(33, 0, 0, 0),
     }
 }

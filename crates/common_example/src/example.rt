@@ -1,4 +1,5 @@
 // The value of a class as the example: its words and then zeros, or all zeros.
+ghost use Rattle.std.specs.Prelude.{◌≡◌};
 ghost use Rattle.common_example.specs.code.Example.{FoundAsks, FoundWritten, ExampleAsks, ExampleWritten};
 
 use crate::classes::{HEAD_WORDS, LINK_WORDS, PLACES};

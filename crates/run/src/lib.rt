@@ -2,6 +2,7 @@
 #![tactic(auto)]
 
 ghost use Rattle.table.specs.Contents.{contents};
+ghost use Rattle.std.specs.Prelude.{◌≡◌};
 ghost use Rattle.run.specs.Operations.{RanIn};
 ghost use Rattle.run.specs.code.Post.{RunAsks, MatchValuesAsks, ValuesCameIn, CarriedIn};
 ghost use Rattle.run.specs.declared.RunRefusal.TheVariants.{TableRefused};
