@@ -46,11 +46,11 @@ use Rattle.c_calls.specs.Examples.{GivenSide, numbers_in, side_in, example_call,
 use Rattle.c_calls.proofs.Called.{no_refusal}
 
 -- 1. the four numbers
-pub side_is : (refused : SideRefusal) {a : SideRefusal} {l : Line} → refused ≡ a → l ≡ refusal_line (side_refused a) → l ≡ refusal_line (side_refused refused)
-side_is refused e is = rw e is
+pub side_is : (answer : SideRefusal) {a : SideRefusal} {l : Line} → answer ≡ a → l ≡ refusal_line (side_refused a) → l ≡ refusal_line (side_refused answer)
+side_is answer e is = rw e is
 
-pub side_table : (refused : SideRefusal) {t : TableRefusal} {l : Line} {n : ℕ} → refused ≡ Side.TableRefused t → n ≡ (table_refused t).number → l ≡ line n 0 0 0 → l ≡ refusal_line (side_refused refused)
-side_table refused {t} e n is = rw e (table_row t n is)
+pub side_table : (answer : SideRefusal) {t : TableRefusal} {l : Line} {n : ℕ} → answer ≡ Side.TableRefused t → n ≡ (table_refused t).number → l ≡ line n 0 0 0 → l ≡ refusal_line (side_refused answer)
+side_table answer {t} e n is = rw e (table_row t n is)
 
 pub example_is : (answer : Result (Option Example) ExampleRefusal) {a : Result (Option Example) ExampleRefusal} {l : Line} → answer ≡ a → l ≡ example_line (example_result a) → l ≡ example_line (example_result answer)
 example_is answer e is = rw e is
@@ -148,10 +148,10 @@ module _ (T : Tables) {marks₁ marks₂ : List ℕ} {scheduler₁ scoping₁ pa
   first_is = rw (of₁.made, of₁.asked, of₂.asked) at first.told
 
   module _ {out kids out' kids' words words' : List ℕ} {r : ℕ} where
-    pub example_refused : (before ≡ 0 → ⊥) → out' ≡ replicate (length out) 0 → kids' ≡ replicate (length kids) 0 → Told (line before 0 0 0) words words' r
+    pub example_first : (before ≡ 0 → ⊥) → out' ≡ replicate (length out) 0 → kids' ≡ replicate (length kids) 0 → Told (line before 0 0 0) words words' r
         → ExampleCalled T (example_call T g₁ g₂) out kids words out' kids' words' r
     unfolding example_call example_answer nodes_after children_after
-    example_refused there f g d = go (require (are_listed (numbers_in g₂)) layout_broken passed) (given_first T marks₁ (numbers_in g₁)) _ first_is
+    example_first there f g d = go (require (are_listed (numbers_in g₂)) layout_broken passed) (given_first T marks₁ (numbers_in g₁)) _ first_is
       where
         go : (t u : Tested) (o : ExampleOutcome) → line before 0 0 0 ≡ tested_line (tested_or Refusal.refused t u) → ExampleCalled T (tested_or refused t (tested_or refused u o)) out kids words out' kids' words' r
         go passed passed o e = absurd (there (ap (λ (l : Line). l.number) e))

@@ -1,5 +1,5 @@
 -- What a C host gives beside the tables: marks as bytes, the operation as the six numbers of a sheet's line 2.
-use Rattle.std.specs.Prelude.{ℕ, ◌≤◌, ◌≡◌, List, eqb, get_or, Result}
+use Rattle.std.specs.Prelude.{ℕ, ◌≤◌, ◌≡◌, false, List, eqb, get_or, Result}
 use Rattle.std.specs.Result.{result_unwrap_or}
 use Rattle.base.specs.Lists.{tabulate}
 use Rattle.base.specs.Refusal.{over_limit, layout_broken, Tested, require, line, tested_line}
