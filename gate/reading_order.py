@@ -10,7 +10,7 @@ import pathlib
 import re
 import sys
 
-from sources import clauses, imports, plain, says, words
+from sources import clause_end, clauses, imports, plain, says, words
 
 HEADING = "## The files, in the order to read them"
 THEOREMS = "The theorems are stated beside them"
@@ -21,6 +21,8 @@ STATED = re.compile(r"`(\w+)` in `([\w/]+)`")
 MODULE = re.compile(r"Rattle\.(\w+)\.(specs|proofs)\.([\w.-]+)")
 # Of `extern "C"` the quoted text is blanks by then.
 FUNCTION = re.compile(r"^ *(pub(?:\(crate\))? )?(?:extern +)?fn (\w+)", re.MULTILINE)
+# What an impl of From or TryFrom says that it gives: a caller elsewhere has no other contract.
+GIVES = re.compile(r"^ *ghost (\w+_gives) = (?={)", re.MULTILINE)
 # specs/Lib.antt and specs/code.antt only list modules.
 LISTS = ("Lib", "code")
 # What Rattle makes of src/: enums and structs, and the contracts of functions.
@@ -106,10 +108,13 @@ def order_faults(root, table, there):
 
 
 def contracts(text):
-    """The public functions of a source, each with the text of its contract."""
+    """The public functions of a source, and what its conversions give, each with the text of its contract."""
+    given = {found.end(): found[1] for found in GIVES.finditer(text)}
+    for at, name in given.items():
+        yield name, text[at : clause_end(text, at)]
     found = list(FUNCTION.finditer(text))
     ends = [other.start() for other in found[1:]] + [len(text)]
-    parts = clauses(text)
+    parts = [part for part in clauses(text) if part[0] not in given]
     for function, end in zip(found, ends):
         if function[1] == "pub ":
             yield function[2], " ".join(text[at:to] for at, to in parts if function.start() < at < end)

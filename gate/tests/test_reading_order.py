@@ -146,6 +146,12 @@ class ReadingOrder(unittest.TestCase):
             self.assertEqual(self.faults(), [said])
             self.write("crates/b/src/lib.rt", before)
 
+    def test_what_a_conversion_gives(self):
+        source = (self.root / "crates/b/src/lib.rt").read_text()
+        self.write("crates/b/src/lib.rt", source + "\nimpl From<A> for B {\n    ghost from_gives = { λ a b. b ≡ hidden a };\n}\n")
+        said = "crates/b/src/lib.rt: the contract of from_gives cites a/specs/code/Post"
+        self.assertEqual(self.faults(), [said])
+
     def test_contract_with_an_alias_and_with_a_path(self):
         self.edit("crates/b/src/lib.rt", "Post.{hidden}", "Post as Post")
         for said in ("Post.hidden x", "Rattle.a.specs.code.Post.hidden x"):
