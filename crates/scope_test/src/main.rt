@@ -93,13 +93,12 @@ fn right_bytes(s: Scope, name: u32, changed: u8, mark: u8) -> bool {
     same
 }
 
-// A mark above 31 is refused; the scope in its place is empty.
+// A mark above 31 is refused.
 fn right_refusal(mark: u8) -> u32
     requires { mark < 32 }
     ensures { result ≤ 1 }
 {
-    let large = Scope::try_from(bytes_of(mark + 32, true));
-    u32::from(large.is_err() && right_bytes(large.unwrap_or(Scope::new(0, false)), 0, 0, 0))
+    u32::from(Scope::try_from(bytes_of(mark + 32, true)).is_err())
 }
 
 // The byte layout after each call, by its own sums, and as many bound names as it says.
