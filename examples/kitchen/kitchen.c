@@ -10,7 +10,7 @@
 
 #define RULE "{\"cabinet\": _, \"sides\": [{\"thickness\": w}, {\"thickness\": w}]}"
 
-enum { CABINETS = 300, ROUNDS = 20 };
+enum { CABINETS = 300, ROUNDS = 200 };
 
 struct cabinet {
     int number, left, right; /* the sides' thickness */

@@ -1,7 +1,7 @@
 -- Binary search: what the library's answer says of the places.
-use Prim.Native.Nat.{ℕ, ◌≤◌, ◌<◌}
+use Prim.Native.Nat.{ℕ, ◌+◌, ◌≤◌, ◌<◌}
 use mathlib.Core.Path.{◌≡◌, refl, sym, ap, ◌∙◌}
-use mathlib.Core.List.{List}
+use mathlib.Core.List.{List, [], ◌∷◌}
 use native.Mathlib.Omega.{arith}
 use mathlib.Core.Bool.{Bool, true, false}
 use lib.ListN.{length, get_or, take}
@@ -11,10 +11,48 @@ use Rattle.std.specs.Prelude.{Result, Ok, Err}
 use Rattle.std.specs.declared.cmp.Ordering.{Ordering}
 use Rattle.std.specs.Ordering.{ordering_index}
 use Rattle.std.specs.Fn.{Mut, Called, ComputesKey}
+use Rattle.std.specs.List.{AllWithin, HoldsAt}
 use Rattle.std.specs.List.Sorted.{IsSearchInRange, IsBinarySearchResult, IsNonDecreasingBy, IsPartitionedBy, IsPartitionPoint}
 use Rattle.std.proofs.lemmas.List.{get_or_default}
 use Rattle.std.proofs.lemmas.List.Sorted.{IsNonDecreasingBy-from_default, IsPartitionPoint-from_clause}
 use Rattle.base.specs.code.Search.{Between, Placed}
+
+-- what a call of a closure answers that computes an order, and that it goes on to
+module _ {F X : Type 0} {g : Mut F (Bor X × Unit {0}) Ordering} {f f' : F} {a : Bor X × Unit {0}} {r : Ordering} (ord : X → Ordering) (computes : ComputesKey g ord f) (call : Called g f a r f') where
+  pub answer_told : r ≡ ord a.0.now
+  answer_told = (computes.at (a ∷ []) r f' call).0
+
+  pub goes_on : ComputesKey g ord f'
+  goes_on = record { at = λ xs. (computes.at (a ∷ xs) r f' call).1 }
+
+-- where the answers rise, those before low are `Less` and those from high on `Greater`
+pub record Narrowed {X : Type 0} (ord : X → Ordering) (xs : List X) (low high : ℕ) : Type 0 where
+  pub parts : IsNonDecreasingBy (λ y. ordering_index (ord y)) xs → AllWithin (λ y. ord y ≡ Ordering.Less) xs 0 low × AllWithin (λ y. ord y ≡ Ordering.Greater) xs high (length xs)
+
+module _ {X : Type 0} (ord : X → Ordering) (xs : List X) where
+  pub not_narrowed : Narrowed ord xs 0 (length xs)
+  not_narrowed = record { parts = λ _. (λ k d a b. absurd (omega arith), λ k d a b. absurd (omega arith)) }
+
+  -- an item that was read by its place
+  pub read_at : (m : ℕ) (item : X) (o : Ordering) → m < length xs → item ≡ get_or xs m item → ord item ≡ o → HoldsAt (λ y. ord y ≡ o) xs m
+  read_at m item o inside is told = λ d. ap ord (get_or_default xs m d item inside ∙ sym is) ∙ told
+
+  index_0 : (a : Ordering) → ordering_index a ≤ 0 → a ≡ Ordering.Less
+  index_0 Ordering.Less h = refl
+  index_0 Ordering.Equal h = absurd (omega arith)
+  index_0 Ordering.Greater h = absurd (omega arith)
+
+  index_2 : (a : Ordering) → 2 ≤ ordering_index a → a ≡ Ordering.Greater
+  index_2 Ordering.Less h = absurd (omega arith)
+  index_2 Ordering.Equal h = absurd (omega arith)
+  index_2 Ordering.Greater h = refl
+
+  -- behind an item that is `Less`, and up to one that is `Greater`
+  pub narrowed_up : (low high m : ℕ) → m < length xs → HoldsAt (λ y. ord y ≡ Ordering.Less) xs m → Narrowed ord xs low high → Narrowed ord xs (m + 1) high
+  narrowed_up low high m inside less n = record { parts = λ rises. (λ k d a b. let e = less d in let r = rises k m d (omega arith) inside in index_0 _ (rw e at r), (n.parts rises).1) }
+
+  pub narrowed_down : (low high m : ℕ) → HoldsAt (λ y. ord y ≡ Ordering.Greater) xs m → Narrowed ord xs low high → Narrowed ord xs low m
+  narrowed_down low high m greater n = record { parts = λ rises. ((n.parts rises).0, λ k d a b. let e = greater d in let r = rises m k d (omega arith) b in index_2 _ (rw e at r)) }
 
 -- what comes before a `Less` is less, and what comes behind a `Greater` is greater
 module _ {X : Type 0} (ord : X → Ordering) (xs : List X) (d : X)

@@ -228,6 +228,11 @@ lending callee ps =
     seq (assign (place (at ps) []) (aggregate (Cells.copies (4 ∷ [])))) (seq (assign (place (1 + at ps) []) (addr_of (place (at ps) [])))
     (seq (assign (place (2 + at ps) []) (aggregate (copy (place (1 + at ps) []) ∷ int w64 1 ∷ []))) (lends_on (lendings ps) (seq (call callee (Cells.copies (handed ps)) (place 0 [])) return))))
 
+-- The code of a call is of this shape: for each call an equation that computes, beside its answers.
+pub record IsLending {n : ℕ} (f : Fn) (callee : Callee) (ps : List (Param n)) : Type 0 where
+  pub has : f.locals ≡ result_of f.locals ∷ others_of f.locals
+  pub goes : f.body ≡ lending callee ps
+
 -- the locals after each: with the array, the address, the slice; the slices lent again; the array lent
 module _ {n : ℕ} (ps : List (Param n)) (cs : List Cell) where
   abbrev with_array : List Cell

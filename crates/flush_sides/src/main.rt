@@ -1,6 +1,8 @@
 // The flush-sides rule, `[w, w]`, by the three calls of teluddru: planned, its names reported, and run on two values. The example of a caller in Rattle.
 #![tactic(auto)]
 
+mod calls;
+
 use operation::{Operation, REGO_V0};
 use planner::buffer::ENTRY_WORDS;
 use planner::{Plan, PlanRefusal};
@@ -8,7 +10,7 @@ use report::ReportRefusal;
 use run::{RunAnswer, RunRefusal};
 use scope::{Scope, ScopingMode};
 use std::io;
-use teluddru::{Name, Rule};
+use teluddru::Name;
 
 const TEXT: [u8; 24] = *b"[w, w] [18, 16] [18, 18]";
 
@@ -47,21 +49,14 @@ fn scope() -> Scope {
     Scope::new(0, false)
 }
 
-fn rule(names: &[Name]) -> Rule<'_> {
-    Rule {
-        nodes: NODES.as_flattened(),
-        children: &CHILDREN,
-        numbers: &NUMBERS,
-        names,
-        strings: &STRINGS,
-        text: &TEXT,
-    }
-}
-
 fn plan_rule(plan: &mut [u32]) -> Result<Plan, PlanRefusal> {
-    let names = [w()];
-    teluddru::plan(
-        &rule(&names),
+    calls::plan(
+        NODES.as_flattened(),
+        &CHILDREN,
+        &NUMBERS,
+        w(),
+        &STRINGS,
+        &TEXT,
         scope(),
         Operation::Pattern {
             scoping: ScopingMode::RespectParent,
@@ -73,9 +68,13 @@ fn plan_rule(plan: &mut [u32]) -> Result<Plan, PlanRefusal> {
 }
 
 fn report_names(list: &mut [u32]) -> Result<(), ReportRefusal> {
-    let names = [w()];
-    teluddru::names_report(
-        &rule(&names),
+    calls::names_report(
+        NODES.as_flattened(),
+        &CHILDREN,
+        &NUMBERS,
+        w(),
+        &STRINGS,
+        &TEXT,
         scope(),
         ScopingMode::RespectParent,
         PATTERN,
@@ -84,9 +83,13 @@ fn report_names(list: &mut [u32]) -> Result<(), ReportRefusal> {
 }
 
 fn run_on(value: u32, values: &mut [u32], plan: &mut [u32]) -> Result<RunAnswer, RunRefusal> {
-    let names = [w()];
-    teluddru::run(
-        &rule(&names),
+    calls::run(
+        NODES.as_flattened(),
+        &CHILDREN,
+        &NUMBERS,
+        w(),
+        &STRINGS,
+        &TEXT,
         scope(),
         ScopingMode::RespectParent,
         PATTERN,

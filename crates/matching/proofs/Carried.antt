@@ -19,7 +19,7 @@ use Rattle.planner.proofs.laws.Binders.{lay_plan_of}
 use Rattle.planner.proofs.laws.Sizes.{lay_few_of}
 use Rattle.planner.proofs.fields.Objects.{node_of_lem}
 use Rattle.value.specs.Value.{value_of}
-use Rattle.std.proofs.Common.{Some, None}
+use Rattle.std.proofs.Common.{Ok, Err}
 use Rattle.matching.specs.Matching.{MatchOutcome, run}
 use Rattle.matching.specs.Reading.{standing}
 use Rattle.matching.specs.code.Linking.{LinkAsks, Linked}
@@ -87,15 +87,15 @@ module _ {T : Tables} {scratch : List ℕ} {count value : ℕ} {list : List ℕ}
     came_as : (u : ℕ → Bool) (root : ℕ) → PlanIn T u root scratch count → Came T (run (plan u (expr T root) []) (value_of (expr T value)) (env_of T list)) after r
     came_as u root p = subst (λ (o : MatchOutcome). Came T o after r) (runs_plan T a.table u root p value list) c
 
-    pub pattern_matched : r ≡ true → PatternCame T scratch count value list (Some after)
+    pub pattern_matched : r ≡ true → PatternCame T scratch count value list (Ok after)
     pattern_matched t = record {
       each = λ u root p.
           let d = came_as u root p in
           let e = d.hit t in
-          ap Some (whole_list a.table d.list_ok) ∙ sym (ap names_after e);
+          ap Ok (whole_list a.table d.list_ok) ∙ sym (ap (λ (o : MatchOutcome). names_after o list) e);
     }
 
-    pub pattern_missed : r ≡ false → PatternCame T scratch count value list None
+    pub pattern_missed : r ≡ false → PatternCame T scratch count value list (Err list)
     pattern_missed t = record {
-      each = λ u root p. sym (ap names_after ((came_as u root p).miss t));
+      each = λ u root p. sym (ap (λ (o : MatchOutcome). names_after o list) ((came_as u root p).miss t));
     }

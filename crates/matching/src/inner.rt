@@ -161,14 +161,15 @@ fn match_fields(
     true
 }
 
-// The first `count` entries of the scratch, carried out from the first one on: after a match the values of the names.
+// The first `count` entries of the scratch, carried out from the first one on.
+// `Ok` is a match, with the values of the names after it, `Err` a miss, with those at the start.
 pub fn match_pattern(
     tables: &Tables<'_>,
     scratch: &[u32; PATTERN_WORDS],
     count: usize,
     value: u32,
     start: [u32; 128],
-) -> Option<[u32; 128]>
+) -> Result<[u32; 128], [u32; 128]>
     requires { PatternAsks (contents tables.now) scratch.now count value start }
     ensures { PatternCame (contents tables.now) scratch.now count value start result }
 {
@@ -177,7 +178,7 @@ pub fn match_pattern(
     let links = linked.entries;
     let mut list = start;
     if match_entry(tables, scratch, &starts, &links, 0, value, 32, &mut list) {
-        return Some(list);
+        return Ok(list);
     }
-    None
+    Err(start)
 }

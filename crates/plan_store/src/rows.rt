@@ -14,12 +14,14 @@ fn move_up(store: &mut [u32], at: usize, end: usize, by: usize)
     store.copy_within(at..end, at + by);
 }
 
-// Copies the first `count` words of a plan to a place.
+// Copies the first `count` words of a plan to a place; `copy_from_slice` would have the archive for C need memmove.
 fn copy_in(store: &mut [u32], at: usize, plan: &[u32], count: usize)
     requires { (at + count ≤ length store.old) × (count ≤ length plan.now) }
     ensures { store.new ≡ paste store.old at plan.now count }
 {
-    store[at..at + count].copy_from_slice(&plan[..count]);
+    for i in 0..count {
+        store[at + i] = plan[i];
+    }
 }
 
 // Puts the first `size` words of a plan at a place; those that stand from there to `end` move up.

@@ -112,12 +112,11 @@ fn scope() -> Scope {
     let mut marks = [0u8; 128];
     marks[2] = 1;
     marks[4] = 16;
-    let made = Scope::try_from(ByteScope {
+    Scope::converted(ByteScope {
         marks,
         underscore: 4,
         scheduler: false,
-    });
-    made.unwrap_or(Scope::new(0, false))
+    })
 }
 
 fn planned(asked: Asked, plan: &mut [u32]) -> Result<Plan, PlanRefusal> {

@@ -36,7 +36,7 @@ use Rattle.value.specs.Value.{Value, is_value, value_of, value_at, Proper, node_
 use Rattle.value.specs.code.Post.{ValueNode}
 use Rattle.value.proofs.Keys.{true_is, is_true}
 use Rattle.value.proofs.Admitted.{value_proper}
-use Rattle.std.proofs.Common.{Option, Some, None, Ok, Err}
+use Rattle.std.proofs.Common.{Ok, Err}
 use Rattle.matching.specs.Matching.{Env, MatchOutcome, matched, missed, fault, pick_value, run, start, outcome, Asked, Promise}
 use Rattle.matching.specs.code.Post as Post
 use Rattle.matching.specs.code.Post.{env_of, ListOk, PlanIn, names_after, PatternCame}
@@ -276,24 +276,24 @@ module _ {T : Tables} {s : Scope} {mode : ScopingMode} {scratch : List ℕ} {cou
     pub ask_match : Post.PatternAsks T scratch count value list
     ask_match = match_asks a.asks of a.laid
 
-    module _ {r : Option (List ℕ)} (came : PatternCame T scratch count value list r) (binders : List ℕ) where
-      of_root : (root : ℕ) → RunAsks T s mode root value before → PatternPlanned T s mode root 0 (replicate pattern_words 0) binders scratch count → r ≡ names_after (ran T s mode root value before)
-      of_root root b p = subst (λ (o : MatchOutcome). r ≡ names_after o) (ran_here b of) (came.each (is_unbound s mode) root (plan_in b of (scratch_laid p.wrote p.few)))
+    module _ {r : Result (List ℕ) (List ℕ)} (came : PatternCame T scratch count value list r) (binders : List ℕ) where
+      of_root : (root : ℕ) → RunAsks T s mode root value before → PatternPlanned T s mode root 0 (replicate pattern_words 0) binders scratch count → r ≡ names_after (ran T s mode root value before) list
+      of_root root b p = subst (λ (o : MatchOutcome). r ≡ names_after o list) (ran_here b of) (came.each (is_unbound s mode) root (plan_in b of (scratch_laid p.wrote p.few)))
 
-      pub values_missed : r ≡ None → ValuesCame T s mode scratch count binders value before before NoMatch
-      values_missed t = record { each = λ root b p. by root (ran T s mode root value before) (sym t ∙ of_root root b p) }
+      pub values_missed : {held : List ℕ} → r ≡ Err held → ValuesCame T s mode scratch count binders value before before NoMatch
+      values_missed {held} t = record { each = λ root b p. by root (ran T s mode root value before) (sym t ∙ of_root root b p) }
         where
-          by : (root : ℕ) (o : MatchOutcome) → ◌≡◌ {A = Option (List ℕ)} None (names_after o) → (no_match_lem ≡ carried_result o) × (before ≡ set_names (to_bind (is_unbound s mode) (expr T root)) o before)
+          by : (root : ℕ) (o : MatchOutcome) → ◌≡◌ {A = Result (List ℕ) (List ℕ)} (Err held) (names_after o list) → (no_match_lem ≡ carried_result o) × (before ≡ set_names (to_bind (is_unbound s mode) (expr T root)) o before)
           by root (matched env) e = absurd (false≢true (cc))
           by root missed e = (refl, refl)
           by root fault e = (refl, refl)
 
-      pub values_matched : {held after : List ℕ} → r ≡ Some held → NamesSet (length T.names / 2) binders held before after → ValuesCame T s mode scratch count binders value before after Match
+      pub values_matched : {held after : List ℕ} → r ≡ Ok held → NamesSet (length T.names / 2) binders held before after → ValuesCame T s mode scratch count binders value before after Match
       values_matched {held} {after} t set = record {
         each = λ root b p. by root b p (ran T s mode root value before) (sym t ∙ of_root root b p);
       }
         where
-          by : (root : ℕ) → RunAsks T s mode root value before → PatternPlanned T s mode root 0 (replicate pattern_words 0) binders scratch count → (o : MatchOutcome) → Some held ≡ names_after o
+          by : (root : ℕ) → RunAsks T s mode root value before → PatternPlanned T s mode root 0 (replicate pattern_words 0) binders scratch count → (o : MatchOutcome) → ◌≡◌ {A = Result (List ℕ) (List ℕ)} (Ok held) (names_after o list)
               → (a_match ≡ carried_result o) × (after ≡ set_names (to_bind (is_unbound s mode) (expr T root)) o before)
           by root b p (matched env) e = (refl, names_set_lem b p env (cc) set)
           by root b p missed e = absurd (false≢true (cc))

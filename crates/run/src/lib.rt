@@ -59,8 +59,8 @@ fn match_values(
 {
     let start = start_list(tables.names, scope, scoping, values);
     match match_pattern(tables, scratch, count, value, start) {
-        None => RunAnswer::NoMatch,
-        Some(list) => {
+        Err(_) => RunAnswer::NoMatch,
+        Ok(list) => {
             set_names(tables.names, binders, &list, values);
             RunAnswer::Match
         }

@@ -10,10 +10,10 @@
 // buffer holds 9s.
 #![tactic(auto)]
 
-ghost use Rattle.std.specs.Prelude.{◌≤◌};
+ghost use Rattle.std.specs.Prelude.{◌≤◌, length};
 
 use input::read_full;
-use parse::{NO_NODE, Parsed, STRINGS, byte_at, parse};
+use parse::{NO_NODE, Parsed, STRINGS, byte_at, first, parse};
 use report::{ReportRefusal, names_report};
 use run::{RunAnswer, RunRefusal, run};
 use scope::{ByteScope, Scope, ScopingMode};
@@ -51,11 +51,6 @@ fn number_at(line: &[u8], at: usize) -> usize
         + digit_of(byte_at(line, at + 2))
 }
 
-// The first of a list, or all where there are fewer.
-fn first<T>(list: &[T], count: usize) -> &[T] {
-    list.get(..count).unwrap_or(list)
-}
-
 // `.` none, `b` bound, `s` bound in this scope, `u` unbound, `l` local, `g` global,
 // `_` none, and the scope has its number for that of `_`.
 fn mark_of(byte: u8) -> u8 {
@@ -81,12 +76,11 @@ fn scope_of(line: &[u8]) -> Scope {
     for (mark, column) in marks.iter_mut().zip(8..12) {
         *mark = mark_of(byte_at(line, column));
     }
-    let made = Scope::try_from(ByteScope {
+    Scope::converted(ByteScope {
         marks,
         underscore: underscore_of(byte_at(line, 11)),
         scheduler: false,
-    });
-    made.unwrap_or(Scope::new(0, false))
+    })
 }
 
 fn scoping_of(line: &[u8]) -> ScopingMode {
@@ -100,7 +94,7 @@ fn scoping_of(line: &[u8]) -> ScopingMode {
 fn start_list(parsed: &Parsed, names: usize) -> [u32; 16] {
     let mut list = [NO_NODE; 16];
     for (i, entry) in list.iter_mut().enumerate().take(names.min(4)) {
-        *entry = parsed.stack.get(i + 2).copied().unwrap_or(0);
+        *entry = parsed.stack().get(i + 2).copied().unwrap_or(0);
     }
     list
 }
@@ -113,9 +107,9 @@ fn carried_out(
 ) -> Result<RunAnswer, RunRefusal> {
     let names = names();
     let tables = Tables {
-        nodes: parsed.nodes.as_flattened(),
-        children: &parsed.children,
-        numbers: parsed.numbers.as_flattened(),
+        nodes: parsed.nodes(),
+        children: parsed.children(),
+        numbers: parsed.numbers(),
         names: first(&names, number_at(line, 13)).as_flattened(),
         strings: &STRINGS,
         text: line,
@@ -134,9 +128,9 @@ fn carried_out(
 fn reported(line: &[u8], parsed: &Parsed, list: &mut [u32]) -> Result<(), ReportRefusal> {
     let names = names();
     let tables = Tables {
-        nodes: parsed.nodes.as_flattened(),
-        children: &parsed.children,
-        numbers: parsed.numbers.as_flattened(),
+        nodes: parsed.nodes(),
+        children: parsed.children(),
+        numbers: parsed.numbers(),
         names: first(&names, number_at(line, 13)).as_flattened(),
         strings: &STRINGS,
         text: line,
@@ -194,15 +188,17 @@ fn print_words(rt: &impl Print, words: &[u32]) -> io::Result<()> {
 }
 
 // The words up to the last that is not 0.
-fn used(words: &[u32]) -> &[u32] {
+fn used(words: &[u32]) -> &[u32]
+    ensures { length result.now ≤ length words.now }
+{
     match words.iter().rposition(|word| *word != 0) {
         Some(last) => &words[..=last],
         None => &[],
     }
 }
 
-fn run_case(rt: &(impl Print + AllocGlobal), line: &[u8]) -> io::Result<()> {
-    let parsed = parse(rt.alloc(), line, 23)?;
+fn run_case(rt: &impl Print, line: &[u8]) -> io::Result<()> {
+    let parsed = parse(line, 23);
     let mut entries = start_list(&parsed, number_at(line, 13));
     let mut words = [9u32; 160];
     let Some(list) = entries.get_mut(..number_at(line, 16)) else {
@@ -219,8 +215,8 @@ fn run_case(rt: &(impl Print + AllocGlobal), line: &[u8]) -> io::Result<()> {
     println!(rt)
 }
 
-fn report_case(rt: &(impl Print + AllocGlobal), line: &[u8]) -> io::Result<()> {
-    let parsed = parse(rt.alloc(), line, 23)?;
+fn report_case(rt: &impl Print, line: &[u8]) -> io::Result<()> {
+    let parsed = parse(line, 23);
     let mut entries = [NO_NODE; 16];
     let Some(list) = entries.get_mut(..number_at(line, 16)) else {
         return Ok(());
@@ -231,7 +227,7 @@ fn report_case(rt: &(impl Print + AllocGlobal), line: &[u8]) -> io::Result<()> {
     println!(rt)
 }
 
-fn print_case(rt: &(impl Print + AllocGlobal), line: &[u8]) -> io::Result<()> {
+fn print_case(rt: &impl Print, line: &[u8]) -> io::Result<()> {
     rt.write_all(line)?;
     println!(rt)?;
     if byte_at(line, 0) == b'n' {
@@ -240,7 +236,7 @@ fn print_case(rt: &(impl Print + AllocGlobal), line: &[u8]) -> io::Result<()> {
     run_case(rt, line)
 }
 
-fn print_cases(rt: &(impl Print + AllocGlobal), input: &[u8]) -> io::Result<()> {
+fn print_cases(rt: &impl Print, input: &[u8]) -> io::Result<()> {
     for line in input.split_inclusive(|byte| *byte == b'\n') {
         print_case(rt, line.strip_suffix(b"\n").unwrap_or(line))?;
     }

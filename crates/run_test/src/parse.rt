@@ -3,8 +3,6 @@
 // `?` another expression, `<` and `>` a set. `.` is node 0 and `!` is NO_NODE.
 ghost use Rattle.std.specs.Prelude.{◌<◌, ◌≤◌};
 
-use std::alloc::{AllocError, Global};
-
 pub(crate) const NO_NODE: u32 = 777;
 
 // The string store, in which a string has the place of its letter. A raw string stands in the line.
@@ -15,17 +13,22 @@ pub(crate) const STRINGS: [u8; 26] = *b"abcdefghijklmnopqrstuvwxyz";
 const MOST: usize = 64;
 
 // The nodes of a line, and on the stack those that have no parent yet. `opened` has for each open
-// bracket the place on the stack of its first item.
-#[derive(Drop)]
+// bracket the place on the stack of its first item. Arrays with their lengths: no heap.
+#[derive(Clone, Copy)]
 pub(crate) struct Parsed {
-    pub(crate) nodes: Vec<[u32; 5]>,
-    pub(crate) children: Vec<u32>,
-    pub(crate) numbers: Vec<[u64; 2]>,
-    pub(crate) stack: Vec<u32>,
+    nodes: [[u32; 5]; MOST],
+    node_count: usize,
+    children: [u32; MOST],
+    child_count: usize,
+    numbers: [[u64; 2]; MOST],
+    number_count: usize,
+    stack: [u32; MOST],
+    top: usize,
     // The last node that stood first on the stack, and second: the pattern and the value.
     pub(crate) pattern: u32,
     pub(crate) value: u32,
-    opened: Vec<usize>,
+    opened: [usize; MOST],
+    depth: usize,
 }
 
 pub(crate) fn byte_at(line: &[u8], i: usize) -> u8 {
@@ -66,21 +69,47 @@ fn items_in(kind: u32, entries: u32) -> u32 {
     entries
 }
 
+// The first of a list, or all where there are fewer.
+pub(crate) fn first<T>(list: &[T], count: usize) -> &[T] {
+    list.get(..count).unwrap_or(list)
+}
+
 impl Parsed {
-    fn empty(alloc: Global) -> Parsed {
+    fn empty() -> Parsed {
         Parsed {
-            nodes: Vec::new(alloc),
-            children: Vec::new(alloc),
-            numbers: Vec::new(alloc),
-            stack: Vec::new(alloc),
+            nodes: [[0; 5]; MOST],
+            node_count: 0,
+            children: [0; MOST],
+            child_count: 0,
+            numbers: [[0; 2]; MOST],
+            number_count: 0,
+            stack: [0; MOST],
+            top: 0,
             pattern: 0,
             value: 0,
-            opened: Vec::new(alloc),
+            opened: [0; MOST],
+            depth: 0,
         }
     }
 
-    fn push(&mut self, node: u32) -> Result<(), AllocError> {
-        let place = self.stack.len();
+    pub(crate) fn nodes(&self) -> &[u32] {
+        first(&self.nodes, self.node_count).as_flattened()
+    }
+
+    pub(crate) fn children(&self) -> &[u32] {
+        first(&self.children, self.child_count)
+    }
+
+    pub(crate) fn numbers(&self) -> &[u64] {
+        first(&self.numbers, self.number_count).as_flattened()
+    }
+
+    pub(crate) fn stack(&self) -> &[u32] {
+        first(&self.stack, self.top)
+    }
+
+    fn push(&mut self, node: u32) {
+        let place = self.top;
         if place == 0 {
             self.pattern = node;
         }
@@ -88,70 +117,70 @@ impl Parsed {
             self.value = node;
         }
         if place < MOST {
-            self.stack.push(node)?;
+            self.stack[place] = node;
+            self.top = place + 1;
         }
-        Ok(())
     }
 
-    fn push_node(&mut self, node: [u32; 5]) -> Result<(), AllocError> {
-        if MOST <= self.nodes.len() {
-            return Ok(());
+    fn push_node(&mut self, node: [u32; 5]) {
+        let place = self.node_count;
+        if place < MOST {
+            self.nodes[place] = node;
+            self.node_count = place + 1;
+            self.push((place + 1) as u32);
         }
-        self.nodes.push(node)?;
-        let number = (self.nodes.len() % 65) as u32;
-        self.push(number)
     }
 
-    fn push_number(
-        &mut self,
-        start: u32,
-        end: u32,
-        sign: u64,
-        digit: u8,
-    ) -> Result<(), AllocError> {
-        let at = self.numbers.len();
-        if MOST / 2 <= at {
-            return Ok(());
+    fn push_number(&mut self, start: u32, end: u32, sign: u64, digit: u8) {
+        let at = self.number_count;
+        if at < MOST / 2 {
+            self.numbers[at] = [sign, (digit % 16) as u64];
+            self.number_count = at + 1;
+            self.push_node([3, start, end, at as u32, 0]);
         }
-        self.numbers.push([sign, (digit % 16) as u64])?;
-        self.push_node([3, start, end, at as u32, 0])
     }
 
-    fn open(&mut self) -> Result<(), AllocError> {
-        if self.opened.len() < MOST {
-            self.opened.push(self.stack.len())?;
+    fn open(&mut self) {
+        let depth = self.depth;
+        if depth < MOST {
+            self.opened[depth] = self.top;
+            self.depth = depth + 1;
         }
-        Ok(())
     }
 
     // The nodes on the stack from a place on become child entries.
-    fn add_children(&mut self, from: usize) -> Result<(), AllocError> {
-        for node in self.stack.iter().skip(from) {
-            if self.children.len() < MOST {
-                self.children.push(*node)?;
+    fn add_children(&mut self, from: usize) {
+        for place in from..self.top.min(MOST) {
+            let at = self.child_count;
+            if at < MOST {
+                self.children[at] = self.stack[place];
+                self.child_count = at + 1;
             }
         }
-        self.stack.truncate(from);
-        Ok(())
+        self.top = from;
     }
 
-    fn close(&mut self, kind: u32, start: u32) -> Result<(), AllocError> {
-        let Some(from) = self.opened.pop() else {
-            return Ok(());
+    fn close(&mut self, kind: u32, start: u32) {
+        let Some(depth) = self.depth.checked_sub(1) else {
+            return;
         };
-        let first = (self.children.len() % 65) as u32;
-        let count = (self.stack.len().saturating_sub(from) % 65) as u32;
-        self.add_children(from)?;
-        self.push_node([kind, start, start, first, items_in(kind, count)])
+        let Some(&from) = self.opened.get(depth) else {
+            return;
+        };
+        self.depth = depth;
+        let first = (self.child_count % 65) as u32;
+        let count = (self.top.saturating_sub(from) % 65) as u32;
+        self.add_children(from);
+        self.push_node([kind, start, start, first, items_in(kind, count)]);
     }
 
-    fn token(&mut self, line: &[u8], i: usize) -> Result<(), AllocError>
+    fn token(&mut self, line: &[u8], i: usize)
         requires { i < 256 }
     {
         let byte = byte_at(line, i);
         let start = i as u32;
         match byte {
-            b' ' | b',' | b':' | b'|' => Ok(()),
+            b' ' | b',' | b':' | b'|' => (),
             b'[' | b'<' | b'{' => self.open(),
             b']' => self.close(7, start),
             b'>' => self.close(8, start),
@@ -172,14 +201,14 @@ impl Parsed {
 }
 
 // The expressions of a line from a column on.
-pub(crate) fn parse(alloc: Global, line: &[u8], from: usize) -> Result<Parsed, AllocError> {
-    let mut parsed = Parsed::empty(alloc);
+pub(crate) fn parse(line: &[u8], from: usize) -> Parsed {
+    let mut parsed = Parsed::empty();
     let end = line.len().min(256);
     let mut i = from;
     // A token's size is known only at the token: no `for` steps so.
     while i < end {
-        parsed.token(line, i)?;
+        parsed.token(line, i);
         i += token_size(line[i]);
     }
-    Ok(parsed)
+    parsed
 }

@@ -16,7 +16,7 @@ use Rattle.scope.specs.Names.{is_name, contains, size_of}
 use Rattle.scope.specs.Says.{Says, in_child}
 use Rattle.scope.specs.declared.MarkOutside.{MarkOutside}
 use Rattle.std.specs.Prelude.{Result, Ok, Err, IfOk}
-use Rattle.base.specs.Refusal.{breaks_rules, passed, require}
+use Rattle.base.specs.Refusal.{breaks_rules, Tested, passed, refused, require}
 use Rattle.std.specs.Result.{result_unwrap_or, result_err}
 use Rattle.scope.specs.Scope.{says, is_underscore, is_unbound, same_scope, bound_count, changeable, bound_at, unbound_at, bind_variable, add_unbound_variable, child_of, new_scope, named, asked}
 use Rattle.scope.specs.Bytes.{says_mark, marks_ok, mark_bit, marked, of_bytes, sum_of, to_bytes, empty_bytes, conversion_of, converted, ConvertedFrom}
@@ -278,6 +278,12 @@ conversion_settled (Ok s) (Err d) e = cc
 conversion_settled (Err c) (Ok t) e = cc
 conversion_settled (Err c) (Err d) e = refl
 
+conversion_whole : (b : ByteScope) (a c : Result Scope MarkOutside) → ConvertedFrom b a → ConvertedFrom b c → a ≡ c
+conversion_whole b (Ok s) (Ok t) p q = ap Ok (p.scope ∙ sym q.scope)
+conversion_whole b (Err c) (Err d) p q = refl
+conversion_whole b (Ok s) (Err d) p q = let h : ◌≡◌ {A = Tested} passed (refused breaks_rules) = p.answer ∙ sym q.answer in cc
+conversion_whole b (Err c) (Ok t) p q = let h : ◌≡◌ {A = Tested} (refused breaks_rules) passed = p.answer ∙ sym q.answer in cc
+
 marks_bounded : (b : ByteScope) → marks_ok b ≡ true → (i : ℕ) → get_or b.marks i 0 ≤ 31
 unfolding marks_ok
 marks_bounded b ok i = small_at b.marks ok i
@@ -295,4 +301,5 @@ conversion_promise = record {
   small = marks_accepted;
   large = marks_bounded;
   settled = conversion_settled;
+  whole = conversion_whole;
 }

@@ -167,6 +167,12 @@ call_settled (Ok s) (Err d) e = cc
 call_settled (Err c) (Ok t) e = cc
 call_settled (Err c) (Err d) e = refl
 
+called_settled : (x : ℕ) (s : Scope) (a b : Result Scope NameOutside) → Called x s a → Called x s b → a ≡ b
+called_settled x s (Ok t) (Ok u) c d = ap Ok (c.scope ∙ sym d.scope)
+called_settled x s (Err e) (Err f) c d = refl
+called_settled x s (Ok t) (Err e) c d = let h : ◌≡◌ {A = Tested} passed (refused name_outside) = c.answer ∙ sym d.answer in cc
+called_settled x s (Err e) (Ok t) c d = let h : ◌≡◌ {A = Tested} (refused name_outside) passed = c.answer ∙ sym d.answer in cc
+
 abbrev reply_in : Question → Result Bool NameOutside
 reply_in (replied b) = Ok b
 reply_in (turned_back_lem r) = Err (record {})
@@ -214,4 +220,4 @@ module _ (x : ℕ) (u : Bool) where
   reply_or_no (Err o) e = simp (says_outside e)
 
 pub answer_laws : AnswerLaws
-answer_laws = record { calls = call_settled; questions = λ a b e. sym (back a) ∙ (ap reply_in e ∙ back b) }
+answer_laws = record { calls = call_settled; settled = called_settled; questions = λ a b e. sym (back a) ∙ (ap reply_in e ∙ back b) }

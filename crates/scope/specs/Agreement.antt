@@ -10,7 +10,7 @@ use Rattle.scope.specs.declared.ScopingMode.{ScopingMode}
 use Rattle.scope.specs.declared.MarkOutside.{MarkOutside}
 use Rattle.scope.specs.Names.{is_name}
 use Rattle.scope.specs.Scope.{says, is_unbound, same_scope, bound_count, bind_variable, add_unbound_variable, child_of, new_scope, named, asked}
-use Rattle.scope.specs.Bytes.{marks_ok, of_bytes, to_bytes, empty_bytes, conversion_of}
+use Rattle.scope.specs.Bytes.{marks_ok, of_bytes, to_bytes, empty_bytes, conversion_of, ConvertedFrom}
 use Rattle.scope.specs.Bytes as Bytes
 
 -- bytes that a conversion accepts: 128 marks of 0 to 31
@@ -74,3 +74,4 @@ pub record ConversionPromise : Type 0 where
   pub small : (b : ByteScope) → ((i : ℕ) → get_or b.marks i 0 ≤ 31) → marks_ok b ≡ true
   pub large : (b : ByteScope) → marks_ok b ≡ true → (i : ℕ) → get_or b.marks i 0 ≤ 31
   pub settled : (a c : Result Scope MarkOutside) → conversion_of a ≡ conversion_of c → result_err a ≡ result_err c
+  pub whole : (b : ByteScope) (a c : Result Scope MarkOutside) → ConvertedFrom b a → ConvertedFrom b c → a ≡ c

@@ -7,7 +7,7 @@ use Rattle.scope.specs.declared.ScopingMode.TheVariants.{RespectParent, AllowSha
 use Rattle.scope.specs.declared.NameOutside.{NameOutside}
 use Rattle.scope.specs.Names.{is_name}
 use Rattle.scope.specs.Says.{Says, nothing, bind, add_unbound, in_child}
-use Rattle.scope.specs.Scope.{says, is_underscore, is_unbound, same_scope, bound_count, bind_variable, add_unbound_variable, child_of, new_scope, call_of, question_of}
+use Rattle.scope.specs.Scope.{says, is_underscore, is_unbound, same_scope, bound_count, bind_variable, add_unbound_variable, child_of, new_scope, call_of, Called, question_of}
 
 -- `t` has the `_` and the scheduler of `s`.
 pub record SameFrame (s t : Scope) : Type 0 where
@@ -56,7 +56,8 @@ pub record ScopePromise (s : Scope) (x : ℕ) : Type 0 where
   pub shadows : is_unbound s AllowShadowing x ≡ not (is_underscore s x)
   pub respects : is_unbound s RespectParent x ≡ true → is_unbound s AllowShadowing x ≡ true
 
--- Document 01's numbers settle the answers.
+-- Document 01's numbers settle the answers; with what is promised of the scope, all of them.
 pub record AnswerLaws : Type 0 where
   pub calls : (a b : Result Scope NameOutside) → call_of a ≡ call_of b → result_err a ≡ result_err b
+  pub settled : (x : ℕ) (s : Scope) (a b : Result Scope NameOutside) → Called x s a → Called x s b → a ≡ b
   pub questions : (a b : Result Bool NameOutside) → question_of a ≡ question_of b → a ≡ b

@@ -4,7 +4,7 @@
 ghost use Rattle.std.specs.Prelude.{◌≡◌, cond};
 ghost use Rattle.scope.specs.Says.{marked_unbound, taken};
 ghost use Rattle.scope.specs.Scope.{says, new_scope, child_of, bind_variable, add_unbound_variable, is_unbound, same_scope, bound_count, Called, asked, question_of};
-ghost use Rattle.scope.specs.Bytes.{sum_of, to_bytes, ConvertedFrom};
+ghost use Rattle.scope.specs.Bytes.{sum_of, to_bytes, converted, ConvertedFrom};
 
 use bytes::{marked, marks_ok, weight};
 use name_set::{NameSet, is_name};
@@ -62,6 +62,13 @@ impl Scope {
             underscore,
             scheduler,
         }
+    }
+
+    // The scope of bytes, and an empty one where a mark is above 31.
+    pub fn converted(bytes: ByteScope) -> Self
+        ensures { result ≡ converted bytes }
+    {
+        Self::try_from(bytes).unwrap_or(Self::new(0, false))
     }
 
     // The same scope with no name bound in it.

@@ -93,12 +93,16 @@ fn right_bytes(s: Scope, name: u32, changed: u8, mark: u8) -> bool {
     same
 }
 
-// A mark above 31 is refused.
+// A mark above 31 is refused, and an empty scope stands in its place.
 fn right_refusal(mark: u8) -> u32
     requires { mark < 32 }
     ensures { result ≤ 1 }
 {
-    u32::from(Scope::try_from(bytes_of(mark + 32, true)).is_err())
+    let large = bytes_of(mark + 32, true);
+    if Scope::try_from(large).is_ok() {
+        return 0;
+    }
+    u32::from(right_bytes(Scope::converted(large), 0, 0, 0))
 }
 
 // The byte layout after each call, by its own sums, and as many bound names as it says.
@@ -121,7 +125,7 @@ fn right_of(mark: u8, scheduler: bool, name: u32, respects: u32, same: u32) -> u
     requires { (mark < 32) × (respects < 2) × (same < 2) }
     ensures { result ≤ 17 }
 {
-    let s = Scope::try_from(bytes_of(mark, scheduler)).unwrap_or(Scope::new(0, false));
+    let s = Scope::converted(bytes_of(mark, scheduler));
     let inherited = respects * 100 + 10;
     let want = inherited + same;
     right(s, name, want)

@@ -25,12 +25,11 @@ const SMALL_NODES: usize = 64;
 fn scope_of(marks: &[u8; 128], operation: OperationNumbers) -> Scope
     ensures { result ≡ scope_in operation marks.now }
 {
-    let made = Scope::try_from(ByteScope {
+    Scope::converted(ByteScope {
         marks: *marks,
         underscore: 0,
         scheduler: operation.scheduler == 1,
-    });
-    made.unwrap_or(Scope::new(0, false))
+    })
 }
 
 // A refusal that has no place and no counts.

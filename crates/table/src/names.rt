@@ -5,6 +5,7 @@ ghost use Rattle.table.specs.code.NameOrder.{Ascending, FoundName};
 ghost use Rattle.table.specs.Rules.{names_differ};
 
 use crate::reading::name_bytes;
+use base::inner::binary_search::search_by;
 use base::insertion::insert_at;
 use literal::order::{compare_bytes, ordering_of};
 
@@ -25,7 +26,7 @@ fn find_name(
     requires { Ascending (name_bytes names.now text.now) order.now count × (count < 128) }
     ensures { FoundName (name_bytes names.now text.now) bytes.now order.now count result }
 {
-    order[..count].binary_search_by(|&name| {
+    search_by(&order[..count], |&name| {
         ordering_of(compare_bytes(bytes, name_bytes(names, text, wide(name)))).reverse()
     })
 }

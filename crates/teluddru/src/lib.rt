@@ -1,7 +1,9 @@
 // The library's calls for a caller in Rattle: names are a lent table of records.
 #![tactic(auto)]
 
+pub mod over_records;
 mod records;
+mod words;
 
 ghost use Rattle.body.specs.Body.{body_outcome, BodyAnsweredIn};
 ghost use Rattle.common_example.specs.Common.{CommonIn};
@@ -9,16 +11,13 @@ ghost use Rattle.name_table.specs.Adding.{add_outcome};
 ghost use Rattle.planner.specs.Operations.{AnsweredIn};
 ghost use Rattle.report.specs.Report.{ReportedIn};
 ghost use Rattle.run.specs.Operations.{RanIn};
-ghost use Rattle.std.specs.Prelude.{◌≡◌, ◌≤◌};
-ghost use Rattle.table.specs.Contents.{contents};
 ghost use Rattle.table.specs.Tables.{tables};
-ghost use Rattle.teluddru.specs.code.Copying.{held, over_names};
 ghost use Rattle.teluddru.specs.Records.{name_words, lent_records};
 ghost use Rattle.teluddru.specs.Adding.{NameAddedTo};
 ghost use Rattle.operation.specs.Version.{version_outcome};
 ghost use Rattle.tolerance.specs.Operations.{JudgedIn};
 
-use crate::records::{NameWords, copy_names, name_of, place_of, put_name};
+use crate::records::{copy_names, name_of, place_of, put_name};
 use body::BodyPlanned;
 use common_example::example::{Example, ExampleRefusal};
 use common_example::sides::ScopedPattern;
@@ -28,7 +27,6 @@ use planner::{Plan, PlanRefusal};
 use report::ReportRefusal;
 use run::{RunAnswer, RunRefusal};
 use scope::{Scope, ScopingMode};
-use table::tables::Tables;
 use tolerance::{ToleranceAnswer, ToleranceRefusal};
 
 // A range of the rule text.
@@ -49,23 +47,6 @@ pub struct Rule<'a> {
     pub text: &'a [u8],
 }
 
-impl Rule<'_> {
-    // The tables with the names that were copied.
-    fn over_copied<'b>(&'b self, names: &'b NameWords) -> Tables<'b>
-        requires { names.now.count ≤ 129 }
-        ensures { contents result ≡ over_names self.now (held names.now) }
-    {
-        Tables {
-            nodes: self.nodes,
-            children: self.children,
-            numbers: self.numbers,
-            names: names.pairs(),
-            strings: self.strings,
-            text: self.text,
-        }
-    }
-}
-
 // The planning call, for a version of Rego: any but 1 is version 0.
 pub fn plan(
     rule: &Rule<'_>,
@@ -76,9 +57,18 @@ pub fn plan(
 ) -> Result<Plan, PlanRefusal>
     ensures { AnsweredIn plan (version_outcome (lent_records rule.now) scope version operation) result }
 {
-    let names = copy_names(rule.names);
-    let tables = rule.over_copied(&names);
-    operation::plan(&tables, scope, operation, version, plan)
+    over_records::plan(
+        rule.nodes,
+        rule.children,
+        rule.numbers,
+        rule.names,
+        rule.strings,
+        rule.text,
+        scope,
+        operation,
+        version,
+        plan,
+    )
 }
 
 // Adds the name that stands at a range of the text. The first `used` records hold names, the others are free.
@@ -120,9 +110,17 @@ pub fn add_name<'a>(
 pub fn plan_body(rule: &Rule<'_>, scope: Scope, lines: &[u32], plan: &mut [u32]) -> BodyPlanned
     ensures { BodyAnsweredIn plan scope (body_outcome (lent_records rule.now) scope lines.now plan.old) result }
 {
-    let names = copy_names(rule.names);
-    let tables = rule.over_copied(&names);
-    body::plan_body(&tables, scope, lines, plan)
+    over_records::plan_body(
+        rule.nodes,
+        rule.children,
+        rule.numbers,
+        rule.names,
+        rule.strings,
+        rule.text,
+        scope,
+        lines,
+        plan,
+    )
 }
 
 // Plans the pattern into the buffer and carries the plan out on the value. `values` has for each name number the node of its value, or 0.
@@ -137,9 +135,20 @@ pub fn run(
 ) -> Result<RunAnswer, RunRefusal>
     ensures { RanIn values plan (lent_records rule.now) scope scoping pattern value result }
 {
-    let names = copy_names(rule.names);
-    let tables = rule.over_copied(&names);
-    run::run(&tables, scope, scoping, pattern, value, values, plan)
+    over_records::run(
+        rule.nodes,
+        rule.children,
+        rule.numbers,
+        rule.names,
+        rule.strings,
+        rule.text,
+        scope,
+        scoping,
+        pattern,
+        value,
+        values,
+        plan,
+    )
 }
 
 // Runs the pattern on the value for all choices of a number from the lowest to the highest of each node, two words a node in each list.
@@ -156,10 +165,21 @@ pub fn run_with_tolerance(
 ) -> Result<ToleranceAnswer, ToleranceRefusal>
     ensures { JudgedIn values lowest highest plan (lent_records rule.now) scope scoping pattern value result }
 {
-    let names = copy_names(rule.names);
-    let tables = rule.over_copied(&names);
-    tolerance::run_with_tolerance(
-        &tables, scope, scoping, pattern, value, values, lowest, highest, plan,
+    over_records::run_with_tolerance(
+        rule.nodes,
+        rule.children,
+        rule.numbers,
+        rule.names,
+        rule.strings,
+        rule.text,
+        scope,
+        scoping,
+        pattern,
+        value,
+        values,
+        lowest,
+        highest,
+        plan,
     )
 }
 
@@ -176,10 +196,13 @@ pub fn common_example(
     ensures { let T = lent_records rule.now in
         CommonIn T first values1 second values2 example_nodes example_children result }
 {
-    let names = copy_names(rule.names);
-    let tables = rule.over_copied(&names);
-    common_example::common_example(
-        &tables,
+    over_records::common_example(
+        rule.nodes,
+        rule.children,
+        rule.numbers,
+        rule.names,
+        rule.strings,
+        rule.text,
         first,
         values1,
         second,
@@ -199,7 +222,16 @@ pub fn names_report(
 ) -> Result<(), ReportRefusal>
     ensures { ReportedIn list (lent_records rule.now) scope scoping pattern result }
 {
-    let names = copy_names(rule.names);
-    let tables = rule.over_copied(&names);
-    report::names_report(&tables, scope, scoping, pattern, list)
+    over_records::names_report(
+        rule.nodes,
+        rule.children,
+        rule.numbers,
+        rule.names,
+        rule.strings,
+        rule.text,
+        scope,
+        scoping,
+        pattern,
+        list,
+    )
 }

@@ -1,10 +1,13 @@
 // Names from records to pairs of words, and a new name into the records.
 ghost use Rattle.std.specs.Prelude.{◌≡◌, ◌+◌, ◌*◌, ◌<◌, ◌≤◌, min, length, set};
+ghost use Rattle.table.specs.Contents.{contents};
+ghost use Rattle.table.specs.Tables.{tables};
 ghost use Rattle.teluddru.specs.code.Copying.{held, name_at, Copied};
 ghost use Rattle.teluddru.specs.code.Placing.{a_name, place_of};
 
 use crate::Name;
 use name_table::{NameAnswer, NameRefusal};
+use table::tables::Tables;
 
 // The first `count` pairs of the words are names. They stand in place, since there is no heap, and the laws of proofs/laws/Passing name this type.
 #[derive(Clone, Copy)]
@@ -15,12 +18,34 @@ pub(crate) struct NameWords {
 
 impl NameWords {
     // The words of the names.
-    pub(crate) fn pairs(&self) -> &[u32]
+    fn pairs(&self) -> &[u32]
         requires { self.now.count ≤ 129 }
         ensures { result.now ≡ held self.now }
     {
         let words = &self.words[..];
         &words[..self.count * 2]
+    }
+
+    // The lent tables with these names.
+    pub(crate) fn among<'a>(
+        &'a self,
+        nodes: &'a [u32],
+        children: &'a [u32],
+        numbers: &'a [u64],
+        strings: &'a [u8],
+        text: &'a [u8],
+    ) -> Tables<'a>
+        requires { self.now.count ≤ 129 }
+        ensures { contents result ≡ tables nodes.now children.now numbers.now (held self.now) strings.now text.now }
+    {
+        Tables {
+            nodes,
+            children,
+            numbers,
+            names: self.pairs(),
+            strings,
+            text,
+        }
     }
 }
 

@@ -4,6 +4,7 @@ ghost use Rattle.table.specs.Decode.{literal_node};
 ghost use Rattle.common_example.specs.code.arrays.Distinct.{FindAsks, LiteralFound, AddAsks, NodeAdded};
 ghost use Rattle.common_example.specs.code.arrays.Likes.{likes, LikesAsks};
 
+use base::inner::binary_search::search_by;
 use base::insertion::insert_at;
 use literal::order::ordering_of;
 use table::reading::compare_literals;
@@ -29,7 +30,7 @@ fn find_literal<'a>(
     requires { FindAsks (literal_node nodes.now numbers.now strings.now text.now) node order.now count }
     ensures { LiteralFound (literal_node nodes.now numbers.now strings.now text.now) node order.now count result }
 {
-    order[..count].binary_search_by(|&other| {
+    search_by(&order[..count], |&other| {
         let way = compare_literals(nodes, numbers, strings, text, node, other);
         ordering_of(way).reverse()
     })

@@ -1,5 +1,5 @@
 -- What the functions that carry a plan out ask of their caller and say.
-use Rattle.std.specs.Prelude.{ℕ, ◌+◌, ◌-◌, ◌*◌, ◌≤◌, ◌<◌, ◌≡◌, Bool, true, false, cond, Option, Some, None, List, [], ◌++◌, eqb, length, get_or, replicate}
+use Rattle.std.specs.Prelude.{ℕ, ◌+◌, ◌-◌, ◌*◌, ◌≤◌, ◌<◌, ◌≡◌, Bool, true, false, cond, Result, Ok, Err, List, [], ◌++◌, eqb, length, get_or, replicate}
 use Rattle.std.proofs.Math.Option.{none}
 use Rattle.base.specs.Lent.{MutSlices}
 use Rattle.table.specs.Tables.{Tables, kind_of, first_word_of, count_of}
@@ -107,12 +107,12 @@ pub record PatternAsks (T : Tables) (scratch : List ℕ) (count value : ℕ) (li
   pub list_ok : ListOk T list
   pub no_fault : run (plan unbound (expr T root) []) (value_of (expr T value)) (env_of T list) ≡ fault → ⊥
 
--- after a match the nodes of the names' values
-abbrev pub names_after : MatchOutcome → Option (List ℕ)
-names_after (matched env) = Some (tabulate (λ i. node_in (env (i + 1))) 0 128)
-names_after missed = None
-names_after fault = None
+-- the nodes of the names' values after a match; without one those at the start
+abbrev pub names_after : MatchOutcome → List ℕ → Result (List ℕ) (List ℕ)
+names_after (matched env) start = Ok (tabulate (λ i. node_in (env (i + 1))) 0 128)
+names_after missed start = Err start
+names_after fault start = Err start
 
 -- whatever pattern the entries are the plan of
-pub record PatternCame (T : Tables) (scratch : List ℕ) (count value : ℕ) (start : List ℕ) (r : Option (List ℕ)) : Type 0 where
-  pub each : (unbound : ℕ → Bool) (root : ℕ) → PlanIn T unbound root scratch count → r ≡ names_after (run (plan unbound (expr T root) []) (value_of (expr T value)) (env_of T start))
+pub record PatternCame (T : Tables) (scratch : List ℕ) (count value : ℕ) (start : List ℕ) (r : Result (List ℕ) (List ℕ)) : Type 0 where
+  pub each : (unbound : ℕ → Bool) (root : ℕ) → PlanIn T unbound root scratch count → r ≡ names_after (run (plan unbound (expr T root) []) (value_of (expr T value)) (env_of T start)) start

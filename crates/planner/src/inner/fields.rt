@@ -8,6 +8,7 @@ ghost use Rattle.planner.specs.code.Post.{OrderAsks, Arranged};
 ghost use Rattle.planner.specs.code.Ordering.{FieldAdded, FindAsks, FoundIn, AddAsks};
 
 use crate::fields::wide;
+use base::inner::binary_search::search_by;
 use base::insertion::insert_at;
 use literal::order::ordering_of;
 use literal::{Comparison, LiteralRef};
@@ -51,7 +52,7 @@ pub fn find_field(
     requires { FindAsks (contents tables.now) first order.now literals key }
     ensures { FoundIn (contents tables.now) first key order.now literals result }
 {
-    order[..literals].binary_search_by(|&field| {
+    search_by(&order[..literals], |&field| {
         let way = compare_keys(
             tables.nodes,
             tables.children,

@@ -8,11 +8,11 @@ start_list-start-requires c = search (ask_list, rules)
 pub match_pattern-requires : goal.match_pattern-requires
 match_pattern-requires c = search (ask_match, rules)
 
-pub returns-in-None : goal.returns-in-None
-returns-in-None c = search (values_missed, rules)
+pub returns-in-Err : goal.returns-in-Err
+returns-in-Err c = search (values_missed, rules)
 
 pub set_names-requires : goal.set_names-requires
 set_names-requires c = search (ask_list, rules)
 
-pub returns-in-Some : goal.returns-in-Some
-returns-in-Some c = search (values_matched, rules)
+pub returns-in-Ok : goal.returns-in-Ok
+returns-in-Ok c = search (values_matched, rules)

@@ -224,6 +224,11 @@ handed ps = 1 ∷ 2 ∷ 3 ∷ at ps ∷ 5 ∷ 6 ∷ hands_from 7 (suc (at ps)) p
 abbrev pub passing : {n : ℕ} → Callee → List (Param n) → Body
 passing words ps = seq (call #copy-names (Cells.copies (4 ∷ [])) (place (at ps) [])) (lends_on (lends ps) (seq (call words (Cells.copies (handed ps)) (place 0 [])) return))
 
+-- The code of a call is of this shape: for each call an equation that computes, beside its answers.
+pub record IsPassing {n : ℕ} (f : Fn) (words : Callee) (ps : List (Param n)) : Type 0 where
+  pub has : f.locals ≡ result_of f.locals ∷ others_of f.locals
+  pub goes : f.body ≡ passing words ps
+
 -- What is read where, once `copy_names` has returned v: all of it computes.
 abbrev after : {n : ℕ} → List (Param n) → List Cell → Val → List Cell
 after ps cs v = lent_all (filled cs (at ps) v) (lends ps)

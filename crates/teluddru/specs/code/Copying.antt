@@ -1,8 +1,8 @@
 -- Records that are copied to pairs of words.
 use Rattle.std.specs.Prelude.{ℕ, ◌*◌, ◌≤◌, ◌≡◌, List, get_or, take}
 use Rattle.table.specs.Tables.{Tables, tables}
+use Rattle.base.specs.Lent.{Slices}
 use Rattle.teluddru.specs.declared.Name.{Name}
-use Rattle.teluddru.specs.declared.Rule.{Rule}
 use Rattle.teluddru.specs.declared.records.NameWords.{NameWords}
 use Rattle.teluddru.specs.Records.{name_words}
 
@@ -22,6 +22,6 @@ pub record Copied (records : List Name) (names : NameWords) : Type 0 where
   pub few : names.count ≤ 129
   pub same : held names ≡ name_words (take 129 records)
 
--- a rule's tables, with other names, in words
-abbrev pub over_names : Rule → List ℕ → Tables
-over_names r names = tables r.nodes.now r.children.now r.numbers.now names r.strings.now r.text.now
+-- the tables that a function is lent, the names in words
+abbrev pub lent_words : Slices → Slices → Slices → NameWords → Slices → Slices → Tables
+lent_words nodes children numbers names strings text = tables nodes.entry.now children.entry.now numbers.entry.now (held names) strings.entry.now text.entry.now

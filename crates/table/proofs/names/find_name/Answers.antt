@@ -9,4 +9,4 @@ returns c =
     let ascending = c.requires.0 in
     let bytes = c.args.bytes.now in
     let order = name_searches ascending bytes (omega (arith, c.told-order)) in
-    name_found ascending bytes _ (searched order _ c.binary_search_by.ensures.bound c.binary_search_by.ensures.position (λ a r f k. search (rules, of_calls)))
+    name_found ascending bytes _ (searched order _ c.search_by.ensures.bound c.search_by.ensures.position (λ a r f k. search (rules, of_calls)))

@@ -6,4 +6,4 @@ use Rattle.planner.proofs.inner.fields.find_field.Goals as goal
 pub returns : goal.returns
 returns c =
     let keys = field_searches c.requires c.told-order in
-    record { place = searched keys _ c.binary_search_by.ensures.bound c.binary_search_by.ensures.position (λ a r f k. search (rules, of_calls)) }
+    record { place = searched keys _ c.search_by.ensures.bound c.search_by.ensures.position (λ a r f k. search (rules, of_calls)) }

@@ -1,6 +1,0 @@
-use Rattle.scope.proofs.Agreeing.{converted_or_empty}
-use borrow.Author.Rules.{rules}
-use Rattle.sheet.proofs.space.scope_of.Goals as goal
-
-pub returns : goal.returns
-returns c = search (converted_or_empty, rules)
