@@ -1,69 +1,71 @@
 -- The call for a rule body, function by function.
 use Prim.Native.Nat.{ℕ, ◌+◌, ◌≤◌, ◌<◌}
 use mathlib.Core.Path.{◌≡◌, refl, sym, ap, subst, ◌∙◌}
-use mathlib.Core.Bool.{Bool, true, false, cond, false≢true}
+use mathlib.Core.Bool.{Bool, true, false, not, cond, false≢true}
 use mathlib.Core.List.{List, [], ◌∷◌}
 use native.Mathlib.Omega.{arith}
 use borrow.Author.Tests.{eq-eqb, ne_eqb, eqb-true, eqb-false, le-leb, lt-leb, ltb-true, ltb-false}
-use lib.Dec.{eqb, leb, ltb}
+use lib.Dec.{eqb, ltb}
 use lib.ListN.{length, get_or, set, replicate, length-set}
 use lib.Seq.{ext_get_or, get_or-set_same, get_or-set_other}
-use Rattle.base.specs.Refusal as Refusal
-use Rattle.base.specs.Refusal.{Refusal, Line, line, tested_line, Tested, passed, tested_or}
+use Rattle.base.specs.Refusal.{Line, refusal_line, layout_broken, not_a_body, Tested, passed, refused, tested_or}
 use Rattle.base.specs.Lists.{tabulate}
 use Rattle.base.proofs.Filling.{length_tabulate, get_d_tabulate}
 use Rattle.scope.specs.declared.Scope.{Scope}
 use Rattle.scope.specs.declared.ByteScope.{ByteScope}
 use Rattle.scope.specs.declared.MarkOutside.{MarkOutside}
-use Rattle.std.specs.Prelude.{Result, Ok, Err}
+use Rattle.std.specs.Prelude.{Result, Ok, Err, IfOk, IsErrAnd}
+use Rattle.std.proofs.lemmas.Result.{err_from_is_err_and}
 use Rattle.scope.specs.Bytes as Bytes
-use Rattle.scope.specs.Bytes.{conversion_of, ConvertedFrom, convertible, marks_ok}
+use Rattle.scope.specs.Bytes.{ConvertedFrom, convertible}
 use Rattle.table.specs.Tables.{Tables}
 use Rattle.table.specs.Rules.{within_limits}
-use Rattle.table.proofs.tests.Bools.{never}
+use Rattle.table.proofs.tests.Bools.{never, told_no, told_yes}
 use Rattle.planner.specs.Operations as Plan
 use Rattle.planner.specs.Operations.{Outcome, planned}
 use Rattle.planner.specs.Short.{ShortLine}
 use Rattle.operation.specs.declared.Operation.{Operation}
 use Rattle.operation.specs.declared.row.Row.{Row}
 use Rattle.operation.specs.Rows.{row_line, Told}
-use Rattle.std.proofs.Common.{Err}
 use Rattle.body.specs.declared.BodyRefusal.{BodyRefusal}
 use Rattle.body.specs.declared.BodyPlanned.{BodyPlanned}
 use Rattle.body.specs.Lines.{operations_of, is_body}
 use Rattle.body.specs.Body.{BodyOutcome, refused_at, accepted, line_outcome, bind_plan, unless_refused, body_from, no_plan, body_outcome, BodyLine, body_line, body_answered, body_written, scope_after, body_line_of, BodyAnswered}
 use Rattle.body.proofs.Shortness.{body_short}
-use Rattle.c_calls.specs.Given.{byte_scope_of, scope_of, given_scope}
-use Rattle.scope.proofs.Agreeing.{converted_or_empty}
+use Rattle.c_calls.specs.declared.given.GivenRefusal.{GivenRefusal}
+use Rattle.c_calls.specs.declared.given.GivenRefusal.TheVariants.{OverLimit, BreaksRules}
+use Rattle.c_calls.specs.Given.{byte_scope_of, scope_of, given_refused, given_tested}
 use Rattle.body.specs.code.Post.{is_planned}
-use Rattle.c_calls.proofs.Called.{no_refusal}
-use Rattle.c_calls.specs.Bodies.{words_first, marks_first, body_call, told_body, mark_at, marks_in, marks_after, ToldBody, BodyCalled}
+use Rattle.c_calls.specs.Bodies.{words_first, marks_first, MarksTold, body_call, told_body, mark_at, marks_in, marks_after, ToldBody, BodyCalled}
 
 -- 7 and 37
 module _ (scheduler : ℕ) (words : List ℕ) where
-  pub words_unlisted : 1 < scheduler → line 7 0 0 0 ≡ tested_line (words_first scheduler words)
+  pub words_unlisted : 1 < scheduler → refused layout_broken ≡ words_first scheduler words
   unfolding words_first
   words_unlisted lt = rw (lt-leb scheduler 1 lt) refl
 
   module _ (listed : scheduler ≤ 1) {r : Bool} (is : r ≡ is_body words) where
-    pub words_body : r ≡ true → line 0 0 0 0 ≡ tested_line (words_first scheduler words)
+    pub words_none : not r ≡ true → refused not_a_body ≡ words_first scheduler words
     unfolding words_first
-    words_body t = let e = sym is ∙ t in rw (le-leb scheduler 1 listed, e) refl
+    words_none t = rw (le-leb scheduler 1 listed, told_no is t) refl
 
-    pub words_none : r ≡ false → line 37 0 0 0 ≡ tested_line (words_first scheduler words)
+    pub words_body : not r ≡ false → passed ≡ words_first scheduler words
     unfolding words_first
-    words_none t = let e = sym is ∙ t in rw (le-leb scheduler 1 listed, e) refl
+    words_body t = rw (le-leb scheduler 1 listed, told_yes is t) refl
 
 -- 1, and 2 for the marks
 module _ (T : Tables) {w : Bool} (limits : w ≡ within_limits T) where
-  pub limits_over : (made : Tested) → w ≡ false → line 1 0 0 0 ≡ tested_line (marks_first T made)
+  pub limits_over : (made : Result Scope MarkOutside) → not w ≡ true → MarksTold T made (Err OverLimit)
   unfolding marks_first
-  limits_over made t = let e = sym limits ∙ t in rw e refl
+  limits_over made t = record { told = rw (told_no limits t) refl; scope = tt }
 
-  pub limits_made : (made : Result Scope MarkOutside) {n : ℕ} → w ≡ true → n ≡ (tested_line (conversion_of made)).number → line n 0 0 0 ≡ tested_line (marks_first T (conversion_of made))
+  pub limits_marks : {made : Result Scope MarkOutside} {mark : MarkOutside} → not w ≡ false → made ≡ Err mark → {r : Result Scope GivenRefusal} → IsErrAnd r (λ x. x ≡ BreaksRules) → MarksTold T made r
   unfolding marks_first
-  limits_made (Ok s) t e = let q = sym limits ∙ t in rw (q, e) refl
-  limits_made (Err o) t e = let q = sym limits ∙ t in rw (q, e) refl
+  limits_marks t e {r} gives = let g = err_from_is_err_and r gives in rw (e, g.1, g.2) (record { told = rw (told_yes limits t) refl; scope = tt })
+
+  pub limits_made : {made : Result Scope MarkOutside} {s : Scope} → not w ≡ false → made ≡ Ok s → MarksTold T made (Ok s)
+  unfolding marks_first
+  limits_made t e = rw e (record { told = rw (told_yes limits t) refl; scope = refl })
 
 -- marks that are put
 pub record Putting (all before here : List ℕ) (i : ℕ) : Type 0 where
@@ -159,7 +161,7 @@ module _ (T : Tables) (buffer : List ℕ) where
   unfolding body_outcome
   body_planned s words t o e = go (is_body words) e
     where
-      go : (b : Bool) → cond b (body_from T buffer 1 s no_plan (operations_of words)) (refused_at 0 Refusal.not_a_body) ≡ accepted t o → is_planned o ≡ true
+      go : (b : Bool) → cond b (body_from T buffer 1 s no_plan (operations_of words)) (refused_at 0 not_a_body) ≡ accepted t o → is_planned o ≡ true
       go true h = from_planned (operations_of words) 1 s no_plan refl t o h
       go false h = never (cc)
 
@@ -178,92 +180,54 @@ pub body_fits : (T : Tables) (s : Scope) (words : List ℕ) {before after : List
     → body_line (row_line row) n ≡ body_line_of r.answer → ShortLine (row_line row)
 body_fits T s words {before} d is = subst ShortLine (sym (ap (λ (l : BodyLine). l.numbers) (is ∙ d.answer))) (body_short T s words before)
 
-pub number_fits : {n : ℕ} {row : Row} → n ≤ 37 → row_line row ≡ line n 0 0 0 → ShortLine (row_line row)
-number_fits {n} le e =
-    let few : ShortLine (line n 0 0 0) = record { one = omega arith; two = omega arith; three = omega arith; four = omega arith } in
-    subst ShortLine (sym e) few
-
--- the numbers of what comes first
-words_small : (scheduler : ℕ) (words : List ℕ) {n : ℕ} → line n 0 0 0 ≡ tested_line (words_first scheduler words) → n ≤ 37
-unfolding words_first
-words_small scheduler words {n} e = go (leb scheduler 1) (is_body words) (ap (λ (l : Line). l.number) e)
-  where
-    go : (a b : Bool) → n ≡ (tested_line (cond a (cond b passed (Refusal.refused Refusal.not_a_body)) (Refusal.refused Refusal.layout_broken))).number → n ≤ 37
-    go true true h = omega arith
-    go true false h = omega arith
-    go false b h = omega arith
-
-marks_small : (T : Tables) (made : Result Scope MarkOutside) {n : ℕ} → line n 0 0 0 ≡ tested_line (marks_first T (conversion_of made)) → n ≤ 37
-unfolding marks_first
-marks_small T made {n} e = go (within_limits T) made (ap (λ (l : Line). l.number) e)
-  where
-    go : (a : Bool) (made : Result Scope MarkOutside) → n ≡ (tested_line (cond a (conversion_of made) (Refusal.refused Refusal.over_limit))).number → n ≤ 37
-    go true (Ok s) h = omega arith
-    go true (Err o) h = omega arith
-    go false made h = omega arith
-
-pub words_fit : (scheduler : ℕ) (words : List ℕ) {n : ℕ} {row : Row} → line n 0 0 0 ≡ tested_line (words_first scheduler words) → row_line row ≡ line n 0 0 0 → ShortLine (row_line row)
-words_fit scheduler words t e = number_fits (words_small scheduler words t) e
-
-pub marks_fit : (T : Tables) (made : Result Scope MarkOutside) {n : ℕ} {row : Row} → line n 0 0 0 ≡ tested_line (marks_first T (conversion_of made)) → row_line row ≡ line n 0 0 0 → ShortLine (row_line row)
-marks_fit T made t e = number_fits (marks_small T made t) e
-
 -- a refusal before the body
-refused_body : (m : ℕ) (t : Tested) (o : BodyOutcome) {n : ℕ} {row : Row} {marks buffer bufferExit words wordsExit : List ℕ} {r : ℕ} → line n 0 0 0 ≡ tested_line t → (n ≡ 0 → ⊥) → row_line row ≡ line n 0 0 0
-    → bufferExit ≡ replicate (length buffer) 0 → ToldBody (body_line (row_line row) m) words wordsExit r → BodyCalled (tested_or (refused_at m) t o) marks buffer words marks bufferExit wordsExit r
+refused_body : (m : ℕ) (t : Tested) (o : BodyOutcome) (x : GivenRefusal) {l : Line} {marks buffer bufferExit words wordsExit : List ℕ} {r : ℕ} → refused (given_refused x) ≡ t → l ≡ refusal_line (given_refused x)
+    → bufferExit ≡ replicate (length buffer) 0 → ToldBody (body_line l m) words wordsExit r → BodyCalled (tested_or (refused_at m) t o) marks buffer words marks bufferExit wordsExit r
 unfolding body_answered body_written marks_after
-refused_body m passed o e some is z d = absurd (some (ap (λ (l : Line). l.number) e))
-refused_body m (Refusal.refused a) o {words = words} {wordsExit = wordsExit} {r = r} e some is z d =
-    record { answer = subst (λ (l : Line). ToldBody (body_line l m) words wordsExit r) (is ∙ e) d; plan = z; kept = refl }
+refused_body m t o x {words = words} {wordsExit = wordsExit} {r = r} e is z d =
+    rw (← e) (record { answer = subst (λ (l : Line). ToldBody (body_line l m) words wordsExit r) is d; plan = z; kept = refl })
 
-module _ (T : Tables) (marks : List ℕ) (scheduler : ℕ) (lines : List ℕ) {unread : ℕ} (told-words : line unread 0 0 0 ≡ tested_line (words_first scheduler lines)) where
-  pub call_unread : {row : Row} {buffer bufferExit words wordsExit : List ℕ} {r : ℕ} → (unread ≡ 0 → ⊥) → row_line row ≡ line unread 0 0 0 → bufferExit ≡ replicate (length buffer) 0
-      → ToldBody (body_line (row_line row) 0) words wordsExit r → BodyCalled (body_call T marks scheduler lines buffer) marks buffer words marks bufferExit wordsExit r
+module _ (T : Tables) (marks : List ℕ) (scheduler : ℕ) (lines : List ℕ) {read : Result Unit GivenRefusal} (told-words : given_tested read ≡ words_first scheduler lines) where
+  pub call_unread : {x : GivenRefusal} {l : Line} {buffer bufferExit words wordsExit : List ℕ} {r : ℕ} → read ≡ Err x → l ≡ refusal_line (given_refused x) → bufferExit ≡ replicate (length buffer) 0
+      → ToldBody (body_line l 0) words wordsExit r → BodyCalled (body_call T marks scheduler lines buffer) marks buffer words marks bufferExit wordsExit r
   unfolding body_call
-  call_unread some is z d = refused_body 0 (words_first scheduler lines) _ told-words some is z d
+  call_unread {x} e is z d = refused_body 0 (words_first scheduler lines) _ x (sym (ap given_tested e) ∙ told-words) is z d
 
-  module _ (none : unread ≡ 0) {made : Result Scope MarkOutside} (from : ConvertedFrom (byte_scope_of marks scheduler) made) {before : ℕ} (told-marks : line before 0 0 0 ≡ tested_line (marks_first T (conversion_of made))) where
-    read : words_first scheduler lines ≡ passed
-    read = no_refusal (words_first scheduler lines) (rw none at told-words)
+  module _ {u : Unit} (all : read ≡ Ok u) {made : Result Scope MarkOutside} (from : ConvertedFrom (byte_scope_of marks scheduler) made) {given : Result Scope GivenRefusal} (told-marks : MarksTold T made given) where
+    is_read : words_first scheduler lines ≡ passed
+    is_read = sym told-words ∙ ap given_tested all
 
-    first_is : line before 0 0 0 ≡ tested_line (marks_first T (convertible (byte_scope_of marks scheduler)))
-    first_is = rw from.answer at told-marks
+    first_is : given_tested given ≡ marks_first T (convertible (byte_scope_of marks scheduler))
+    first_is = told-marks.told ∙ ap (marks_first T) from.answer
 
-    pub call_first : {row : Row} {buffer bufferExit words wordsExit : List ℕ} {r : ℕ} → (before ≡ 0 → ⊥) → row_line row ≡ line before 0 0 0 → bufferExit ≡ replicate (length buffer) 0
-        → ToldBody (body_line (row_line row) 1) words wordsExit r → BodyCalled (body_call T marks scheduler lines buffer) marks buffer words marks bufferExit wordsExit r
+    pub call_first : {x : GivenRefusal} {l : Line} {buffer bufferExit words wordsExit : List ℕ} {r : ℕ} → given ≡ Err x → l ≡ refusal_line (given_refused x) → bufferExit ≡ replicate (length buffer) 0
+        → ToldBody (body_line l 1) words wordsExit r → BodyCalled (body_call T marks scheduler lines buffer) marks buffer words marks bufferExit wordsExit r
     unfolding body_call
-    call_first some is z d = rw read (refused_body 1 (marks_first T (convertible (byte_scope_of marks scheduler))) _ first_is some is z d)
+    call_first {x} e is z d = rw is_read (refused_body 1 (marks_first T (convertible (byte_scope_of marks scheduler))) _ x (sym (ap given_tested e) ∙ first_is) is z d)
 
-    module _ (passes : before ≡ 0) where
+    module _ {s : Scope} (g : given ≡ Ok s) where
       first_passed : marks_first T (convertible (byte_scope_of marks scheduler)) ≡ passed
-      first_passed = no_refusal (marks_first T (convertible (byte_scope_of marks scheduler))) (rw passes at first_is)
+      first_passed = sym first_is ∙ ap given_tested g
 
-      marks_ok_lem : marks_ok (byte_scope_of marks scheduler) ≡ true
-      unfolding marks_first
-      marks_ok_lem = go (within_limits T) (marks_ok (byte_scope_of marks scheduler)) refl first_passed
-        where
-          go : (a b : Bool) → marks_ok (byte_scope_of marks scheduler) ≡ b → cond a (cond b passed (Refusal.refused Refusal.breaks_rules)) (Refusal.refused Refusal.over_limit) ≡ passed → marks_ok (byte_scope_of marks scheduler) ≡ true
-          go true true p h = p
-          go true false p h = never (cc)
-          go false b p h = never (cc)
-
-      scope_is : {s : Scope} → s ≡ given_scope made → s ≡ scope_of marks scheduler
-      scope_is e = converted_or_empty (byte_scope_of marks scheduler) from refl e ∙ rw marks_ok_lem refl
+      scope_is : s ≡ scope_of marks scheduler
+      scope_is =
+          let is = subst (λ (r : Result Scope GivenRefusal). IfOk r (λ (s : Scope). made ≡ Ok s)) g told-marks.scope in
+          subst (λ (r : Result Scope MarkOutside). IfOk r (λ (s : Scope). s ≡ scope_of marks scheduler)) is from.scope
 
       pub call_done : {done : BodyPlanned} {row : Row} {n : ℕ} {buffer bufferExit marksExit words wordsExit : List ℕ} {r : ℕ}
-          → {s : Scope} → s ≡ given_scope made → BodyAnswered (body_outcome T s lines buffer) s buffer bufferExit done
+          → BodyAnswered (body_outcome T s lines buffer) s buffer bufferExit done
           → body_line (row_line row) n ≡ body_line_of done.answer
           → marksExit ≡ cond (eqb row.number 0) (marks_in done.scope marks) marks
           → ToldBody (body_line (row_line row) n) words wordsExit r
           → BodyCalled (body_call T marks scheduler lines buffer) marks buffer words marksExit bufferExit wordsExit r
       unfolding body_call
-      call_done {done} {row} {n} {buffer} {bufferExit} {marksExit} {words} {wordsExit} {r} given was is m d =
+      call_done {done} {row} {n} {buffer} {bufferExit} {marksExit} {words} {wordsExit} {r} was is m d =
           let sc = scope_of marks scheduler in
           let o = body_outcome T sc lines buffer in
-          let body : BodyAnswered o sc buffer bufferExit done = subst (λ (s : Scope). BodyAnswered (body_outcome T s lines buffer) s buffer bufferExit done) (scope_is given) was in
+          let body : BodyAnswered o sc buffer bufferExit done = subst (λ (s : Scope). BodyAnswered (body_outcome T s lines buffer) s buffer bufferExit done) scope_is was in
           let line_is : body_line (row_line row) n ≡ body_answered o = is ∙ body.answer in
           let number_is : row.number ≡ (body_answered o).numbers.number = ap (λ (l : BodyLine). l.numbers.number) line_is in
-          rw (read, first_passed) (record {
+          rw (is_read, first_passed) (record {
             answer = subst (λ (l : BodyLine). ToldBody l words wordsExit r) line_is d;
             plan = body.buffer;
             kept =

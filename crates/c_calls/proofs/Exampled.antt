@@ -5,11 +5,13 @@ use mathlib.Core.Bool.{Bool, true, false, not, ◌&&◌, cond, false≢true}
 use mathlib.Core.List.{List}
 use Rattle.std.proofs.Common.{Option, Some, None, Result, Ok, Err}
 use native.Mathlib.Omega.{arith}
+use Rattle.std.specs.Prelude.{IsErrAnd}
+use Rattle.std.proofs.lemmas.Result.{err_from_is_err_and}
 use borrow.Author.Tests.{leb-true}
 use lib.Dec.{leb}
 use lib.ListN.{length, replicate}
 use Rattle.base.specs.Refusal as Refusal
-use Rattle.base.specs.Refusal.{layout_broken, breaks_rules, over_limit, value_too_large, Tested, passed, require, tested_or, Line, line, refusal_line, tested_line}
+use Rattle.base.specs.Refusal.{layout_broken, breaks_rules, over_limit, value_too_large, Tested, passed, require, tested_or, Line, line, refusal_line}
 use Rattle.scope.specs.declared.Scope.{Scope}
 use Rattle.scope.specs.declared.MarkOutside.{MarkOutside}
 use Rattle.scope.proofs.Agreeing.{converted_or_empty}
@@ -41,9 +43,10 @@ use Rattle.common_example.specs.Operations.{PatternSide, side_checked, child_ent
 use Rattle.common_example.specs.Common.{example_refused, example_result, pattern_side, Gives, example_tested, SideChecked}
 use Rattle.common_example.proofs.written.Sizes.{entries_size}
 use Rattle.c_calls.specs.declared.examples.HostSide.{HostSide}
-use Rattle.c_calls.specs.Given.{byte_scope_of, scope_of, given_scope, pattern_numbers, tested_first, given_first, GivenTold}
+use Rattle.c_calls.specs.declared.given.GivenRefusal.{GivenRefusal}
+use Rattle.c_calls.specs.declared.given.GivenRefusal.TheVariants.{LayoutBroken}
+use Rattle.c_calls.specs.Given.{byte_scope_of, scope_of, given_scope, pattern_numbers, tested_first, given_first, given_refused, given_tested, GivenTold}
 use Rattle.c_calls.specs.Examples.{GivenSide, numbers_in, side_in, example_call, example_line, ExampleCalled, OfHost, ExampleFirst, SecondRefused, marked_outcome}
-use Rattle.c_calls.proofs.Called.{no_refusal}
 
 -- 1. the four numbers
 pub side_is : (answer : SideRefusal) {a : SideRefusal} {l : Line} → answer ≡ a → l ≡ refusal_line (side_refused a) → l ≡ refusal_line (side_refused answer)
@@ -66,11 +69,18 @@ host_is marks scheduler scoping pattern from given asked mode = record { made = 
 
 -- 3. what comes first
 module _ (T : Tables) {h₁ h₂ : HostSide} {l : Bool} (listed : l ≡ are_listed h₂.asked) where
-  pub first_unlisted : not l ≡ true → ExampleFirst T h₁ h₂ 7
-  first_unlisted t = record { told = rw (told_no listed t); small = omega arith }
+  pub first_unlisted : not l ≡ true → ExampleFirst T h₁ h₂ (Err LayoutBroken)
+  first_unlisted t = record { told = rw (told_no listed t) refl }
 
-  pub first_listed : not l ≡ false → {r : ℕ} → GivenTold T (conversion_of h₁.made) h₁.asked r → ExampleFirst T h₁ h₂ r
-  first_listed t g = record { told = rw (told_yes listed t) g.told; small = g.small }
+  module _ (t : not l ≡ false) {given : Result Scope GivenRefusal} (g : GivenTold T h₁.made h₁.asked given) where
+    first_as : {r : Result Unit GivenRefusal} → given_tested r ≡ given_tested given → ExampleFirst T h₁ h₂ r
+    first_as e = record { told = rw (told_yes listed t) (e ∙ g.told) }
+
+    pub first_refused : {x : GivenRefusal} → given ≡ Err x → {r : Result Unit GivenRefusal} → IsErrAnd r (λ y. y ≡ x) → ExampleFirst T h₁ h₂ r
+    first_refused e {r} gives = let i = err_from_is_err_and r gives in first_as (rw (i.1, i.2, e) refl)
+
+    pub first_passed : {s : Scope} {u : Unit} → given ≡ Ok s → ExampleFirst T h₁ h₂ (Ok u)
+    first_passed e = first_as (sym (ap given_tested e))
 
 -- 4. marks of the second side above 31
 module _ {T : Tables} {s : PatternSide} {c : Result Unit ExampleRefusal} (i : SideChecked T s c) where
@@ -137,30 +147,29 @@ answer_short T o out kids few (Err ValueTooLarge) e = short (omega arith) (omega
 
 -- 6. the call
 module _ (T : Tables) {marks₁ marks₂ : List ℕ} {scheduler₁ scoping₁ pattern₁ scheduler₂ scoping₂ pattern₂ : ℕ} {h₁ h₂ : HostSide}
-    (of₁ : OfHost marks₁ scheduler₁ scoping₁ pattern₁ h₁) (of₂ : OfHost marks₂ scheduler₂ scoping₂ pattern₂ h₂) {before : ℕ} (first : ExampleFirst T h₁ h₂ before) (values₁ values₂ : List ℕ) where
+    (of₁ : OfHost marks₁ scheduler₁ scoping₁ pattern₁ h₁) (of₂ : OfHost marks₂ scheduler₂ scoping₂ pattern₂ h₂) {given : Result Unit GivenRefusal} (first : ExampleFirst T h₁ h₂ given) (values₁ values₂ : List ℕ) where
   abbrev g₁ : GivenSide
   g₁ = record { marks = marks₁; scheduler = scheduler₁; scoping = scoping₁; pattern = pattern₁; values = values₁ }
 
   abbrev g₂ : GivenSide
   g₂ = record { marks = marks₂; scheduler = scheduler₂; scoping = scoping₂; pattern = pattern₂; values = values₂ }
 
-  first_is : line before 0 0 0 ≡ tested_line (tested_or Refusal.refused (require (are_listed (numbers_in g₂)) layout_broken passed) (given_first T marks₁ (numbers_in g₁)))
+  first_is : given_tested given ≡ tested_or Refusal.refused (require (are_listed (numbers_in g₂)) layout_broken passed) (given_first T marks₁ (numbers_in g₁))
   first_is = rw (of₁.made, of₁.asked, of₂.asked) at first.told
 
   module _ {out kids out' kids' words words' : List ℕ} {r : ℕ} where
-    pub example_first : (before ≡ 0 → ⊥) → out' ≡ replicate (length out) 0 → kids' ≡ replicate (length kids) 0 → Told (line before 0 0 0) words words' r
+    pub example_first : {x : GivenRefusal} → given ≡ Err x → out' ≡ replicate (length out) 0 → kids' ≡ replicate (length kids) 0 → Told (refusal_line (given_refused x)) words words' r
         → ExampleCalled T (example_call T g₁ g₂) out kids words out' kids' words' r
     unfolding example_call example_answer nodes_after children_after
-    example_first there f g d = go (require (are_listed (numbers_in g₂)) layout_broken passed) (given_first T marks₁ (numbers_in g₁)) _ first_is
+    example_first {x} e f g d = go (require (are_listed (numbers_in g₂)) layout_broken passed) (given_first T marks₁ (numbers_in g₁)) _ (sym first_is ∙ ap given_tested e)
       where
-        go : (t u : Tested) (o : ExampleOutcome) → line before 0 0 0 ≡ tested_line (tested_or Refusal.refused t u) → ExampleCalled T (tested_or refused t (tested_or refused u o)) out kids words out' kids' words' r
-        go passed passed o e = absurd (there (ap (λ (l : Line). l.number) e))
-        go passed (Refusal.refused x) o e = record { answer = subst (λ (l : Line). Told l words words' r) e d; nodes_are = f; children_are = g }
-        go (Refusal.refused x) u o e = record { answer = subst (λ (l : Line). Told l words words' r) e d; nodes_are = f; children_are = g }
+        go : (t u : Tested) (o : ExampleOutcome) → tested_or Refusal.refused t u ≡ Refusal.refused (given_refused x) → ExampleCalled T (tested_or refused t (tested_or refused u o)) out kids words out' kids' words' r
+        go passed u o e = rw e (record { answer = d; nodes_are = f; children_are = g })
+        go (Refusal.refused y) u o e = let q : y ≡ given_refused x = cc in record { answer = rw q d; nodes_are = f; children_are = g }
 
-  module _ (zero : before ≡ 0) where
+  module _ {u : Unit} (none : given ≡ Ok u) where
     all_passed : tested_or Refusal.refused (require (are_listed (numbers_in g₂)) layout_broken passed) (given_first T marks₁ (numbers_in g₁)) ≡ passed
-    all_passed = no_refusal (tested_or Refusal.refused (require (are_listed (numbers_in g₂)) layout_broken passed) (given_first T marks₁ (numbers_in g₁))) (rw zero at first_is)
+    all_passed = sym first_is ∙ ap given_tested none
 
     -- what passed: both sides' numbers, the limits, the first side's marks
     record Let : Type 0 where

@@ -6,13 +6,11 @@ use mathlib.Core.Logic.{inl, inr}
 use native.Mathlib.Omega.{arith}
 use lib.Dec.{T as True}
 use Rattle.base.specs.Lists.{elem}
-use Rattle.base.specs.Refusal.{Line, line, tested_or, tested_line, Tested, passed, refusal_line}
-use Rattle.base.specs.Refusal as Tested
+use Rattle.base.specs.Refusal.{Line, line, tested_or, Tested, refusal_line}
 use Rattle.scope.specs.declared.Scope.{Scope}
 use Rattle.scope.specs.declared.ScopingMode.{ScopingMode}
 use Rattle.scope.specs.declared.MarkOutside.{MarkOutside}
-use Rattle.std.specs.Prelude.{Result}
-use Rattle.scope.specs.Bytes.{ConvertedFrom, conversion_of}
+use Rattle.scope.specs.Bytes.{ConvertedFrom}
 use Rattle.table.specs.Tables.{Tables}
 use Rattle.table.specs.Decode.{expr}
 use Rattle.table.specs.Expr.{parts}
@@ -25,7 +23,7 @@ use Rattle.operation.specs.declared.numbers.OperationNumbers.{OperationNumbers}
 use Rattle.operation.specs.declared.row.Row.{Row}
 use Rattle.operation.specs.Numbers.{scoping_of}
 use Rattle.operation.specs.Rows.{row_line, Told}
-use Rattle.std.proofs.Common.{Option, Result, Err}
+use Rattle.std.proofs.Common.{Option, Result, Ok, Err}
 use Rattle.run.specs.declared.RunRefusal.{RunRefusal}
 use Rattle.run.specs.Answer.{run_refusal}
 use Rattle.run.specs.Operations.{RunOutcome, run_outcome}
@@ -40,10 +38,11 @@ use Rattle.first_miss.specs.Answer.{MissResult, turned_back_lem, no_match_lem, m
 use Rattle.first_miss.specs.Operations.{carried_result, after_checks, miss_found, miss_result, MissTold}
 use Rattle.first_miss.proofs.Answered.{no_fault, result_is}
 use Rattle.first_miss.proofs.Promised.{promised}
-use Rattle.c_calls.specs.Given.{byte_scope_of, scope_of, given_scope, pattern_numbers, given_first, GivenTold}
+use Rattle.c_calls.specs.declared.given.GivenRefusal.{GivenRefusal}
+use Rattle.c_calls.specs.Given.{byte_scope_of, scope_of, pattern_numbers, given_first, given_refused, GivenTold}
 use Rattle.c_calls.specs.Misses.{why_number, miss_line, miss_call, MissCalled}
 use Rattle.c_calls.proofs.Shortness.{ShortRun, run_outcome_short}
-use Rattle.c_calls.proofs.Called.{some_refusal, pattern_first, pattern_passed, pattern_scope}
+use Rattle.c_calls.proofs.Called.{pattern_refused, pattern_passed, pattern_scope}
 
 -- 1. The four numbers
 pub miss_is : (answer : Result (Option Miss) RunRefusal) {a : Result (Option Miss) RunRefusal} {l : Line} → answer ≡ a → l ≡ miss_line (miss_result_of a) → l ≡ miss_line (miss_result_of answer)
@@ -103,21 +102,21 @@ miss_fits T s mode pattern value {values} t is = subst ShortLine (sym (is ∙ ap
 
 -- 3. The call
 module _ (T : Tables) (marks : List ℕ) (scheduler scoping pattern : ℕ) {o : OperationNumbers} (asked : o ≡ pattern_numbers scheduler scoping pattern) {made : Result Scope MarkOutside}
-    (from : ConvertedFrom (byte_scope_of marks scheduler) made) {before : ℕ} (told : GivenTold T (conversion_of made) o before) (value : ℕ) (values : List ℕ) where
-  pub miss_refused : {words wordsExit : List ℕ} {r : ℕ} → (before ≡ 0 → ⊥) → Told (line before 0 0 0) words wordsExit r → MissCalled (miss_call T marks scheduler scoping pattern value values) words wordsExit r
-  miss_refused {words} {wordsExit} {r} some done = go (given_first T marks (pattern_numbers scheduler scoping pattern)) refl
-    where
-      go : (t : Tested) → given_first T marks (pattern_numbers scheduler scoping pattern) ≡ t → MissCalled (miss_call T marks scheduler scoping pattern value values) words wordsExit r
-      go passed is = absurd (some_refusal (given_first T marks (pattern_numbers scheduler scoping pattern)) (pattern_first T marks scheduler scoping pattern asked from told) some (ap tested_line is))
-      go (Tested.refused x) is =
-          let q : miss_call T marks scheduler scoping pattern value values ≡ turned_back_lem x = ap (λ (t : Tested). tested_or turned_back_lem t (miss_result T (scope_of marks scheduler) (scoping_of scoping) pattern value values)) is in
-          record { answer = subst (λ (l : Line). Told l words wordsExit r) (pattern_first T marks scheduler scoping pattern asked from told ∙ (ap tested_line is ∙ sym (ap miss_line q))) done }
+    (from : ConvertedFrom (byte_scope_of marks scheduler) made) {given : Result Scope GivenRefusal} (told : GivenTold T made o given) (value : ℕ) (values : List ℕ) where
+  by_first : {t : Tested} → given_first T marks (pattern_numbers scheduler scoping pattern) ≡ t
+      → miss_call T marks scheduler scoping pattern value values ≡ tested_or turned_back_lem t (miss_result T (scope_of marks scheduler) (scoping_of scoping) pattern value values)
+  by_first = ap (λ (t : Tested). tested_or turned_back_lem t (miss_result T (scope_of marks scheduler) (scoping_of scoping) pattern value values))
 
-  pub miss_done : {words wordsExit : List ℕ} {mode : ScopingMode} {answer : Result (Option Miss) RunRefusal} {row : Row} {r : ℕ} {s : Scope} → before ≡ 0 → s ≡ given_scope made → mode ≡ scoping_of scoping
+  pub miss_refused : {x : GivenRefusal} {words wordsExit : List ℕ} {r : ℕ} → given ≡ Err x → Told (refusal_line (given_refused x)) words wordsExit r
+      → MissCalled (miss_call T marks scheduler scoping pattern value values) words wordsExit r
+  miss_refused {x} {words} {wordsExit} {r} e done =
+      let q = by_first (pattern_refused T marks scheduler scoping pattern asked from told e) in
+      record { answer = subst (λ (l : Line). Told l words wordsExit r) (sym (ap miss_line q)) done }
+
+  pub miss_done : {words wordsExit : List ℕ} {mode : ScopingMode} {answer : Result (Option Miss) RunRefusal} {row : Row} {r : ℕ} {s : Scope} → given ≡ Ok s → mode ≡ scoping_of scoping
       → MissTold T s mode pattern value values answer → row_line row ≡ miss_line (miss_result_of answer) → Told (row_line row) words wordsExit r
       → MissCalled (miss_call T marks scheduler scoping pattern value values) words wordsExit r
-  miss_done {words} {wordsExit} {r = r} none given m t is done =
-      let was = rw (pattern_scope T marks scheduler scoping pattern asked from told none given, m) at t in
-      let q : miss_call T marks scheduler scoping pattern value values ≡ miss_result T (scope_of marks scheduler) (scoping_of scoping) pattern value values =
-      ap (λ (t : Tested). tested_or turned_back_lem t (miss_result T (scope_of marks scheduler) (scoping_of scoping) pattern value values)) (pattern_passed T marks scheduler scoping pattern asked from told none) in
+  miss_done {words} {wordsExit} {r = r} g m t is done =
+      let was = rw (pattern_scope T marks scheduler scoping pattern asked from told g, m) at t in
+      let q = by_first (pattern_passed T marks scheduler scoping pattern asked from told g) in
       record { answer = subst (λ (l : Line). Told l words wordsExit r) (is ∙ (ap miss_line was.answer ∙ sym (ap miss_line q))) done }

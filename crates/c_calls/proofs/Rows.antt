@@ -1,7 +1,7 @@
 -- An answer's numbers.
-use Prim.Native.Nat.{ℕ, ◌≤◌}
+use Prim.Native.Nat.{ℕ}
 use mathlib.Core.List.{List}
-use mathlib.Core.Path.{◌≡◌}
+use mathlib.Core.Path.{◌≡◌, ap, ◌∙◌}
 use native.Mathlib.Omega.{arith}
 use Rattle.std.proofs.Common.{Result, Err}
 use Rattle.base.specs.Refusal.{Line, line, refusal_line}
@@ -18,6 +18,9 @@ use Rattle.report.specs.declared.ReportRefusal.TheVariants as Report
 use Rattle.report.specs.Answer.{report_line}
 use Rattle.operation.specs.Rows.{Told}
 use Rattle.operation.proofs.RowLaws.{table_row}
+use Rattle.c_calls.specs.declared.given.GivenRefusal.{GivenRefusal}
+use Rattle.c_calls.specs.declared.given.GivenRefusal.TheVariants.{LayoutBroken, NotABody, OverLimit, BreaksRules}
+use Rattle.c_calls.specs.Given.{given_refused}
 use Rattle.c_calls.specs.Calls.{ran_line}
 
 pub run_is : (answer : Result RunAnswer RunRefusal) {a : Result RunAnswer RunRefusal} {l : Line} → answer ≡ a → l ≡ ran_line (result_of a) → l ≡ ran_line (result_of answer)
@@ -35,9 +38,21 @@ report_is answer e is = rw e is
 pub report_table : (answer : Result Unit ReportRefusal) {t : TableRefusal} {l : Line} {n : ℕ} → answer ≡ Err (Report.TableRefused t) → n ≡ (table_refused t).number → l ≡ line n 0 0 0 → l ≡ report_line answer
 report_table answer {t} e n is = rw e (table_row t n is)
 
--- a number, no place and no counts
-pub number_short : (n : ℕ) {l : Line} → n ≤ 7 → l ≡ line n 0 0 0 → ShortLine l
-number_short n small e = rw e (short (omega arith) (omega arith) (omega arith) (omega arith))
+-- a refusal before an operation: a number, no place and no counts
+pub given_row : (r : GivenRefusal) {n : ℕ} {l : Line} → n ≡ (given_refused r).number → l ≡ line n 0 0 0 → l ≡ refusal_line (given_refused r)
+given_row LayoutBroken n is = is ∙ ap (λ (m : ℕ). line m 0 0 0) n
+given_row NotABody n is = is ∙ ap (λ (m : ℕ). line m 0 0 0) n
+given_row OverLimit n is = is ∙ ap (λ (m : ℕ). line m 0 0 0) n
+given_row BreaksRules n is = is ∙ ap (λ (m : ℕ). line m 0 0 0) n
 
-pub number_told : (n : ℕ) {l : Line} {before after : List ℕ} {r : ℕ} → l ≡ line n 0 0 0 → Told l before after r → Told (line n 0 0 0) before after r
-number_told n e done = rw e at done
+given_short : (r : GivenRefusal) → ShortLine (refusal_line (given_refused r))
+given_short LayoutBroken = short (omega arith) (omega arith) (omega arith) (omega arith)
+given_short NotABody = short (omega arith) (omega arith) (omega arith) (omega arith)
+given_short OverLimit = short (omega arith) (omega arith) (omega arith) (omega arith)
+given_short BreaksRules = short (omega arith) (omega arith) (omega arith) (omega arith)
+
+pub given_fits : (r : GivenRefusal) {l : Line} → l ≡ refusal_line (given_refused r) → ShortLine l
+given_fits r e = rw e (given_short r)
+
+pub given_told : (r : GivenRefusal) {l : Line} {before after : List ℕ} {n : ℕ} → l ≡ refusal_line (given_refused r) → Told l before after n → Told (refusal_line (given_refused r)) before after n
+given_told r e done = rw e at done

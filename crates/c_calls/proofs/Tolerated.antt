@@ -1,19 +1,17 @@
 -- The run with tolerances: its four numbers, that they fit in the words, and the call.
 use Prim.Native.Nat.{ℕ, ◌≤◌}
-use mathlib.Core.Path.{◌≡◌, refl, sym, ap, subst, ◌∙◌}
+use mathlib.Core.Path.{◌≡◌, sym, ap, subst, ◌∙◌}
 use mathlib.Core.List.{List}
 use mathlib.Core.Logic.{inl, inr}
 use mathlib.Core.Bool.{Bool, true, false, cond}
 use native.Mathlib.Omega.{arith}
 use lib.Dec.{T as True}
 use lib.ListN.{length, replicate}
-use Rattle.base.specs.Refusal.{plan_too_large, require_or, Line, line, tested_or, tested_line, Tested, passed, range_wrong, refusal_line}
-use Rattle.base.specs.Refusal as Tested
+use Rattle.base.specs.Refusal.{plan_too_large, require_or, Line, tested_or, Tested, range_wrong, refusal_line}
 use Rattle.scope.specs.declared.Scope.{Scope}
 use Rattle.scope.specs.declared.ScopingMode.{ScopingMode}
 use Rattle.scope.specs.declared.MarkOutside.{MarkOutside}
-use Rattle.std.specs.Prelude.{Result}
-use Rattle.scope.specs.Bytes.{ConvertedFrom, conversion_of}
+use Rattle.scope.specs.Bytes.{ConvertedFrom}
 use Rattle.table.specs.Tables.{Tables}
 use Rattle.planner.specs.Layout.{top, entries}
 use Rattle.planner.specs.Operations.{plan_of, fits}
@@ -23,7 +21,7 @@ use Rattle.operation.specs.declared.numbers.OperationNumbers.{OperationNumbers}
 use Rattle.operation.specs.declared.row.Row.{Row}
 use Rattle.operation.specs.Numbers.{scoping_of}
 use Rattle.operation.specs.Rows.{row_line, Told}
-use Rattle.std.proofs.Common.{Result, Err}
+use Rattle.std.proofs.Common.{Result, Ok, Err}
 use Rattle.run.specs.declared.RunRefusal.{RunRefusal}
 use Rattle.run.specs.Answer.{run_refusal}
 use Rattle.run.specs.Operations.{RunOutcome, run_outcome}
@@ -35,11 +33,12 @@ use Rattle.tolerance.specs.Answer.{turned_back_lem, answers, tolerance_result_of
 use Rattle.tolerance.specs.Operations as Tolerance
 use Rattle.tolerance.specs.Operations.{ToleranceOutcome, judged, after_checks, with_lowest, ranges_ok, tolerance_outcome, tolerance_result, plan_left, values_left, is_judged, Judged}
 use Rattle.run.proofs.Refusing.{run_passed, Verdict, verdict}
-use Rattle.c_calls.specs.Given.{byte_scope_of, scope_of, given_scope, pattern_numbers, given_first, GivenTold}
+use Rattle.c_calls.specs.declared.given.GivenRefusal.{GivenRefusal}
+use Rattle.c_calls.specs.Given.{byte_scope_of, scope_of, pattern_numbers, given_first, given_refused, GivenTold}
 use Rattle.c_calls.specs.Calls.{names_set}
 use Rattle.c_calls.specs.Tolerating.{tolerance_line, tolerance_call, Tolerated}
 use Rattle.c_calls.proofs.Shortness.{ShortRun, run_outcome_short}
-use Rattle.c_calls.proofs.Called.{some_refusal, pattern_first, pattern_passed, pattern_scope}
+use Rattle.c_calls.proofs.Called.{pattern_refused, pattern_passed, pattern_scope}
 
 -- 1. The four numbers
 pub tolerance_is : (answer : Result ToleranceAnswer ToleranceRefusal) {a : Result ToleranceAnswer ToleranceRefusal} {l : Line} → answer ≡ a → l ≡ tolerance_line (tolerance_result_of a) → l ≡ tolerance_line (tolerance_result_of answer)
@@ -88,33 +87,32 @@ tolerance_fits T s mode pattern value {values} {lows} {highs} {buffer} j is =
     subst ShortLine (sym (is ∙ ap tolerance_line j.told)) (tolerance_short T s mode pattern value values lows highs j.answer buffer)
 
 -- 3. The call
+by_first : (T : Tables) (marks : List ℕ) (scheduler scoping pattern value : ℕ) (values lows highs : List ℕ) (a : Answer) {t : Tested} → given_first T marks (pattern_numbers scheduler scoping pattern) ≡ t
+    → tolerance_call T marks scheduler scoping pattern value values lows highs a ≡ tested_or Tolerance.refused t (tolerance_outcome T (scope_of marks scheduler) (scoping_of scoping) pattern value values lows highs a)
+by_first T marks scheduler scoping pattern value values lows highs a =
+    ap (λ (t : Tested). tested_or Tolerance.refused t (tolerance_outcome T (scope_of marks scheduler) (scoping_of scoping) pattern value values lows highs a))
+
 module _ (T : Tables) (marks : List ℕ) (scheduler scoping pattern : ℕ) {o : OperationNumbers} (asked : o ≡ pattern_numbers scheduler scoping pattern) {made : Result Scope MarkOutside}
-    (from : ConvertedFrom (byte_scope_of marks scheduler) made) {before : ℕ} (told : GivenTold T (conversion_of made) o before) (value : ℕ) {values lows highs buffer : List ℕ} where
-  pub tolerance_refused : {bufferExit words wordsExit : List ℕ} {r : ℕ} → (before ≡ 0 → ⊥) → bufferExit ≡ replicate (length buffer) 0 → Told (line before 0 0 0) words wordsExit r
+    (from : ConvertedFrom (byte_scope_of marks scheduler) made) {given : Result Scope GivenRefusal} (told : GivenTold T made o given) (value : ℕ) {values lows highs buffer : List ℕ} where
+  pub tolerance_refused : {x : GivenRefusal} {bufferExit words wordsExit : List ℕ} {r : ℕ} → given ≡ Err x → bufferExit ≡ replicate (length buffer) 0 → Told (refusal_line (given_refused x)) words wordsExit r
       → Tolerated T marks scheduler scoping pattern value values lows highs buffer words values bufferExit wordsExit r
   unfolding tolerance_result plan_left values_left
-  tolerance_refused {bufferExit} {words} {wordsExit} {r} some zeros done = go (given_first T marks (pattern_numbers scheduler scoping pattern)) refl
-    where
-      go : (t : Tested) → given_first T marks (pattern_numbers scheduler scoping pattern) ≡ t → Tolerated T marks scheduler scoping pattern value values lows highs buffer words values bufferExit wordsExit r
-      go passed is = absurd (some_refusal (given_first T marks (pattern_numbers scheduler scoping pattern)) (pattern_first T marks scheduler scoping pattern asked from told) some (ap tested_line is))
-      go (Tested.refused x) is =
-          let q : tolerance_call T marks scheduler scoping pattern value values lows highs never ≡ Tolerance.refused x = ap (λ (t : Tested). tested_or Tolerance.refused t (tolerance_outcome T (scope_of marks scheduler) (scoping_of scoping) pattern value values lows highs never)) is in
-          record {
-            answer = never;
-            means = λ t. absurd (subst (λ (o : ToleranceOutcome). True (is_judged o)) q t);
-            told = subst (λ (l : Line). Told l words wordsExit r)
-                (pattern_first T marks scheduler scoping pattern asked from told ∙ (ap tested_line is ∙ sym (ap (λ (o : ToleranceOutcome). tolerance_line (tolerance_result o buffer)) q))) done;
-            plan = zeros ∙ sym (ap (λ (o : ToleranceOutcome). plan_left o buffer) q);
-            list = sym (ap (λ (o : ToleranceOutcome). values_left (names_set T marks scheduler scoping pattern) o buffer values) q);
-          }
+  tolerance_refused {words = words} {wordsExit = wordsExit} {r = r} e zeros done =
+      let q = by_first T marks scheduler scoping pattern value values lows highs never (pattern_refused T marks scheduler scoping pattern asked from told e) in
+      record {
+        answer = never;
+        means = λ t. absurd (subst (λ (o : ToleranceOutcome). True (is_judged o)) q t);
+        told = subst (λ (l : Line). Told l words wordsExit r) (sym (ap (λ (o : ToleranceOutcome). tolerance_line (tolerance_result o buffer)) q)) done;
+        plan = zeros ∙ sym (ap (λ (o : ToleranceOutcome). plan_left o buffer) q);
+        list = sym (ap (λ (o : ToleranceOutcome). values_left (names_set T marks scheduler scoping pattern) o buffer values) q);
+      }
 
-  pub tolerance_done : {valuesExit bufferExit words wordsExit : List ℕ} {mode : ScopingMode} {answer : Result ToleranceAnswer ToleranceRefusal} {row : Row} {r : ℕ} {s : Scope} → before ≡ 0 → s ≡ given_scope made → mode ≡ scoping_of scoping
+  pub tolerance_done : {valuesExit bufferExit words wordsExit : List ℕ} {mode : ScopingMode} {answer : Result ToleranceAnswer ToleranceRefusal} {row : Row} {r : ℕ} {s : Scope} → given ≡ Ok s → mode ≡ scoping_of scoping
       → Judged T s mode pattern value values lows highs buffer valuesExit bufferExit answer → row_line row ≡ tolerance_line (tolerance_result_of answer) → Told (row_line row) words wordsExit r
       → Tolerated T marks scheduler scoping pattern value values lows highs buffer words valuesExit bufferExit wordsExit r
-  tolerance_done {valuesExit} {bufferExit} {words} {wordsExit} {r = r} none given m j is done =
-      let was = rw (pattern_scope T marks scheduler scoping pattern asked from told none given, m) at j in
-      let q : tolerance_call T marks scheduler scoping pattern value values lows highs was.answer ≡ tolerance_outcome T (scope_of marks scheduler) (scoping_of scoping) pattern value values lows highs was.answer =
-      ap (λ (t : Tested). tested_or Tolerance.refused t (tolerance_outcome T (scope_of marks scheduler) (scoping_of scoping) pattern value values lows highs was.answer)) (pattern_passed T marks scheduler scoping pattern asked from told none) in
+  tolerance_done {valuesExit} {bufferExit} {words} {wordsExit} {r = r} g m j is done =
+      let was = rw (pattern_scope T marks scheduler scoping pattern asked from told g, m) at j in
+      let q = by_first T marks scheduler scoping pattern value values lows highs was.answer (pattern_passed T marks scheduler scoping pattern asked from told g) in
       record {
         answer = was.answer;
         means = λ t. was.means (subst (λ (o : ToleranceOutcome). True (is_judged o)) q t);

@@ -1,17 +1,19 @@
 -- The call for a rule body (request 14 of document 02): what is refused first, the answer's five numbers in the lent words, the plan buffer and the marks afterwards.
-use Rattle.std.specs.Prelude.{ℕ, ◌≡◌, cond, List, leb, ltb, length, get_or, set}
+use Rattle.std.specs.Prelude.{ℕ, ◌≡◌, cond, List, leb, ltb, length, get_or, set, Result, Ok, IfOk}
 use Rattle.base.specs.Lists.{tabulate}
 use Rattle.base.specs.Lent.{Slices, MutSlices, old, new}
 use Rattle.base.specs.Refusal.{over_limit, layout_broken, not_a_body, Tested, passed, require, tested_or}
 use Rattle.scope.specs.declared.Scope.{Scope}
+use Rattle.scope.specs.declared.MarkOutside.{MarkOutside}
 use Rattle.scope.specs.Bytes as Bytes
-use Rattle.scope.specs.Bytes.{convertible}
+use Rattle.scope.specs.Bytes.{conversion_of, convertible}
 use Rattle.table.specs.Tables.{Tables}
 use Rattle.table.specs.Rules.{within_limits}
 use Rattle.operation.specs.Rows.{told}
 use Rattle.body.specs.Lines.{is_body}
 use Rattle.body.specs.Body.{BodyOutcome, refused_at, accepted, body_outcome, BodyLine, body_answered, body_written}
-use Rattle.c_calls.specs.Given.{byte_scope_of, scope_of}
+use Rattle.c_calls.specs.declared.given.GivenRefusal.{GivenRefusal}
+use Rattle.c_calls.specs.Given.{byte_scope_of, scope_of, given_tested}
 
 -- 7 for a scheduler that is not listed, then 37: of no line
 unfoldable pub words_first : ℕ → List ℕ → Tested
@@ -43,6 +45,11 @@ marks_in s marks = tabulate (mark_at (Bytes.to_bytes s).marks marks) 0 (length m
 unfoldable pub marks_after : BodyOutcome → List ℕ → List ℕ
 marks_after (refused_at n r) marks = marks
 marks_after (accepted s last) marks = marks_in s marks
+
+-- what the code says of 1 and 2: the refusal, or the scope that the marks were made into
+pub record MarksTold (T : Tables) (made : Result Scope MarkOutside) (r : Result Scope GivenRefusal) : Type 0 where
+  pub told : given_tested r ≡ marks_first T (conversion_of made)
+  pub scope : IfOk r (λ s. made ≡ Ok s)
 
 pub record ToldBody (l : BodyLine) (before after : List ℕ) (r : ℕ) : Type 0 where
   pub result : r ≡ l.numbers.number

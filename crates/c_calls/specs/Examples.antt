@@ -1,8 +1,8 @@
 -- The call for the common example (request 13 of document 02): what is given of each side, the refusals in their order, the answer's four numbers in the lent words and the two lists afterwards.
-use Rattle.std.specs.Prelude.{ℕ, ◌≤◌, ◌≡◌, List, Option, Result}
+use Rattle.std.specs.Prelude.{ℕ, ◌≡◌, List, Option, Result}
 use Rattle.base.specs.Lent.{Slices, MutSlices, old, new}
 use Rattle.base.specs.Refusal as Refusal
-use Rattle.base.specs.Refusal.{breaks_rules, layout_broken, Tested, passed, require, tested_or, Line, line, refusal_line, tested_line}
+use Rattle.base.specs.Refusal.{breaks_rules, layout_broken, Tested, passed, require, tested_or, Line, line, refusal_line}
 use Rattle.scope.specs.Bytes.{conversion_of, convertible, converted}
 use Rattle.table.specs.Tables.{Tables}
 use Rattle.operation.specs.declared.numbers.OperationNumbers.{OperationNumbers}
@@ -14,7 +14,8 @@ use Rattle.common_example.specs.declared.sides.ScopedPattern.{ScopedPattern}
 use Rattle.common_example.specs.Operations.{PatternSide, side_checked, ExampleOutcome, refused, example_from, ExampleResult, turned_back_lem, no_example, found, example_answer, nodes_after, children_after}
 use Rattle.common_example.specs.Common.{example_refused, pattern_side, Gives}
 use Rattle.c_calls.specs.declared.examples.HostSide.{HostSide}
-use Rattle.c_calls.specs.Given.{byte_scope_of, scope_of, pattern_numbers, tested_first, given_first}
+use Rattle.c_calls.specs.declared.given.GivenRefusal.{GivenRefusal}
+use Rattle.c_calls.specs.Given.{byte_scope_of, scope_of, pattern_numbers, tested_first, given_first, given_tested}
 
 -- what a C host gives of a side
 pub record GivenSide : Type 0 where
@@ -66,10 +67,9 @@ pub record OfHost (marks : List ℕ) (scheduler scoping pattern : ℕ) (h : Host
   pub root : h.pattern.root ≡ pattern
   pub asked : h.asked ≡ pattern_numbers scheduler scoping pattern
 
--- the number of what comes before both sides' own refusals, or 0;
-pub record ExampleFirst (T : Tables) (first second : HostSide) (r : ℕ) : Type 0 where
-  pub told : line r 0 0 0 ≡ tested_line (tested_or Refusal.refused (require (are_listed second.asked) layout_broken passed) (tested_first T (conversion_of first.made) first.asked))
-  pub small : r ≤ 7
+-- what comes before both sides' own refusals;
+pub record ExampleFirst (T : Tables) (first second : HostSide) (r : Result Unit GivenRefusal) : Type 0 where
+  pub told : given_tested r ≡ tested_or Refusal.refused (require (are_listed second.asked) layout_broken passed) (tested_first T (conversion_of first.made) first.asked)
 
 -- the first side's refusals, then 2;
 pub record SecondRefused (T : Tables) (s : PatternSide) (r : ExampleRefusal) : Type 0 where

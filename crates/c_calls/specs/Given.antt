@@ -1,17 +1,19 @@
 -- What a C host gives beside the tables: marks as bytes, the operation as the six numbers of a sheet's line 2.
-use Rattle.std.specs.Prelude.{ℕ, ◌≤◌, ◌≡◌, false, List, eqb, get_or, Result}
+use Rattle.std.specs.Prelude.{ℕ, ◌≡◌, false, List, eqb, get_or, Result, Ok, Err, IfOk}
 use Rattle.std.specs.Result.{result_unwrap_or}
 use Rattle.base.specs.Lists.{tabulate}
-use Rattle.base.specs.Refusal.{over_limit, layout_broken, Tested, require, line, tested_line}
+use Rattle.base.specs.Refusal.{Refusal, over_limit, breaks_rules, layout_broken, not_a_body, Tested, passed, refused, require}
 use Rattle.scope.specs.declared.Scope.{Scope}
 use Rattle.scope.specs.declared.ByteScope.{ByteScope}
 use Rattle.scope.specs.declared.MarkOutside.{MarkOutside}
-use Rattle.scope.specs.Bytes.{of_bytes, convertible}
+use Rattle.scope.specs.Bytes.{of_bytes, conversion_of, convertible}
 use Rattle.scope.specs.Scope.{new_scope}
 use Rattle.table.specs.Tables.{Tables}
 use Rattle.table.specs.Rules.{within_limits}
 use Rattle.operation.specs.declared.numbers.OperationNumbers.{OperationNumbers}
 use Rattle.operation.specs.Numbers.{are_listed}
+use Rattle.c_calls.specs.declared.given.GivenRefusal.{GivenRefusal}
+use Rattle.c_calls.specs.declared.given.GivenRefusal.TheVariants.{LayoutBroken, NotABody, OverLimit, BreaksRules}
 
 -- the first 128 marks, 0 past the lent ones
 abbrev pub marks_of : List ℕ → List ℕ
@@ -44,7 +46,18 @@ tested_first T made o = require (are_listed o) layout_broken (require (within_li
 abbrev pub given_first : Tables → List ℕ → OperationNumbers → Tested
 given_first T marks o = tested_first T (convertible (byte_scope_of marks o.scheduler)) o
 
--- the number of its refusal, or 0; none of them has a place or counts
-pub record GivenTold (T : Tables) (made : Tested) (o : OperationNumbers) (r : ℕ) : Type 0 where
-  pub told : line r 0 0 0 ≡ tested_line (tested_first T made o)
-  pub small : r ≤ 7
+-- what the code says of it
+abbrev pub given_refused : GivenRefusal → Refusal
+given_refused LayoutBroken = layout_broken
+given_refused NotABody = not_a_body
+given_refused OverLimit = over_limit
+given_refused BreaksRules = breaks_rules
+
+abbrev pub given_tested : {A : Type 0} → Result A GivenRefusal → Tested
+given_tested (Ok a) = passed
+given_tested (Err r) = refused (given_refused r)
+
+-- the refusal, or the scope that the marks were made into
+pub record GivenTold (T : Tables) (made : Result Scope MarkOutside) (o : OperationNumbers) (r : Result Scope GivenRefusal) : Type 0 where
+  pub told : given_tested r ≡ tested_first T (conversion_of made) o
+  pub scope : IfOk r (λ s. made ≡ Ok s)

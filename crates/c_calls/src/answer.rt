@@ -1,13 +1,15 @@
 // An answer's four numbers.
-ghost use Rattle.std.specs.Prelude.{◌≡◌, ◌≤◌};
-ghost use Rattle.base.specs.Refusal.{line, refusal_line};
+ghost use Rattle.std.specs.Prelude.{◌≡◌};
+ghost use Rattle.base.specs.Refusal.{refusal_line};
 ghost use Rattle.run.specs.Answer.{result_of, run_refusal};
 ghost use Rattle.report.specs.Answer.{report_line};
 ghost use Rattle.tolerance.specs.Answer as Tolerance;
 ghost use Rattle.c_calls.specs.Calls.{ran_line};
+ghost use Rattle.c_calls.specs.Given.{given_refused};
 ghost use Rattle.c_calls.specs.Tolerating.{tolerance_line};
 ghost use Rattle.operation.specs.Rows.{row_line, Told};
 
+use crate::given::GivenRefusal;
 use operation::inner::tell;
 use operation::row::{Row, row_from};
 use report::ReportRefusal;
@@ -62,10 +64,8 @@ pub(crate) fn report_row(answer: Result<(), ReportRefusal>) -> Row
     }
 }
 
-// A refusal without place and counts.
-pub(crate) fn refuse(answer: &mut [u32], number: u32) -> u32
-    requires { number ≤ 7 }
-    ensures { Told (line number 0 0 0) answer.old answer.new result }
+pub(crate) fn refuse(answer: &mut [u32], refused: GivenRefusal) -> u32
+    ensures { Told (refusal_line (given_refused refused)) answer.old answer.new result }
 {
-    tell(answer, row_from(number as u64, 0, 0, 0))
+    tell(answer, refused.row())
 }

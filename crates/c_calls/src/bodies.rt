@@ -1,14 +1,13 @@
 // The call for a rule body over lent tables.
 ghost use Rattle.table.specs.Contents.{contents};
 ghost use Rattle.std.specs.Prelude.{◌≡◌, Err, cond, eqb};
-ghost use Rattle.base.specs.Refusal.{line, tested_line};
-ghost use Rattle.scope.specs.Bytes.{conversion_of};
 ghost use Rattle.planner.specs.Short.{ShortLine};
 ghost use Rattle.operation.specs.Rows.{row_line};
 ghost use Rattle.body.specs.Body.{body_line, body_line_of};
-ghost use Rattle.c_calls.specs.Bodies.{words_first, marks_first, marks_in, ToldBody, BodyCalledIn};
+ghost use Rattle.c_calls.specs.Given.{given_tested};
+ghost use Rattle.c_calls.specs.Bodies.{words_first, MarksTold, marks_in, ToldBody, BodyCalledIn};
 
-use crate::given::{conversion_number, given_scope, scope_of};
+use crate::given::{GivenRefusal, scope_of};
 use body::lines::is_body;
 use body::{BodyRefusal, plan_body};
 use operation::inner::{put_word, tell};
@@ -19,27 +18,27 @@ use scope::{ByteScope, MarkOutside, Scope};
 use table::limits::within_limits;
 use table::tables::Tables;
 
-// 7 or 37, or 0.
-fn words_first(scheduler: u32, lines: &[u32]) -> u32
-    ensures { line result 0 0 0 ≡ tested_line (words_first scheduler lines.now) }
+// 7, then 37.
+fn words_first(scheduler: u32, lines: &[u32]) -> Result<(), GivenRefusal>
+    ensures { given_tested result ≡ words_first scheduler lines.now }
 {
     if 1 < scheduler {
-        return 7;
+        return Err(GivenRefusal::LayoutBroken);
     }
-    if is_body(lines) {
-        return 0;
+    if !is_body(lines) {
+        return Err(GivenRefusal::NotABody);
     }
-    37
+    Ok(())
 }
 
-// 1 or 2, or 0.
-fn marks_first(tables: &Tables<'_>, made: Result<Scope, MarkOutside>) -> u32
-    ensures { line result 0 0 0 ≡ tested_line (marks_first (contents tables.now) (conversion_of made)) }
+// The scope that the marks were made into, or 1 or 2.
+fn marks_first(tables: &Tables<'_>, made: Result<Scope, MarkOutside>) -> Result<Scope, GivenRefusal>
+    ensures { MarksTold (contents tables.now) made result }
 {
-    if within_limits(tables) {
-        return conversion_number(made);
+    if !within_limits(tables) {
+        return Err(GivenRefusal::OverLimit);
     }
-    1
+    Ok(made?)
 }
 
 // The marks of the scope, as far as there is space.
@@ -125,23 +124,19 @@ pub fn teluddru_plan_body(
 ) -> u32
     ensures { BodyCalledIn marks plan answer (contents tables.now) scheduler lines result }
 {
-    let unread = words_first(scheduler, lines);
-    if unread != 0 {
+    if let Err(refused) = words_first(scheduler, lines) {
         clear(plan);
-        return tell_body(answer, row_from(unread as u64, 0, 0, 0), 0);
+        return tell_body(answer, refused.row(), 0);
     }
-    let made = scope_of(marks, scheduler);
-    let before = marks_first(tables, made);
-    if before != 0 {
-        clear(plan);
-        return tell_body(answer, row_from(before as u64, 0, 0, 0), 1);
-    }
-    let scope = given_scope(made);
+    let scope = match marks_first(tables, scope_of(marks, scheduler)) {
+        Ok(scope) => scope,
+        Err(refused) => {
+            clear(plan);
+            return tell_body(answer, refused.row(), 1);
+        }
+    };
     let done = plan_body(tables, scope, lines, plan);
-    let reached = done.answer;
-    let after = done.scope;
-    let told = body_row(reached);
-    let row = told.row;
-    keep_marks(marks, row.number, after);
-    tell_body(answer, row, told.line)
+    let told = body_row(done.answer);
+    keep_marks(marks, told.row.number, done.scope);
+    tell_body(answer, told.row, told.line)
 }

@@ -9,7 +9,7 @@ ghost use Rattle.common_example.specs.Common.{example_result};
 ghost use Rattle.c_calls.specs.Examples.{example_line, OfHost, ExampleFirst, SecondRefusedIn, MarkedIn, given_side, ExampleCalledIn};
 
 use crate::answer::refuse;
-use crate::given::{given_scope, pattern_numbers, refused_first, scope_of};
+use crate::given::{GivenRefusal, given, given_scope, pattern_numbers, scope_of};
 use common_example::example::{Example, ExampleRefusal};
 use common_example::sides::{ScopedPattern, SideRefusal};
 use common_example::{common_example, refused_side};
@@ -63,29 +63,27 @@ fn host_side(marks: &[u8], scheduler: u32, scoping: u32, pattern: u32) -> HostSi
 {
     let made = scope_of(marks, scheduler);
     let asked = pattern_numbers(scheduler, scoping, pattern);
-    let scoped = ScopedPattern {
+    let pattern = ScopedPattern {
         scope: given_scope(made),
         scoping: scoping_of(scoping),
         root: pattern,
     };
     HostSide {
-        made: made,
-        asked: asked,
-        pattern: scoped,
+        made,
+        asked,
+        pattern,
     }
 }
 
-// 7 of either side, then 1 and 2 of the first; or 0.
-fn first_refused(tables: &Tables<'_>, first: HostSide, second: HostSide) -> u32
+// 7 of either side, then 1 and 2 of the first.
+fn first_refused(tables: &Tables<'_>, first: HostSide, second: HostSide) -> Result<(), GivenRefusal>
     ensures { ExampleFirst (contents tables.now) first second result }
 {
-    let other = second.asked;
-    if !are_listed(other) {
-        return 7;
+    if !are_listed(second.asked) {
+        return Err(GivenRefusal::LayoutBroken);
     }
-    let made = first.made;
-    let asked = first.asked;
-    refused_first(tables, made, asked)
+    given(tables, first.made, first.asked)?;
+    Ok(())
 }
 
 // Of a second side whose marks are refused: what the first side is refused for, then 2.
@@ -152,21 +150,17 @@ pub fn teluddru_common_example(
 {
     let first = host_side(marks1, scheduler1, scoping1, pattern1);
     let second = host_side(marks2, scheduler2, scoping2, pattern2);
-    let before = first_refused(tables, first, second);
-    if before != 0 {
+    if let Err(refused) = first_refused(tables, first, second) {
         clear(example_nodes);
         clear(example_children);
-        return refuse(answer, before);
+        return refuse(answer, refused);
     }
-    let one = first.pattern;
-    let two = second.pattern;
-    let marked = second.made;
     let given = example_given(
         tables,
-        one,
+        first.pattern,
         values1,
-        marked,
-        two,
+        second.made,
+        second.pattern,
         values2,
         example_nodes,
         example_children,

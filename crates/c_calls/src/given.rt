@@ -1,11 +1,13 @@
 // What a C host gives beside the tables: marks as bytes, the operation as numbers.
 ghost use Rattle.table.specs.Contents.{contents};
 ghost use Rattle.std.specs.Prelude.{◌≡◌, get_or};
-ghost use Rattle.base.specs.Refusal.{tested_line};
-ghost use Rattle.scope.specs.Bytes.{conversion_of, ConvertedFrom};
-ghost use Rattle.c_calls.specs.Given.{marks_of, byte_scope_of, given_scope, pattern_numbers, GivenTold};
+ghost use Rattle.base.specs.Refusal.{refusal_line};
+ghost use Rattle.scope.specs.Bytes.{ConvertedFrom};
+ghost use Rattle.operation.specs.Rows.{row_line};
+ghost use Rattle.c_calls.specs.Given.{marks_of, byte_scope_of, given_scope, pattern_numbers, given_refused, GivenTold};
 
 use operation::numbers::{OperationNumbers, are_listed};
+use operation::row::{Row, row_from};
 use scope::{ByteScope, MarkOutside, Scope};
 use table::limits::within_limits;
 use table::tables::Tables;
@@ -61,29 +63,58 @@ pub(crate) fn pattern_numbers(scheduler: u32, scoping: u32, pattern: u32) -> Ope
     }
 }
 
-// The number of a conversion's refusal, or 0.
-pub(crate) fn conversion_number(made: Result<Scope, MarkOutside>) -> u32
-    ensures { result ≡ (tested_line (conversion_of made)).number }
-{
-    match made {
-        Ok(_) => 0,
-        Err(MarkOutside) => 2,
+// What is refused before an operation: 7, 37 of a rule body, then 1 and 2.
+#[derive(Clone, Copy)]
+pub(crate) enum GivenRefusal {
+    LayoutBroken,
+    NotABody,
+    OverLimit,
+    BreaksRules,
+}
+
+impl From<MarkOutside> for GivenRefusal {
+    ghost use Rattle.c_calls.specs.declared.given.GivenRefusal.TheVariants.{BreaksRules};
+
+    ghost from_gives = { λ mark refused. refused ≡ BreaksRules };
+
+    fn from(mark: MarkOutside) -> GivenRefusal {
+        GivenRefusal::BreaksRules
     }
 }
 
-// The number of the refusal that comes before the operation's own, or 0.
-pub(crate) fn refused_first(
+impl GivenRefusal {
+    fn number(self) -> u64
+        ensures { result ≡ (given_refused self).number }
+    {
+        match self {
+            GivenRefusal::LayoutBroken => 7,
+            GivenRefusal::NotABody => 37,
+            GivenRefusal::OverLimit => 1,
+            GivenRefusal::BreaksRules => 2,
+        }
+    }
+
+    // None of them has a place or counts.
+    pub(crate) fn row(self) -> Row
+        ensures { row_line result ≡ refusal_line (given_refused self) }
+    {
+        row_from(self.number(), 0, 0, 0)
+    }
+}
+
+// The scope that the marks were made into, or the refusal that comes before the operation's own.
+pub(crate) fn given(
     tables: &Tables<'_>,
     made: Result<Scope, MarkOutside>,
     asked: OperationNumbers,
-) -> u32
-    ensures { GivenTold (contents tables.now) (conversion_of made) asked result }
+) -> Result<Scope, GivenRefusal>
+    ensures { GivenTold (contents tables.now) made asked result }
 {
     if !are_listed(asked) {
-        return 7;
+        return Err(GivenRefusal::LayoutBroken);
     }
     if !within_limits(tables) {
-        return 1;
+        return Err(GivenRefusal::OverLimit);
     }
-    conversion_number(made)
+    Ok(made?)
 }

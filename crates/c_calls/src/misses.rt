@@ -6,7 +6,7 @@ ghost use Rattle.first_miss.specs.Answer.{no_match_lem, miss_result_of};
 ghost use Rattle.c_calls.specs.Misses.{why_number, miss_line, MissCalledIn};
 
 use crate::answer::{refuse, run_refusal_row};
-use crate::given::{given_scope, pattern_numbers, refused_first, scope_of};
+use crate::given::{given, pattern_numbers, scope_of};
 use first_miss::{Miss, Why, first_miss};
 use operation::inner::tell;
 use operation::numbers::scoping_of;
@@ -60,12 +60,10 @@ pub fn teluddru_first_miss(
     ensures { let T = contents tables.now in MissCalledIn values answer T marks scheduler scoping pattern value result }
 {
     let asked = pattern_numbers(scheduler, scoping, pattern);
-    let made = scope_of(marks, scheduler);
-    let before = refused_first(tables, made, asked);
-    if before != 0 {
-        return refuse(answer, before);
-    }
-    let scope = given_scope(made);
+    let scope = match given(tables, scope_of(marks, scheduler), asked) {
+        Ok(scope) => scope,
+        Err(refused) => return refuse(answer, refused),
+    };
     let missed = first_miss(tables, scope, scoping_of(scoping), pattern, value, values);
     tell(answer, miss_row(missed))
 }

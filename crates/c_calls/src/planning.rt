@@ -3,7 +3,7 @@ ghost use Rattle.table.specs.Contents.{contents};
 ghost use Rattle.c_calls.specs.Calls.{PlanCalledIn};
 
 use crate::answer::refuse;
-use crate::given::{given_scope, refused_first, scope_of};
+use crate::given::{given, scope_of};
 use operation::inner::tell;
 use operation::numbers::{OperationNumbers, operation_of};
 use operation::row::row_of;
@@ -34,13 +34,13 @@ pub fn teluddru_plan(
         second,
         key,
     };
-    let made = scope_of(marks, scheduler);
-    let before = refused_first(tables, made, asked);
-    if before != 0 {
-        clear(plan);
-        return refuse(answer, before);
-    }
-    let scope = given_scope(made);
+    let scope = match given(tables, scope_of(marks, scheduler), asked) {
+        Ok(scope) => scope,
+        Err(refused) => {
+            clear(plan);
+            return refuse(answer, refused);
+        }
+    };
     let planned = operation::plan(tables, scope, operation_of(asked), version, plan);
     tell(answer, row_of(planned))
 }

@@ -3,7 +3,7 @@ ghost use Rattle.table.specs.Contents.{contents};
 ghost use Rattle.c_calls.specs.Calls.{ReportCalledIn};
 
 use crate::answer::{refuse, report_row};
-use crate::given::{given_scope, pattern_numbers, refused_first, scope_of};
+use crate::given::{given, pattern_numbers, scope_of};
 use operation::inner::tell;
 use operation::numbers::scoping_of;
 use planner::buffer::clear;
@@ -23,13 +23,13 @@ pub fn teluddru_names_report(
     ensures { let T = contents tables.now in ReportCalledIn list answer T marks scheduler scoping pattern result }
 {
     let asked = pattern_numbers(scheduler, scoping, pattern);
-    let made = scope_of(marks, scheduler);
-    let before = refused_first(tables, made, asked);
-    if before != 0 {
-        clear(list);
-        return refuse(answer, before);
-    }
-    let scope = given_scope(made);
+    let scope = match given(tables, scope_of(marks, scheduler), asked) {
+        Ok(scope) => scope,
+        Err(refused) => {
+            clear(list);
+            return refuse(answer, refused);
+        }
+    };
     let reported = names_report(tables, scope, scoping_of(scoping), pattern, list);
     tell(answer, report_row(reported))
 }

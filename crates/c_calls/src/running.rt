@@ -3,7 +3,7 @@ ghost use Rattle.table.specs.Contents.{contents};
 ghost use Rattle.c_calls.specs.Calls.{RunCalledIn};
 
 use crate::answer::{refuse, run_row};
-use crate::given::{given_scope, pattern_numbers, refused_first, scope_of};
+use crate::given::{given, pattern_numbers, scope_of};
 use operation::inner::tell;
 use operation::numbers::scoping_of;
 use planner::buffer::clear;
@@ -25,13 +25,13 @@ pub fn teluddru_run(
     ensures { let T = contents tables.now in RunCalledIn values plan answer T marks scheduler scoping pattern value result }
 {
     let asked = pattern_numbers(scheduler, scoping, pattern);
-    let made = scope_of(marks, scheduler);
-    let before = refused_first(tables, made, asked);
-    if before != 0 {
-        clear(plan);
-        return refuse(answer, before);
-    }
-    let scope = given_scope(made);
+    let scope = match given(tables, scope_of(marks, scheduler), asked) {
+        Ok(scope) => scope,
+        Err(refused) => {
+            clear(plan);
+            return refuse(answer, refused);
+        }
+    };
     let ran = run(
         tables,
         scope,

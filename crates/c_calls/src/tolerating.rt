@@ -3,7 +3,7 @@ ghost use Rattle.table.specs.Contents.{contents};
 ghost use Rattle.c_calls.specs.Tolerating.{ToleratedIn};
 
 use crate::answer::{refuse, tolerance_row};
-use crate::given::{given_scope, pattern_numbers, refused_first, scope_of};
+use crate::given::{given, pattern_numbers, scope_of};
 use operation::inner::tell;
 use operation::numbers::scoping_of;
 use planner::buffer::clear;
@@ -27,13 +27,13 @@ pub fn teluddru_run_with_tolerance(
     ensures { ToleratedIn values lowest highest plan answer (contents tables.now) marks scheduler scoping pattern value result }
 {
     let asked = pattern_numbers(scheduler, scoping, pattern);
-    let made = scope_of(marks, scheduler);
-    let before = refused_first(tables, made, asked);
-    if before != 0 {
-        clear(plan);
-        return refuse(answer, before);
-    }
-    let scope = given_scope(made);
+    let scope = match given(tables, scope_of(marks, scheduler), asked) {
+        Ok(scope) => scope,
+        Err(refused) => {
+            clear(plan);
+            return refuse(answer, refused);
+        }
+    };
     let ran = run_with_tolerance(
         tables,
         scope,

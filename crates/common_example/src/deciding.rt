@@ -1,7 +1,7 @@
 // Whether a class has a value, and whether there is space for it.
 ghost use Rattle.common_example.specs.code.Deciding.{DeepAsks, DeepDecided, DecideAsks, DecidedIn};
 
-use crate::classes::{HEAD_WORDS, LINK_WORDS, PLACES};
+use crate::graph::{Joined, PLACES};
 use crate::levels::{settle, size_at};
 
 // Three cases with no value beside them, so neither Option nor Result.
@@ -13,18 +13,11 @@ pub(crate) enum Verdict {
 }
 
 // Of a class with no value of 32 levels: a deeper one is too large.
-fn decide_deep(
-    heads: &[u32; HEAD_WORDS],
-    links: &[u32; LINK_WORDS],
-    classes: &[u32; PLACES],
-    sizes: &mut [u16; PLACES],
-    next: &mut [u16; PLACES],
-    place: u32,
-) -> Verdict
-    requires { DeepAsks heads.now links.now classes.now place }
-    ensures { DeepDecided heads.now links.now classes.now place result }
+fn decide_deep(joined: &Joined, sizes: &mut [u16; PLACES], place: u32) -> Verdict
+    requires { DeepAsks joined.now.graph.heads joined.now.graph.links joined.now.classes place }
+    ensures { DeepDecided joined.now.graph.heads joined.now.graph.links joined.now.classes place result }
 {
-    settle(heads, links, classes, 2048, sizes, next);
+    settle(joined, 2048, sizes);
     if size_at(sizes, place) == 0 {
         return Verdict::NoValue;
     }
@@ -33,21 +26,18 @@ fn decide_deep(
 
 // From the sizes of values of 32 levels, and the lengths of the two lists lent. Where the value fits, the sizes stay.
 pub(crate) fn decide(
-    heads: &[u32; HEAD_WORDS],
-    links: &[u32; LINK_WORDS],
-    classes: &[u32; PLACES],
+    joined: &Joined,
     sizes: &mut [u16; PLACES],
-    next: &mut [u16; PLACES],
     place: u32,
     words: usize,
     entries: usize,
 ) -> Verdict
-    requires { DecideAsks heads.now links.now classes.now sizes.old place }
-    ensures { DecidedIn heads.now links.now classes.now sizes.old place words entries sizes.new result }
+    requires { DecideAsks joined.now.graph.heads joined.now.graph.links joined.now.classes sizes.old place }
+    ensures { DecidedIn joined.now.graph.heads joined.now.graph.links joined.now.classes sizes.old place words entries sizes.new result }
 {
     let size = size_at(sizes, place);
     if size == 0 {
-        return decide_deep(heads, links, classes, sizes, next, place);
+        return decide_deep(joined, sizes, place);
     }
     if 512 < size {
         return Verdict::TooLarge;

@@ -2,11 +2,11 @@
 ghost use Rattle.std.specs.Prelude.{◌≡◌};
 ghost use Rattle.common_example.specs.code.Example.{FoundAsks, FoundWritten, ExampleAsks, ExampleWritten};
 
-use crate::classes::{HEAD_WORDS, LINK_WORDS, PLACES};
 use crate::deciding::{Verdict, decide};
+use crate::graph::{Joined, PLACES};
 use crate::levels::{settle, size_at};
 use crate::sides::SideRefusal;
-use crate::writing::write_place;
+use crate::writing::{Source, write_place};
 use planner::buffer::clear;
 
 // The node of the value, and how many nodes and child entries it has.
@@ -36,22 +36,25 @@ impl From<SideRefusal> for ExampleRefusal {
 // A value that has space, behind the tables' nodes and `entries` child entries.
 fn write_found(
     nodes: &[u32],
-    heads: &[u32; HEAD_WORDS],
-    links: &[u32; LINK_WORDS],
-    classes: &[u32; PLACES],
+    joined: &Joined,
     sizes: &[u16; PLACES],
     place: u32,
     entries: u32,
     out: &mut [u32],
     children: &mut [u32],
 ) -> Example
-    requires { FoundAsks nodes.now heads.now links.now classes.now sizes.now place entries out.old children.old }
-    ensures { FoundWritten nodes heads links classes place entries out children result }
+    requires { FoundAsks nodes.now joined.now.graph.heads joined.now.graph.links joined.now.classes sizes.now place entries out.old children.old }
+    ensures { FoundWritten nodes.now joined.now place entries out children result }
 {
     let before = (nodes.len() / 5) as u32;
-    write_place(
-        nodes, heads, links, classes, sizes, place, 32, before, entries, 0, 0, out, children,
-    );
+    let source = Source {
+        nodes,
+        joined,
+        sizes,
+        before,
+        entries,
+    };
+    write_place(&source, place, 32, 0, 0, out, children);
     let size = size_at(sizes, place);
     Example {
         node: before + size,
@@ -62,35 +65,23 @@ fn write_found(
 
 pub(crate) fn write_example(
     nodes: &[u32],
-    heads: &[u32; HEAD_WORDS],
-    links: &[u32; LINK_WORDS],
-    classes: &[u32; PLACES],
+    joined: &Joined,
     place: u32,
     entries: u32,
     out: &mut [u32],
     children: &mut [u32],
 ) -> Result<Option<Example>, ExampleRefusal>
-    requires { ExampleAsks nodes.now heads.now links.now classes.now place entries }
-    ensures { ExampleWritten nodes heads links classes place entries out children result }
+    requires { ExampleAsks nodes.now joined.now.graph.heads joined.now.graph.links joined.now.classes place entries }
+    ensures { ExampleWritten nodes.now joined.now place entries out children result }
 {
     clear(out);
     clear(children);
     let mut sizes = [0u16; PLACES];
-    let mut next = [0u16; PLACES];
-    settle(heads, links, classes, 32, &mut sizes, &mut next);
-    let verdict = decide(
-        heads,
-        links,
-        classes,
-        &mut sizes,
-        &mut next,
-        place,
-        out.len(),
-        children.len(),
-    );
+    settle(joined, 32, &mut sizes);
+    let verdict = decide(joined, &mut sizes, place, out.len(), children.len());
     match verdict {
         Verdict::Fits => Ok(Some(write_found(
-            nodes, heads, links, classes, &sizes, place, entries, out, children,
+            nodes, joined, &sizes, place, entries, out, children,
         ))),
         Verdict::TooLarge => Err(ExampleRefusal::ValueTooLarge),
         Verdict::NoValue => Ok(None),

@@ -5,9 +5,9 @@ ghost use Rattle.table.specs.Contents.{contents};
 ghost use Rattle.common_example.specs.Common.{pattern_side, CommonIn, SideCheckedIn};
 ghost use Rattle.common_example.specs.code.Common.{SidesCheckedIn, WriteAsks, WrittenIn, GiveAsks, GivenIn, PassedAsks, PassedIn};
 
-use classes::{HEAD_WORDS, LINK_WORDS, PLACES};
 use example::{Example, ExampleRefusal, write_example};
 use graph::node_places::node_place;
+use graph::{Graph, HEAD_WORDS, Joined, LINK_WORDS, PLACES};
 use planner::buffer::clear;
 use run::inner::names::start_list;
 use sides::{ScopedPattern, check_side};
@@ -55,22 +55,18 @@ fn write_joined(
     tables: &Tables<'_>,
     held1: &[u32; 128],
     root1: u32,
-    heads: &[u32; HEAD_WORDS],
-    links: &[u32; LINK_WORDS],
-    classes: &[u32; PLACES],
+    joined: &Joined,
     example_nodes: &mut [u32],
     example_children: &mut [u32],
 ) -> Result<Option<Example>, ExampleRefusal>
-    requires { WriteAsks (contents tables.now) held1.now root1 heads.now links.now classes.now }
-    ensures { let T = contents tables.now in WrittenIn T held1 root1 heads links classes example_nodes example_children result }
+    requires { WriteAsks (contents tables.now) held1.now root1 joined.now.graph.heads joined.now.graph.links joined.now.classes }
+    ensures { let T = contents tables.now in WrittenIn T held1.now root1 joined.now example_nodes example_children result }
 {
     let place = node_place(tables, held1, root1, 0);
     let entries = tables.children.len() as u32;
     write_example(
         tables.nodes,
-        heads,
-        links,
-        classes,
+        joined,
         place,
         entries,
         example_nodes,
@@ -91,19 +87,14 @@ fn give_example(
     requires { GiveAsks (contents tables.now) held1.now held2.now root1 root2 }
     ensures { let T = contents tables.now in GivenIn T held1 held2 root1 root2 example_nodes example_children result }
 {
-    let mut heads = [0u32; HEAD_WORDS];
-    let mut links = [0u32; LINK_WORDS];
-    let mut classes = [0u32; PLACES];
-    let unified = unify_patterns(
-        tables,
-        held1,
-        held2,
-        root1,
-        root2,
-        &mut heads,
-        &mut links,
-        &mut classes,
-    );
+    let mut joined = Joined {
+        graph: Graph {
+            heads: [0; HEAD_WORDS],
+            links: [0; LINK_WORDS],
+        },
+        classes: [0; PLACES],
+    };
+    let unified = unify_patterns(tables, held1, held2, root1, root2, &mut joined);
     if !unified {
         clear(example_nodes);
         clear(example_children);
@@ -113,9 +104,7 @@ fn give_example(
         tables,
         held1,
         root1,
-        &heads,
-        &links,
-        &classes,
+        &joined,
         example_nodes,
         example_children,
     )

@@ -3,7 +3,8 @@ ghost use Rattle.std.specs.Prelude.{◌≡◌};
 ghost use Rattle.base.specs.Lists.{tabulate};
 ghost use Rattle.common_example.specs.code.Roots.{UnifyAsks, Unified};
 
-use crate::classes::{HEAD_WORDS, LINK_WORDS, PLACES, close_classes, join_pair};
+use crate::classes::{close_classes, join_pair};
+use crate::graph::{Graph, PLACES};
 
 // Each place is a class of its own.
 fn start_classes(classes: &mut [u32; PLACES])
@@ -16,17 +17,11 @@ fn start_classes(classes: &mut [u32; PLACES])
 }
 
 // False where no value has all heads of a class.
-pub(crate) fn unify_roots(
-    heads: &[u32; HEAD_WORDS],
-    links: &[u32; LINK_WORDS],
-    classes: &mut [u32; PLACES],
-    a: u32,
-    b: u32,
-) -> bool
-    requires { UnifyAsks heads.now links.now a b }
-    ensures { Unified heads.now links.now a b classes.new result }
+pub(crate) fn unify_roots(graph: &Graph, classes: &mut [u32; PLACES], a: u32, b: u32) -> bool
+    requires { UnifyAsks graph.now.heads graph.now.links a b }
+    ensures { Unified graph.now.heads graph.now.links a b classes.new result }
 {
     start_classes(classes);
-    join_pair(heads, classes, a, b);
-    close_classes(heads, links, classes)
+    join_pair(graph, classes, a, b);
+    close_classes(graph, classes)
 }

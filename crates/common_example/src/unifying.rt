@@ -2,11 +2,11 @@
 ghost use Rattle.table.specs.Contents.{contents};
 ghost use Rattle.common_example.specs.code.arrays.Unifying.{LinksFrom, LinksMade, GraphAsks, GraphMade, PatternsAsks, Unifies};
 
-use crate::classes::{HEAD_WORDS, LINK_WORDS, PLACES};
 use crate::graph::key_order::order_children;
 use crate::graph::likes::like_nodes;
 use crate::graph::node_places::{node_place, side_places};
 use crate::graph::words::{head_words, link_words};
+use crate::graph::{Graph, Joined, LINK_WORDS};
 use crate::roots::unify_roots;
 use table::tables::Tables;
 use value::inner::admitted::mark_nodes;
@@ -33,16 +33,15 @@ pub(crate) fn make_graph(
     tables: &Tables<'_>,
     held1: &[u32; 128],
     held2: &[u32; 128],
-    heads: &mut [u32; HEAD_WORDS],
-    links: &mut [u32; LINK_WORDS],
+    graph: &mut Graph,
 )
     requires { GraphAsks (contents tables.now) held1.now held2.now }
-    ensures { GraphMade (contents tables.now) held1.now held2.now heads.new links.new }
+    ensures { GraphMade (contents tables.now) held1.now held2.now graph.new.heads graph.new.links }
 {
     let marks = mark_nodes(tables, true);
-    let like = like_nodes(tables.nodes, tables.numbers, tables.strings, tables.text);
-    head_words(tables.nodes, &marks, &like, heads);
-    graph_links(tables, held1, held2, &marks, &like, links);
+    let like = like_nodes(tables);
+    head_words(tables.nodes, &marks, &like, &mut graph.heads);
+    graph_links(tables, held1, held2, &marks, &like, &mut graph.links);
 }
 
 // False where no value is matched by both.
@@ -52,15 +51,13 @@ pub(crate) fn unify_patterns(
     held2: &[u32; 128],
     root1: u32,
     root2: u32,
-    heads: &mut [u32; HEAD_WORDS],
-    links: &mut [u32; LINK_WORDS],
-    classes: &mut [u32; PLACES],
+    joined: &mut Joined,
 ) -> bool
     requires { PatternsAsks (contents tables.now) held1.now held2.now root1 root2 }
-    ensures { Unifies (contents tables.now) held1.now held2.now root1 root2 heads.new links.new classes.new result }
+    ensures { Unifies (contents tables.now) held1.now held2.now root1 root2 joined.new.graph.heads joined.new.graph.links joined.new.classes result }
 {
-    make_graph(tables, held1, held2, heads, links);
+    make_graph(tables, held1, held2, &mut joined.graph);
     let a = node_place(tables, held1, root1, 0);
     let b = node_place(tables, held2, root2, 1);
-    unify_roots(heads, links, classes, a, b)
+    unify_roots(&joined.graph, &mut joined.classes, a, b)
 }

@@ -85,16 +85,14 @@ fn walk_object(tables: &Tables<'_>, a: u32, b: u32) -> Result<(), Miss>
             pattern: a,
         });
     }
-    let missing = missing_key(tables, a, b);
-    if missing != 0 {
+    if let Some(missing) = missing_key(tables, a, b) {
         return Err(Miss {
             why: Why::KeyMissing,
             value: b,
             pattern: missing,
         });
     }
-    let other = other_key(tables, b, a);
-    if other != 0 {
+    if let Some(other) = other_key(tables, b, a) {
         return Err(Miss {
             why: Why::KeyTooMany,
             value: other,
@@ -153,7 +151,7 @@ fn walk_fields(tables: &Tables<'_>, list: &mut [u32; 128], a: u32, b: u32) -> Re
         let place = first + i * 2;
         let key = child_at(tables.children, place);
         let value = child_at(tables.children, place + 1);
-        let part = value_under(tables, b, i, key);
+        let part = value_under(tables, b, i, key).unwrap();
         walk(tables, list, value, part)?;
     }
     Ok(())

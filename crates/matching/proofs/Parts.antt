@@ -6,10 +6,13 @@ use mathlib.Core.Bool.{Bool, true, false, not, false≢true}
 use mathlib.Core.Option.{Option, some}
 use native.Mathlib.Omega.{arith}
 use mir.Val.{Fits}
-use mir.Syntax.{w32, w64}
-use borrow.Author.Tests.{eq-eqb, not-true, not-false}
+use mir.Syntax.{w64}
+use borrow.Author.Tests.{eq-eqb, ne_eqb, not-true, not-false}
 use lib.ListN.{get_or, drop}
 use lib.Seq.{get_or-drop, drop-drop}
+use Rattle.std.specs.Prelude.{Some}
+use Rattle.std.specs.Prelude as Prelude
+use Rattle.std.specs.Option.{IsSome}
 use Rattle.literal.specs.Literal.{Literal}
 use Rattle.table.specs.Tables.{Tables, kind_of, first_word_of, count_of, child_at}
 use Rattle.table.specs.Decode.{expr, items, fields, literal_at, fields_of}
@@ -24,10 +27,10 @@ use Rattle.planner.specs.Plan.{array_plan, object_plan, Plans, FieldPlans, plan,
 use Rattle.planner.specs.Simple.{keys_of, simple}
 use Rattle.planner.proofs.fields.Objects.{node_of_lem}
 use Rattle.value.specs.Value.{Value, value_of, values_of, value_fields_of, value_at, under, within, same_key_sets}
-use Rattle.value.specs.code.Post.{under_from, under_in, KeyedObject, KeySetsAsks, ValueNode}
+use Rattle.value.specs.code.Post.{node_or_none, under_from, under_in, KeyedObject, KeySetsAsks, ValueNode}
 use Rattle.value.proofs.Keys.{is_true, true_is, within→}
 use Rattle.value.proofs.Admitted.{value_keys, array_item, object_value, array_children, object_children, key-node, value_node_lem, keyed_object, admitted_value}
-use Rattle.value.proofs.Under.{object_fielded, key_of, found_field, found_key, found_value, has_key_at}
+use Rattle.value.proofs.Under.{some_is, node_told, object_fielded, key_of, found_field, found_key, found_value, has_key_at}
 use Rattle.value.proofs.SameValues.{ValueShape, value_literal, value_array, value_object, value_shape}
 use Rattle.matching.specs.Matching.{Env, MatchOutcome, missed, fault, provided, next, at as at·, under_key, same_length, run, run_items, run_fields}
 use Rattle.matching.specs.Reading.{PlacedPlan, standing}
@@ -412,9 +415,6 @@ module _ {T : Tables} {scratch starts links : List ℕ} {at count value rest : �
     pub fields_index_fits : Fits w64 i
     fields_index_fits = let l = fields_link in record { fits = omega arith }
 
-    pub fields_next_fits : Fits w32 (i + 1)
-    fields_next_fits = let l = fields_link in record { fits = omega arith }
-
     field_node : Node T (value_node T first i)
     field_node = value_node_lem (object_children T well of go.asks.asks.node go.asks.kind_is) i in_pattern
 
@@ -463,7 +463,7 @@ module _ {T : Tables} {scratch starts links : List ℕ} {at count value rest : �
     pub fields_key_word : {child : ℕ} → child ≡ get_or links (start + i) 0 → child * entry_words + 3 < pattern_words
     fields_key_word is = let l = fields_child is in omega arith
 
-    module _ {child part : ℕ} (is-child : child ≡ get_or links (start + i) 0) (is-part : part ≡ under_in T value (get_or scratch (child * entry_words + 3) 0)) where
+    module _ {child : ℕ} (is-child : child ≡ get_or links (start + i) 0) {found : Prelude.Option ℕ} (is-found : found ≡ node_or_none (under_in T value (get_or scratch (child * entry_words + 3) 0))) where
       key_is : get_or scratch (child * entry_words + 3) 0 ≡ key_node T first i
       unfolding field_place
       key_is = child_key rest go.asks.asks (value_node T first i) field_node field_simple field_shallow go.seen field_place (field_stands is-child) ∙ node_of_lem T well (key_node T first i) field_key_lem
@@ -471,25 +471,35 @@ module _ {T : Tables} {scratch starts links : List ℕ} {at count value rest : �
       own_key : (l : Literal) × (literal_at T (key_node T first i) ≡ some l) × (literal_key (expr T (key_node T first i)) ≡ some l)
       own_key = key_of T first (count_of T.nodes of) (object_fielded (pattern_keyed go.asks)) i in_pattern
 
-      part_under : {l : Literal} → literal_at T (key_node T first i) ≡ some l → part ≡ under_from T (some l) (first_word_of T.nodes value) (count_of T.nodes value)
-      part_under d = is-part ∙ (ap (λ (k : ℕ). under_in T value k) key_is ∙ ap (λ (o : Option Literal). under_from T o (first_word_of T.nodes value) (count_of T.nodes value)) d)
+      under_own : {l : Literal} → literal_at T (key_node T first i) ≡ some l → under_in T value (get_or scratch (child * entry_words + 3) 0) ≡ under_from T (some l) (first_word_of T.nodes value) (count_of T.nodes value)
+      under_own d = ap (λ (k : ℕ). under_in T value k) key_is ∙ ap (λ (o : Option Literal). under_from T o (first_word_of T.nodes value) (count_of T.nodes value)) d
 
       -- the value has every key of the pattern
-      found : part ≡ 0 → ⊥
-      found z =
+      is_there : under_in T value (get_or scratch (child * entry_words + 3) 0) ≡ 0 → ⊥
+      is_there z =
           let (l, d, q) = own_key in
           let there = has_key_at T first (count_of T.nodes of) (object_fielded (pattern_keyed go.asks)) i in_pattern l d in
           let w = (and_true (within (keys_of (fields_of T of)) (keys_of (fields_of T value))) (within (keys_of (fields_of T value)) (keys_of (fields_of T of))) go.keys).0 in
           let has = is_true (within→ (keys_of (fields_of T of)) (keys_of (fields_of T value)) (true_is w) l there) in
           let by = found_key T (first_word_of T.nodes value) (count_of T.nodes value) (object_fielded go.value_object) l in
-          let under-zero : under_from T (some l) (first_word_of T.nodes value) (count_of T.nodes value) ≡ 0 = sym (part_under d) ∙ z in
+          let under-zero : under_from T (some l) (first_word_of T.nodes value) (count_of T.nodes value) ≡ 0 = sym (under_own d) ∙ z in
           false≢true (sym (by ∙ ap not (eq-eqb (under_from T (some l) (first_word_of T.nodes value) (count_of T.nodes value)) 0 under-zero)) ∙ has)
+
+      pub fields_some : IsSome found
+      fields_some = some_is (under_in T value (get_or scratch (child * entry_words + 3) 0)) is-found ∙ ap not (ne_eqb (under_in T value (get_or scratch (child * entry_words + 3) 0)) 0 is_there)
+
+    module _ {child : ℕ} (is-child : child ≡ get_or links (start + i) 0) {found : Prelude.Option ℕ} (is-found : found ≡ node_or_none (under_in T value (get_or scratch (child * entry_words + 3) 0))) {part : ℕ} (some_part : found ≡ Some part) where
+      part_under : {l : Literal} → literal_at T (key_node T first i) ≡ some l → part ≡ under_from T (some l) (first_word_of T.nodes value) (count_of T.nodes value)
+      part_under d = (node_told is-found some_part).0 ∙ under_own is-child is-found d
+
+      part_there : part ≡ 0 → ⊥
+      part_there z = (node_told is-found some_part).1 (sym (node_told is-found some_part).0 ∙ z)
 
       part_ok : ValueNode T part
       part_ok =
           let v = go.asks.asks.value_ok in
-          let (l, d, q) = own_key in
-          let (j, lt, e) = found_field T (some l) (first_word_of T.nodes value) (count_of T.nodes value) (λ z. found (part_under d ∙ z)) in
+          let (l, d, q) = own_key is-child is-found in
+          let (j, lt, e) = found_field T (some l) (first_word_of T.nodes value) (count_of T.nodes value) (λ z. part_there (part_under d ∙ z)) in
           rw (part_under d) (rw e (admitted_value T (value_node T (first_word_of T.nodes value) j) (value_node_lem (object_fielded go.value_object).asks j lt)
           (object_value T well value v.node false v.value go.value_object.object j lt)))
 
@@ -499,12 +509,12 @@ module _ {T : Tables} {scratch starts links : List ℕ} {at count value rest : �
       field_step : next (run (plan unbound (expr T (value_node T first i)) go.seen) (value_of (expr T part)) (env_of T here)) rest_fields ≡ run_at T scratch at value before
       unfolding rest_fields rest_of_fields fields plan run
       field_step =
-          let (l, d, q) = own_key in
+          let (l, d, q) = own_key is-child is-found in
           let e : count - i ≡ suc (count - (i + 1)) = omega arith in
           let x : first + i * 2 + 2 ≡ first + (i + 1) * 2 = omega arith in
           let value_is_lem : under l (value_fields_of (fields_of T value)) ≡ some (value_of (expr T part)) =
           found_value T (first_word_of T.nodes value) (count_of T.nodes value) (object_fielded go.value_object) l
-          ∙ (ap (value_at T) (sym (part_under d)) ∙ node_value T part found) in
+          ∙ (ap (value_at T) (sym (part_under d)) ∙ node_value T part part_there) in
           sym (ap (λ (o : Option Value). at· o (λ v. next (run (plan unbound (expr T (value_node T first i)) go.seen) v (env_of T here)) rest_fields))
           (ap (λ (o : Option Literal). under_key o (value_fields_of (fields_of T value))) q ∙ value_is_lem))
           ∙ rw (e, x) at go.same_left

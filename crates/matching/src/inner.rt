@@ -7,7 +7,7 @@ ghost use Rattle.value.specs.Value.{value_of, same};
 ghost use Rattle.planner.specs.code.Post.{NameNumber};
 ghost use Rattle.matching.specs.code.Post.{held_value, EntryAsks, ItemsAsks, FieldsAsks, CameIn, CompareAsks, PatternAsks, PatternCame};
 
-use crate::links::{entry_number, link_entries};
+use crate::links::{LinkedPlan, link_entries};
 use planner::buffer::{ENTRY_WORDS, PATTERN_WORDS};
 use planner::entry_kind;
 use table::node_kind;
@@ -39,19 +39,17 @@ fn equals_name(tables: &Tables<'_>, list: &[u32; 128], node: u32, value: u32) ->
 #[cycle(match_entry_match_fields_match_items)]
 fn match_entry(
     tables: &Tables<'_>,
-    scratch: &[u32; PATTERN_WORDS],
-    starts: &[u16; 512],
-    links: &[u16; 512],
+    plan: &LinkedPlan<'_>,
     at: usize,
     value: u32,
     rest: usize,
     list: &mut [u32; 128],
 ) -> bool
-    requires { EntryAsks (contents tables.now) scratch.now starts.now links.now at value rest list.old }
-    ensures { let T = contents tables.now in CameIn list T scratch.now at value result }
+    requires { EntryAsks (contents tables.now) plan.now.scratch.now plan.now.links.now.starts plan.now.links.now.entries at value rest list.old }
+    ensures { let T = contents tables.now in CameIn list T plan.now.scratch.now at value result }
 {
-    let kind = scratch[at * ENTRY_WORDS];
-    let node = scratch[at * ENTRY_WORDS + 1];
+    let kind = plan.scratch[at * ENTRY_WORDS];
+    let node = plan.scratch[at * ENTRY_WORDS + 1];
     if kind == entry_kind::BIND {
         bind_name(tables.nodes, list, node, value);
         return true;
@@ -65,48 +63,26 @@ fn match_entry(
     if kind == entry_kind::COMPARE_LITERAL {
         return same_value(tables, node, value);
     }
-    let count = scratch[at * ENTRY_WORDS + 2];
+    let count = plan.scratch[at * ENTRY_WORDS + 2];
     if kind == entry_kind::ARRAY {
-        return match_items(
-            tables,
-            scratch,
-            starts,
-            links,
-            at,
-            count,
-            value,
-            rest - 1,
-            list,
-        );
+        return match_items(tables, plan, at, count, value, rest - 1, list);
     }
-    match_fields(
-        tables,
-        scratch,
-        starts,
-        links,
-        at,
-        count,
-        value,
-        rest - 1,
-        list,
-    )
+    match_fields(tables, plan, at, count, value, rest - 1, list)
 }
 
 // An array needs an array of its length, then takes the items.
 #[cycle(match_entry_match_fields_match_items)]
 fn match_items(
     tables: &Tables<'_>,
-    scratch: &[u32; PATTERN_WORDS],
-    starts: &[u16; 512],
-    links: &[u16; 512],
+    plan: &LinkedPlan<'_>,
     at: usize,
     count: u32,
     value: u32,
     rest: usize,
     list: &mut [u32; 128],
 ) -> bool
-    requires { ItemsAsks (contents tables.now) scratch.now starts.now links.now at count value rest list.old }
-    ensures { let T = contents tables.now in CameIn list T scratch.now at value result }
+    requires { ItemsAsks (contents tables.now) plan.now.scratch.now plan.now.links.now.starts plan.now.links.now.entries at count value rest list.old }
+    ensures { let T = contents tables.now in CameIn list T plan.now.scratch.now at value result }
 {
     if kind_of(tables.nodes, value) != node_kind::ARRAY {
         return false;
@@ -114,12 +90,12 @@ fn match_items(
     if count_of(tables.nodes, value) != count {
         return false;
     }
-    let start = entry_number(starts[at]);
+    let start = plan.links.starts[at] as usize;
     let from = first_of(tables.nodes, value) as usize;
     for i in 0..count {
-        let item = entry_number(links[start + i as usize]);
+        let item = plan.links.entries[start + i as usize] as usize;
         let part = child_at(tables.children, from + i as usize);
-        if !match_entry(tables, scratch, starts, links, item, part, rest, list) {
+        if !match_entry(tables, plan, item, part, rest, list) {
             return false;
         }
     }
@@ -130,31 +106,29 @@ fn match_items(
 #[cycle(match_entry_match_fields_match_items)]
 fn match_fields(
     tables: &Tables<'_>,
-    scratch: &[u32; PATTERN_WORDS],
-    starts: &[u16; 512],
-    links: &[u16; 512],
+    plan: &LinkedPlan<'_>,
     at: usize,
     count: u32,
     value: u32,
     rest: usize,
     list: &mut [u32; 128],
 ) -> bool
-    requires { FieldsAsks (contents tables.now) scratch.now starts.now links.now at count value rest list.old }
-    ensures { let T = contents tables.now in CameIn list T scratch.now at value result }
+    requires { FieldsAsks (contents tables.now) plan.now.scratch.now plan.now.links.now.starts plan.now.links.now.entries at count value rest list.old }
+    ensures { let T = contents tables.now in CameIn list T plan.now.scratch.now at value result }
 {
     if kind_of(tables.nodes, value) != node_kind::OBJECT {
         return false;
     }
-    let node = scratch[at * ENTRY_WORDS + 1];
+    let node = plan.scratch[at * ENTRY_WORDS + 1];
     if !same_key_sets(tables, node, value) {
         return false;
     }
-    let start = entry_number(starts[at]);
+    let start = plan.links.starts[at] as usize;
     for i in 0..count {
-        let field = entry_number(links[start + i as usize]);
-        let key = scratch[field * ENTRY_WORDS + 3];
-        let part = value_under(tables, value, i as usize, key);
-        if !match_entry(tables, scratch, starts, links, field, part, rest, list) {
+        let field = plan.links.entries[start + i as usize] as usize;
+        let key = plan.scratch[field * ENTRY_WORDS + 3];
+        let part = value_under(tables, value, i as usize, key).unwrap();
+        if !match_entry(tables, plan, field, part, rest, list) {
             return false;
         }
     }
@@ -173,11 +147,13 @@ pub fn match_pattern(
     requires { PatternAsks (contents tables.now) scratch.now count value start }
     ensures { PatternCame (contents tables.now) scratch.now count value start result }
 {
-    let linked = link_entries(scratch, count);
-    let starts = linked.starts;
-    let links = linked.entries;
+    let links = link_entries(scratch, count);
+    let plan = LinkedPlan {
+        scratch,
+        links: &links,
+    };
     let mut list = start;
-    if match_entry(tables, scratch, &starts, &links, 0, value, 32, &mut list) {
+    if match_entry(tables, &plan, 0, value, 32, &mut list) {
         return Ok(list);
     }
     Err(start)

@@ -1,26 +1,20 @@
 // The entries of a plan's children by their positions: fields stand in key order in a plan, and are taken as written.
-ghost use Rattle.std.specs.Prelude.{◌<◌, ◌^◌, ◌≡◌};
 ghost use Rattle.matching.specs.code.Linking.{LinkAsks, Linked, ChainAsks, ChainLinked};
 
 use planner::buffer::{ENTRY_WORDS, PATTERN_WORDS};
-
-fn wide(x: u32) -> usize
-    ensures { (result ≡ x) × (result < 2 ^ 32) }
-{
-    x as usize
-}
-
-pub(crate) fn entry_number(x: u16) -> usize
-    ensures { (result ≡ x) × (result < 2 ^ 16) }
-{
-    x as usize
-}
 
 // The child of entry `at` at position i + 1 is entry number `entries[starts[at] + i]`.
 #[derive(Clone, Copy)]
 pub(crate) struct Links {
     pub starts: [u16; 512],
     pub entries: [u16; 512],
+}
+
+// The entries of a plan, with their links.
+#[derive(Clone, Copy)]
+pub(crate) struct LinkedPlan<'a> {
+    pub scratch: &'a [u32; PATTERN_WORDS],
+    pub links: &'a Links,
 }
 
 // The children of entry `at`, `count` of them; the entry behind its plan. `nexts` has for each later entry the one behind its plan.
@@ -37,9 +31,9 @@ fn link_children(
 {
     let mut child = at + 1;
     for _i in 0..count {
-        let position = wide(scratch[child * ENTRY_WORDS + 4]);
+        let position = scratch[child * ENTRY_WORDS + 4] as usize;
         links[start + position - 1] = child as u16;
-        child = entry_number(nexts[child]);
+        child = nexts[child] as usize;
     }
     child
 }
@@ -54,7 +48,7 @@ pub(crate) fn link_entries(scratch: &[u32; PATTERN_WORDS], count: usize) -> Link
     let mut entries = [0u16; 512];
     let mut free: usize = 512;
     for at in (0..count).rev() {
-        let children = wide(scratch[at * ENTRY_WORDS + 2]);
+        let children = scratch[at * ENTRY_WORDS + 2] as usize;
         free -= children;
         starts[at] = free as u16;
         let next = link_children(scratch, &nexts, &mut entries, at, free, children);

@@ -3,7 +3,7 @@ ghost use Rattle.std.specs.Prelude.{◌≡◌, ◌+◌, ◌*◌, ◌<◌, ◌≤
 ghost use Rattle.table.specs.Contents.{contents};
 ghost use Rattle.table.specs.Tables.{tables};
 ghost use Rattle.teluddru.specs.code.Copying.{held, name_at, Copied};
-ghost use Rattle.teluddru.specs.code.Placing.{a_name, place_of};
+ghost use Rattle.teluddru.specs.code.Placing.{a_name, place_of, put_at};
 
 use crate::Name;
 use name_table::{NameAnswer, NameRefusal};
@@ -85,13 +85,14 @@ pub(crate) fn copy_names(names: &[Name]) -> NameWords
     NameWords { words, count }
 }
 
-pub(crate) fn place_of(answer: Result<NameAnswer, NameRefusal>, used: u32) -> usize
+// Where a name that was added goes.
+pub(crate) fn place_of(answer: Result<NameAnswer, NameRefusal>, used: u32) -> Option<usize>
     ensures { result ≡ place_of answer used }
 {
     match answer {
-        Ok(NameAnswer::Existing { .. }) => 18446744073709551615,
-        Ok(NameAnswer::Added { .. }) => used as usize,
-        Err(_) => 18446744073709551615,
+        Ok(NameAnswer::Added { .. }) => Some(used as usize),
+        Ok(NameAnswer::Existing { .. }) => None,
+        Err(_) => None,
     }
 }
 
@@ -102,10 +103,12 @@ pub(crate) fn name_of(start: u32, length: u32) -> Name
 }
 
 // Writes a record, if there is one at the place.
-pub(crate) fn put_name(names: &mut [Name], place: usize, name: Name)
-    ensures { names.new ≡ set names.old place name }
+pub(crate) fn put_name(names: &mut [Name], place: Option<usize>, name: Name)
+    ensures { names.new ≡ put_at place name names.old }
 {
-    if place < names.len() {
-        names[place] = name;
+    if let Some(i) = place {
+        if i < names.len() {
+            names[i] = name;
+        }
     }
 }

@@ -3,7 +3,7 @@
 
 ghost use Rattle.table.specs.Contents.{contents};
 ghost use Rattle.std.specs.Prelude.{◌≡◌, Ok};
-ghost use Rattle.tolerance.specs.Operations.{JudgedIn};
+ghost use Rattle.tolerance.specs.Operations.{Judged, JudgedIn};
 ghost use Rattle.tolerance.specs.code.Post.{ToJudge, GivenAsks, given_ok};
 ghost use Rattle.tolerance.specs.declared.ToleranceRefusal.TheVariants.{Run};
 
@@ -11,7 +11,7 @@ use deciding::decide;
 use names::{known_values, set_names};
 use planner::buffer::{ENTRY_WORDS, clear, close};
 use planner::inner::destructuring::plan_pattern;
-use ranges::{names_ok, numbers_ok};
+use ranges::{Ranges, names_ok, numbers_ok};
 use run::{RunRefusal, run};
 use scope::{Scope, ScopingMode};
 use table::tables::Tables;
@@ -20,6 +20,7 @@ mod classes;
 mod deciding;
 mod meeting;
 mod names;
+mod number;
 mod ranges;
 
 // All choices match, some do, none does.
@@ -46,26 +47,20 @@ impl From<RunRefusal> for ToleranceRefusal {
 }
 
 // Has every number of the value and of the known names' values, object keys aside, a range?
-fn ranges_given(
-    tables: &Tables<'_>,
-    value: u32,
-    lowest: &[u64],
-    highest: &[u64],
-    list: &[u32; 128],
-) -> bool
+fn ranges_given(tables: &Tables<'_>, value: u32, ranges: &Ranges<'_>, list: &[u32; 128]) -> bool
     requires { GivenAsks (contents tables.now) value list.now }
-    ensures { let T = contents tables.now in result ≡ given_ok T value lowest.now highest.now list.now }
+    ensures { let T = contents tables.now in result ≡ given_ok T value ranges.now.lowest.now ranges.now.highest.now list.now }
 {
-    if lowest.len() / 2 < tables.nodes.len() / 5 {
+    if ranges.lowest.len() / 2 < tables.nodes.len() / 5 {
         return false;
     }
-    if highest.len() / 2 < tables.nodes.len() / 5 {
+    if ranges.highest.len() / 2 < tables.nodes.len() / 5 {
         return false;
     }
-    if !numbers_ok(tables, lowest, highest, value) {
+    if !numbers_ok(tables, ranges, value) {
         return false;
     }
-    names_ok(tables, lowest, highest, list)
+    names_ok(tables, ranges, list)
 }
 
 // A run that nothing refuses: the plan in the buffer, then the answer.
@@ -76,19 +71,19 @@ fn judge(
     pattern: u32,
     value: u32,
     values: &mut [u32],
-    lowest: &[u64],
-    highest: &[u64],
+    ranges: &Ranges<'_>,
     known: [u32; 128],
     plan: &mut [u32],
 ) -> ToleranceAnswer
-    requires { ToJudge (contents tables.now) scope scoping pattern value values.old lowest.now highest.now known plan.old }
-    ensures { JudgedIn values lowest highest plan (contents tables.now) scope scoping pattern value (Ok result) }
+    requires { let R = ranges.now in ToJudge (contents tables.now) scope scoping pattern value values.old R.lowest.now R.highest.now known plan.old }
+    ensures { let T = contents tables.now in let R = ranges.now in
+        Judged T scope scoping pattern value values.old R.lowest.now R.highest.now plan.old values.new plan.new (Ok result) }
 {
     let mut binders = [0u32; 128];
     let planned = plan_pattern(tables, scope, scoping, pattern, &mut binders, plan, 0);
     let _ = close(plan, 0, planned.next);
     let mut list = known;
-    let answer = decide(tables, lowest, highest, &mut list, pattern, value);
+    let answer = decide(tables, ranges, &mut list, pattern, value);
     if let ToleranceAnswer::Always = answer {
         set_names(tables.names, &list, values);
         return answer;
@@ -119,8 +114,9 @@ pub fn run_with_tolerance(
         clear(plan);
         return Err(asked.into());
     };
+    let ranges = Ranges { lowest, highest };
     let known = known_values(tables.names, tables.text, scope, scoping, values);
-    if !ranges_given(tables, value, lowest, highest, &known) {
+    if !ranges_given(tables, value, &ranges, &known) {
         clear(plan);
         return Err(ToleranceRefusal::RangeWrong);
     }
@@ -129,6 +125,6 @@ pub fn run_with_tolerance(
         return Err(asked.into());
     }
     Ok(judge(
-        tables, scope, scoping, pattern, value, values, lowest, highest, known, plan,
+        tables, scope, scoping, pattern, value, values, &ranges, known, plan,
     ))
 }

@@ -9,6 +9,8 @@ use mir.Val.{Fits}
 use mir.Syntax.{w64}
 use borrow.Author.Tests.{ne_eqb, eqb-true, eqb-false, not-true, not-false}
 use lib.Dec.{T as True, eqb}
+use Rattle.std.specs.Prelude.{Some, None}
+use Rattle.std.specs.Prelude as Prelude
 use Rattle.literal.specs.Literal.{Literal}
 use Rattle.table.specs.Tables.{Tables, kind_of, first_word_of, count_of, child_at}
 use Rattle.table.specs.Decode.{expr, items, fields, is_wildcard, literal_at, fields_of}
@@ -21,10 +23,10 @@ use Rattle.planner.specs.Simple.{same_key, has_key, keys_of, admitted}
 use Rattle.planner.proofs.destructuring.NodeKinds.{Plain, plain_literal, plain_set, plain_other, plain_kind}
 use Rattle.planner.proofs.fields.Objects.{key_literal}
 use Rattle.value.specs.Value.{Value, literalᵛ, ValueFields, doneᵛ, fieldᵛ, is_value, filled_field, value_of, values_of, value_fields_of, value_at, keysᵛ, first_hit, under, within, same_key_sets, holds, same, same_items, same_fields_lem}
-use Rattle.value.specs.code.Post.{same_literals, under_from, under_in, KeyedObject, ValueNode, SameAsks, SameItemsAsks, SameFieldsAsks}
+use Rattle.value.specs.code.Post.{same_literals, node_or_none, under_from, under_in, KeyedObject, ValueNode, SameAsks, SameItemsAsks, SameFieldsAsks}
 use Rattle.value.proofs.Keys.{and_left, and_right, both, is_true, is_false, true_is, sets_by_count, sets_uneven}
 use Rattle.value.proofs.Admitted.{value_keys, array_item, object_value, array_children, value_node_lem, keyed_object, admitted_value}
-use Rattle.value.proofs.Under.{Fielded, object_fielded, keys_length, found_field, found_value, key_of, position_fits, position_key_fits, position_value_fits}
+use Rattle.value.proofs.Under.{node_told, no_node, Fielded, object_fielded, keys_length, found_field, found_value, key_of, position_fits, position_key_fits, position_value_fits}
 
 -- what a value node is
 pub data ValueShape (T : Tables) (n : ℕ) : Expr → Type 0 where
@@ -312,33 +314,39 @@ module _ {T : Tables} {a b first size i : ℕ} (go : ByKey T a b first size i) w
         let e : first_word_of T.nodes a + (i * 2 + 1) ≡ first + i * 2 + 1 = let is = go.is_first in omega arith in
         rw is-value (rw e at (asks.table.below a asks.left.node (i * 2 + 1) (omega arith)).1)
 
-    module _ {key value : ℕ} (is_key : key ≡ child_at T.children (first + i * 2)) (is-value : value ≡ child_at T.children (first + i * 2 + 1)) {other : ℕ} (is-other : other ≡ under_in T b key) where
+    module _ {key value : ℕ} (is_key : key ≡ child_at T.children (first + i * 2)) (is-value : value ≡ child_at T.children (first + i * 2 + 1)) {found : Prelude.Option ℕ} (is-found : found ≡ node_or_none (under_in T b key)) where
       rest : Bool
       rest = same_fields_lem (value_fields_of (fields (expr T) T.children (first + (i + 1) * 2) (size - (i + 1)))) (value_fields_of (fields_of T b))
 
-      field_step : same_fields_lem (value_fields_of (fields (expr T) T.children (first + i * 2) (size - i))) (value_fields_of (fields_of T b)) ≡ (holds (λ w. same (value_of (expr T value)) w) (value_at T other) && rest)
+      field_step : same_fields_lem (value_fields_of (fields (expr T) T.children (first + i * 2) (size - i))) (value_fields_of (fields_of T b)) ≡ (holds (λ w. same (value_of (expr T value)) w) (value_at T (under_in T b key)) && rest)
       unfolding fields value_of same rest
       field_step =
           let (l, d, q) = key_of T first size fielded i more in
           let e : size - i ≡ suc (size - (i + 1)) = omega arith in
           let x : first + i * 2 + 2 ≡ first + (i + 1) * 2 = omega arith in
-          let found : under l (value_fields_of (fields_of T b)) ≡ value_at T other =
+          let in-tree : under l (value_fields_of (fields_of T b)) ≡ value_at T (under_in T b key) =
           found_value T (first_word_of T.nodes b) (count_of T.nodes b) (object_fielded by_key_object) l
-          ∙ ap (value_at T) (sym (is-other ∙ ap (λ (o : Option Literal). under_from T o (first_word_of T.nodes b) (count_of T.nodes b)) (ap (λ (m : ℕ). literal_at T m) is_key ∙ d))) in
+          ∙ ap (value_at T) (sym (ap (λ (o : Option Literal). under_from T o (first_word_of T.nodes b) (count_of T.nodes b)) (ap (λ (m : ℕ). literal_at T m) is_key ∙ d))) in
           ap (λ (k : ℕ). same_fields_lem (value_fields_of (fields (expr T) T.children (first + i * 2) k)) (value_fields_of (fields_of T b))) e
           ∙ (ap (λ (o : Option Literal). same_fields_lem (filled_field o (value_of (expr T (child_at T.children (first + i * 2 + 1)))) (value_fields_of (fields (expr T) T.children (first + i * 2 + 2) (size - (i + 1))))) (value_fields_of (fields_of T b))) q
-          ∙ (ap₂ (λ (o : Option Value) (m : ℕ). holds (λ w. same (value_of (expr T m)) w) o && same_fields_lem (value_fields_of (fields (expr T) T.children (first + i * 2 + 2) (size - (i + 1)))) (value_fields_of (fields_of T b))) found (sym is-value)
-          ∙ ap (λ (p : ℕ). holds (λ w. same (value_of (expr T value)) w) (value_at T other) && same_fields_lem (value_fields_of (fields (expr T) T.children p (size - (i + 1)))) (value_fields_of (fields_of T b))) x))
+          ∙ (ap₂ (λ (o : Option Value) (m : ℕ). holds (λ w. same (value_of (expr T m)) w) o && same_fields_lem (value_fields_of (fields (expr T) T.children (first + i * 2 + 2) (size - (i + 1)))) (value_fields_of (fields_of T b))) in-tree (sym is-value)
+          ∙ ap (λ (p : ℕ). holds (λ w. same (value_of (expr T value)) w) (value_at T (under_in T b key)) && same_fields_lem (value_fields_of (fields (expr T) T.children p (size - (i + 1)))) (value_fields_of (fields_of T b))) x))
 
-      pub by_key_missing : other ≡ 0 → false ≡ same_fields_lem (value_fields_of (fields_of T a)) (value_fields_of (fields_of T b))
+      pub by_key_missing : found ≡ None → false ≡ same_fields_lem (value_fields_of (fields_of T a)) (value_fields_of (fields_of T b))
       unfolding rest
-      by_key_missing z = sym (field_step ∙ ap (λ (m : ℕ). holds (λ w. same (value_of (expr T value)) w) (value_at T m) && rest) z) ∙ go.same_left
+      by_key_missing none = let z = no_node is-found none in sym (field_step ∙ ap (λ (m : ℕ). holds (λ w. same (value_of (expr T value)) w) (value_at T m) && rest) z) ∙ go.same_left
 
-      module _ (nz : other ≡ 0 → ⊥) where
+      module _ {other : ℕ} (some : found ≡ Some other) where
+        is-other : other ≡ under_in T b key
+        is-other = (node_told is-found some).0
+
+        there : under_in T b key ≡ 0 → ⊥
+        there = (node_told is-found some).1
+
         partner : ValueNode T other
         partner =
             let asks = go.asks.both in
-            let (j, lt, e) = found_field T (literal_at T key) (first_word_of T.nodes b) (count_of T.nodes b) (λ z. nz (is-other ∙ z)) in
+            let (j, lt, e) = found_field T (literal_at T key) (first_word_of T.nodes b) (count_of T.nodes b) there in
             rw is-other (rw e (admitted_value T (value_node T (first_word_of T.nodes b) j) (value_node_lem (object_fielded by_key_object).asks j lt)
             (object_value T asks.table b asks.right.node false asks.right.value go.asks.right_object j lt)))
 
@@ -354,8 +362,8 @@ module _ {T : Tables} {a b first size i : ℕ} (go : ByKey T a b first size i) w
             }
 
         module _ {r : Bool} (is : r ≡ same (value_of (expr T value)) (value_of (expr T other))) where
-          told : holds (λ w. same (value_of (expr T value)) w) (value_at T other) ≡ r
-          told = let z = ne_eqb other 0 nz in rw z (sym is)
+          told : holds (λ w. same (value_of (expr T value)) w) (value_at T (under_in T b key)) ≡ r
+          told = let z = ne_eqb (under_in T b key) 0 there in rw z (sym (rw is-other at is))
 
           pub by_key_fails : not r ≡ true → false ≡ same_fields_lem (value_fields_of (fields_of T a)) (value_fields_of (fields_of T b))
           by_key_fails t = sym (field_step ∙ ap (λ (x : Bool). x && rest) (told ∙ not-true r t)) ∙ go.same_left

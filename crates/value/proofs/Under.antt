@@ -7,13 +7,16 @@ use mathlib.Core.Option.{Option}
 use native.Mathlib.Omega.{arith}
 use mir.Val.{Fits}
 use mir.Syntax.{w64}
-use borrow.Author.Tests.{eq-eqb, ne_eqb, not-true}
+use borrow.Author.Tests.{ne_eqb, not-true, eqb-true, eqb-false}
 use lib.Dec.{T as True, eqb}
 use lib.ListN.{length}
+use Rattle.std.specs.Prelude.{Some, None}
+use Rattle.std.specs.Prelude as Prelude
+use Rattle.std.specs.Option.{is_some}
 use Rattle.literal.specs.Literal.{Literal}
 use Rattle.literal.specs.Order.{Order, key_order, compared, comparison_of}
 use Rattle.literal.specs.declared.Comparison.{Comparison}
-use Rattle.literal.specs.declared.Comparison.TheVariants.{Less, Equal, Greater, NoLiteral}
+use Rattle.literal.specs.declared.Comparison.TheVariants.{Equal}
 use Rattle.table.specs.Tables.{Tables, kind_of, first_word_of, count_of, child_at}
 use Rattle.table.specs.Decode.{expr, fields, literal_at, fields_of}
 use Rattle.table.proofs.tests.Bools.{and_true}
@@ -23,7 +26,7 @@ use Rattle.table.specs.Names.{is_same}
 use Rattle.planner.specs.Simple.{same_key, has_key, differing, add_key, keys_of}
 use Rattle.planner.proofs.fields.Objects.{key_literal}
 use Rattle.value.specs.Value.{filled_field, value_of, value_fields_of, value_at, first_hit, under, within, same_key_sets}
-use Rattle.value.specs.code.Post.{ChildrenAsks, same_literals, under_from, under_in, KeyedObject, KeySetsAsks}
+use Rattle.value.specs.code.Post.{ChildrenAsks, same_literals, node_or_none, under_from, under_in, KeyedObject, KeySetsAsks}
 use Rattle.value.proofs.Keys.{or_left, or_right, is_true, is_false, true_is, key→, key_refl, sets_by_count, sets_uneven}
 use Rattle.value.proofs.Admitted.{object_children, key-node}
 use Rattle.value.proofs.Marking.{fields_on, place_fits, value_fits}
@@ -58,14 +61,30 @@ module _ {way : Comparison} (a b : Option Literal) (is : way ≡ compared a b) w
       go (Option.some x) Option.none p = refl
       go (Option.some x) (Option.some y) p = by (key_order x y) p
 
-  pub literals_less : way ≡ Less → false ≡ same_literals a b
-  literals_less p = literals_differ (λ q. let z : ◌≡◌ {A = ℕ} 0 1 = cc in omega arith)
+-- a node that is there, and one that is 0
+pub node_there : {n m : ℕ} → 1 ≤ n → n ≡ m → Some n ≡ node_or_none m
+node_there {n} low e = let z = ne_eqb n 0 (λ p. omega arith) in rw (← e) (rw z refl)
 
-  pub literals_greater : way ≡ Greater → false ≡ same_literals a b
-  literals_greater p = literals_differ (λ q. let z : ◌≡◌ {A = ℕ} 0 1 = cc in omega arith)
+pub node_told : {r : Prelude.Option ℕ} {n m : ℕ} → r ≡ node_or_none m → r ≡ Some n → (n ≡ m) × (m ≡ 0 → ⊥)
+node_told {r} {n} {m} is e = go (eqb m 0) refl (sym e ∙ is)
+  where
+    go : (b : Bool) → eqb m 0 ≡ b → Some n ≡ cond b None (Some m) → (n ≡ m) × (m ≡ 0 → ⊥)
+    go true p q = cc
+    go false p q = (cc, eqb-false m 0 p)
 
-  pub literals_none : way ≡ NoLiteral → false ≡ same_literals a b
-  literals_none p = literals_differ (λ q. let z : ◌≡◌ {A = ℕ} 0 1 = cc in omega arith)
+pub no_node : {r : Prelude.Option ℕ} {m : ℕ} → r ≡ node_or_none m → r ≡ None → m ≡ 0
+no_node {r} {m} is e = go (eqb m 0) refl (sym e ∙ is)
+  where
+    go : (b : Bool) → eqb m 0 ≡ b → None ≡ cond b None (Some m) → m ≡ 0
+    go true p q = eqb-true m 0 p
+    go false p q = cc
+
+pub some_is : (m : ℕ) {r : Prelude.Option ℕ} → r ≡ node_or_none m → is_some r ≡ not (eqb m 0)
+some_is m {r} is = ap is_some is ∙ go (eqb m 0)
+  where
+    go : (b : Bool) → is_some (cond b None (Some m)) ≡ not b
+    go true = refl
+    go false = refl
 
 -- fields in turn
 under_step : (T : Tables) (own : Option Literal) (at left : ℕ) → 0 < left
@@ -89,19 +108,20 @@ module _ {T : Tables} {own : Option Literal} {at₀ left₀ at left : ℕ} (go :
     seeking_fits = place_fits more go.asks
 
     module _ {other : ℕ} {equal : Bool} (is : other ≡ child_at T.children at) (of : equal ≡ same_literals own (literal_at T other)) where
-      pub seeking_found : {value : ℕ} → equal ≡ true → value ≡ child_at T.children (at + 1) → value ≡ under_from T own at₀ left₀
+      pub seeking_found : {value : ℕ} → equal ≡ true → value ≡ child_at T.children (at + 1) → Some value ≡ node_or_none (under_from T own at₀ left₀)
       seeking_found alike e =
           let s : same_literals own (literal_at T (child_at T.children at)) ≡ true = rw (← is) (sym of ∙ alike) in
-          e ∙ (sym (under_step T own at left more ∙ rw s) ∙ go.same)
+          let v = go.asks.each 1 (omega arith) in
+          node_there (rw e v.low) (e ∙ (sym (under_step T own at left more ∙ rw s) ∙ go.same))
 
       pub seeking_on : {next rest : ℕ} → equal ≡ false → next ≡ at + 2 → rest ≡ left - 1 → Seeking T own at₀ left₀ next rest
       seeking_on unlike on last =
           let s : same_literals own (literal_at T (child_at T.children at)) ≡ false = rw (← is) (sym of ∙ unlike) in
           rw (on, last) (record { asks = fields_on more go.asks; same = sym (under_step T own at left more ∙ rw s) ∙ go.same })
 
-  pub seeking_ends : left ≤ 0 → 0 ≡ under_from T own at₀ left₀
+  pub seeking_ends : left ≤ 0 → None ≡ node_or_none (under_from T own at₀ left₀)
   unfolding under_from
-  seeking_ends no_more = let z : left ≡ 0 = omega arith in rw z at go.same
+  seeking_ends no_more = let z : left ≡ 0 = omega arith in ap node_or_none (rw z at go.same)
 
 -- k fields with literal keys
 pub record Fielded (T : Tables) (at k : ℕ) : Type 0 where
@@ -248,12 +268,15 @@ module _ (T : Tables) (n : ℕ) (o : KeyedObject T n) {first size : ℕ} (is_fir
     position_value_fits = let s = position_small in record { fits = omega arith }
 
     pub position_found : (key : ℕ) {other value : ℕ} {equal : Bool} → other ≡ child_at T.children (first + position * 2) → equal ≡ same_literals (literal_at T key) (literal_at T other) → equal ≡ true
-        → value ≡ child_at T.children (first + position * 2 + 1) → value ≡ under_in T n key
+        → value ≡ child_at T.children (first + position * 2 + 1) → Some value ≡ node_or_none (under_in T n key)
     position_found key is of alike e =
         let s : same_literals (literal_at T key) (literal_at T (child_at T.children (first_word_of T.nodes n + position * 2))) ≡ true = rw (← is_first) (rw (← is) (sym of ∙ alike)) in
-        (rw is_first at e) ∙ found_at T (first_word_of T.nodes n) (count_of T.nodes n) (object_fielded o) o.differ (literal_at T key) position (rw (← is_size) in-object) s
+        let v = ask_scan.each (position * 2 + 1) (omega arith) in
+        let w : first + (position * 2 + 1) ≡ first + position * 2 + 1 = omega arith in
+        let low : 1 ≤ child_at T.children (first + position * 2 + 1) = (rw w at v).low in
+        node_there (rw e low) ((rw is_first at e) ∙ found_at T (first_word_of T.nodes n) (count_of T.nodes n) (object_fielded o) o.differ (literal_at T key) position (rw (← is_size) in-object) s)
 
-  pub scan_found : (key : ℕ) {r : ℕ} → r ≡ under_from T (literal_at T key) first size → r ≡ under_in T n key
+  pub scan_found : (key : ℕ) {r : Prelude.Option ℕ} → r ≡ node_or_none (under_from T (literal_at T key) first size) → r ≡ node_or_none (under_in T n key)
   scan_found key e = rw (is_first, is_size) at e
 
 -- the key sets of two objects
@@ -305,8 +328,8 @@ module _ {T : Tables} {a b first size i : ℕ} (go : Covering T a b first size i
     pub covering_object : KeyedObject T b
     covering_object = go.asks.right
 
-    module _ {key value : ℕ} (is : key ≡ child_at T.children (first + i * 2)) (of : value ≡ under_in T b key) where
-      here : (c : Bool) → eqb value 0 ≡ c → within (keys_of (fields (expr T) T.children (first + i * 2) (size - i))) (keys_of (fields_of T b)) ≡ (not c && within (keys_of (fields (expr T) T.children (first + (i + 1) * 2) (size - (i + 1)))) (keys_of (fields_of T b)))
+    module _ {key : ℕ} {found : Prelude.Option ℕ} (is : key ≡ child_at T.children (first + i * 2)) (of : found ≡ node_or_none (under_in T b key)) where
+      here : (c : Bool) → is_some found ≡ not c → within (keys_of (fields (expr T) T.children (first + i * 2) (size - i))) (keys_of (fields_of T b)) ≡ (not c && within (keys_of (fields (expr T) T.children (first + (i + 1) * 2) (size - (i + 1)))) (keys_of (fields_of T b)))
       unfolding fields keys_of within
       here c p =
           let n = go.asks.left.table in
@@ -314,10 +337,12 @@ module _ {T : Tables} {a b first size i : ℕ} (go : Covering T a b first size i
           let e : size - i ≡ suc (size - (i + 1)) = omega arith in
           let s : first + i * 2 + 2 ≡ first + (i + 1) * 2 = omega arith in
           let has = found_key T (first_word_of T.nodes b) (count_of T.nodes b) (object_fielded go.asks.right) l in
-          let found : has_key l (keys_of (fields_of T b)) ≡ not c = has ∙ ap not (ap (λ (x : ℕ). eqb x 0) (sym (of ∙ ap (λ (o : Option Literal). under_from T o (first_word_of T.nodes b) (count_of T.nodes b)) (ap (λ (m : ℕ). literal_at T m) is ∙ d))) ∙ p) in
+          let there : under_from T (Option.some l) (first_word_of T.nodes b) (count_of T.nodes b) ≡ under_in T b key =
+          sym (ap (λ (o : Option Literal). under_from T o (first_word_of T.nodes b) (count_of T.nodes b)) (ap (λ (m : ℕ). literal_at T m) is ∙ d)) in
+          let has-told : has_key l (keys_of (fields_of T b)) ≡ not c = has ∙ (ap (λ (x : ℕ). not (eqb x 0)) there ∙ (sym (some_is (under_in T b key) of) ∙ p)) in
           ap (λ (k : ℕ). within (keys_of (fields (expr T) T.children (first + i * 2) k)) (keys_of (fields_of T b))) e
           ∙ (ap (λ (ks : List Literal). within ks (keys_of (fields_of T b))) (keys_step T (first + i * 2) (size - (i + 1)) l q)
-          ∙ (ap (λ (x : Bool). x && within (keys_of (fields (expr T) T.children (first + i * 2 + 2) (size - (i + 1)))) (keys_of (fields_of T b))) found
+          ∙ (ap (λ (x : Bool). x && within (keys_of (fields (expr T) T.children (first + i * 2 + 2) (size - (i + 1)))) (keys_of (fields_of T b))) has-told
           ∙ ap (λ (x : ℕ). not c && within (keys_of (fields (expr T) T.children x (size - (i + 1)))) (keys_of (fields_of T b))) s))
 
       decided : within (keys_of (fields_of T a)) (keys_of (fields_of T b)) ≡ same_key_sets (keys_of (fields_of T a)) (keys_of (fields_of T b))
@@ -329,18 +354,19 @@ module _ {T : Tables} {a b first size i : ℕ} (go : Covering T a b first size i
           let even = go.even in
           sets_by_count (keys_of (fields_of T a)) (keys_of (fields_of T b)) (differs go.asks a go.asks.left) (differs go.asks b go.asks.right) (omega arith)
 
-      pub covering_fails : value ≡ 0 → false ≡ same_key_sets (keys_of (fields_of T a)) (keys_of (fields_of T b))
-      covering_fails z = sym (here true (eq-eqb value 0 z)) ∙ (go.same ∙ decided)
+      module _ {none : Bool} (told : is_some found ≡ not none) where
+        pub covering_fails : none ≡ true → false ≡ same_key_sets (keys_of (fields_of T a)) (keys_of (fields_of T b))
+        covering_fails e = sym (here true (rw e at told)) ∙ (go.same ∙ decided)
 
-      pub covering_on : (value ≡ 0 → ⊥) → Covering T a b first size (i + 1)
-      covering_on nz = record {
-        asks = go.asks;
-        is_first = go.is_first;
-        is_size = go.is_size;
-        even = go.even;
-        inside = omega arith;
-        same = sym (here false (ne_eqb value 0 nz)) ∙ go.same;
-      }
+        pub covering_on : none ≡ false → Covering T a b first size (i + 1)
+        covering_on e = record {
+          asks = go.asks;
+          is_first = go.is_first;
+          is_size = go.is_size;
+          even = go.even;
+          inside = omega arith;
+          same = sym (here false (rw e at told)) ∙ go.same;
+        }
 
   pub covering_ends : size ≤ i → true ≡ same_key_sets (keys_of (fields_of T a)) (keys_of (fields_of T b))
   unfolding own_keys within fields keys_of

@@ -4,3 +4,4 @@ pub mod LikeLoops
 pub mod PlaceLaws
 pub mod KeyOrderLoops
 pub mod GraphLoops
+pub mod PartsTold

@@ -26,10 +26,10 @@ use Rattle.value.specs.Value.{Value, literalᵛ}
 use Rattle.common_example.specs.Overlap.{Template, hole, literalᵗ, arrayᵗ, objectᵗ, Templates, noneᵗ, itemᵗ, TemplateFields, doneᵗ, fieldᵗ, put_in, put_all, put_fields, example, size, size_all, size_fields}
 use Rattle.common_example.specs.Unify.{build_items, build_fields, build_head, build}
 use Rattle.common_example.specs.Operations.{is_like, words_like, node_like, child_entries, child_entries_all, child_entries_fields, count_items_lem, count_fieldsᵛ, literal_words, node_words, node_words_all, node_words_fields, child_words_lem, child_words_all, child_words_fields, item_nodes, field_nodes}
-use Rattle.common_example.specs.code.Graph.{kind_at, start_at, count_at, items_at, keyed_at, head_by, head_at, Told, Linked}
+use Rattle.common_example.specs.code.Graph.{kind_at, start_at, count_at, items_at, keyed_at, head_by, head_at, Told, Linked, step_by, link_by}
 use Rattle.common_example.specs.code.Classes.{class_in, ClassesOk}
 use Rattle.common_example.specs.code.Sizes.{sizes_after}
-use Rattle.common_example.specs.code.Writing.{node_entry, literal_entry, key_words, key_number, step_by, link_by, part_sizes, part_entries, part_numbers, part_nodes, part_children, parent_nodes, parent_children, place_nodes, place_children, PartsFit, Fit, Copied}
+use Rattle.common_example.specs.code.Writing.{node_entry, literal_entry, key_words, key_number, part_sizes, part_entries, part_numbers, part_nodes, part_children, parent_nodes, parent_children, place_nodes, place_children, PartsFit, Fit, Copied}
 use Rattle.common_example.proofs.unify.Building.{and_item_back, and_field_back, of_items_back, of_fields_back, build_upto}
 use Rattle.common_example.proofs.loops.sizes.LevelSizes.{built_size, level_sizes}
 use Rattle.common_example.proofs.written.Sizes.{entries_size}

@@ -10,6 +10,7 @@ use Rattle.table.specs.Check.{checked}
 use Rattle.table.specs.code.Sound.{Node, WellFormed}
 use Rattle.common_example.specs.declared.example.Example.{Example}
 use Rattle.common_example.specs.declared.example.ExampleRefusal.{ExampleRefusal}
+use Rattle.common_example.specs.declared.graph.Joined.{Joined}
 use Rattle.common_example.specs.declared.sides.ScopedPattern.{ScopedPattern}
 use Rattle.common_example.specs.Places.{overlap}
 use Rattle.common_example.specs.Operations.{PatternSide, held_by_side, side_checked, tree_of, example_of, example_from}
@@ -62,5 +63,5 @@ pub record WritesJoined (T : Tables) (held : List ℕ) (root : ℕ) (heads links
   pub is : (literal_of : ℕ → Literal) → Copied T literal_of heads links
       → Gives T (example_of (built_of literal_of heads links classes 2048 (node_place T.nodes T.names T.text held root 0))) nodes children nodes' children' r
 
-abbrev pub WrittenIn : Tables → Slices → ℕ → Slices → Slices → Slices → MutSlices → MutSlices → Result (Option Example) ExampleRefusal → Type 0
-WrittenIn T held root heads links classes nodes children r = WritesJoined T held.entry.now root heads.entry.now links.entry.now classes.entry.now (old nodes) (old children) (new nodes) (new children) r
+abbrev pub WrittenIn : Tables → List ℕ → ℕ → Joined → MutSlices → MutSlices → Result (Option Example) ExampleRefusal → Type 0
+WrittenIn T held root joined nodes children r = WritesJoined T held root joined.graph.heads joined.graph.links joined.classes (old nodes) (old children) (new nodes) (new children) r

@@ -2,12 +2,13 @@
 use Rattle.std.specs.Prelude.{ℕ, ◌+◌, ◌-◌, ◌/◌, ◌≤◌, ◌<◌, List, ◌≡◌, length, Option, Result}
 use Rattle.std.proofs.Math.Option.{some}
 use Rattle.std.proofs.lemmas.List.Edits.{sets}
-use Rattle.base.specs.Lent.{Slices, MutSlices, old, new}
+use Rattle.base.specs.Lent.{MutSlices, old, new}
 use Rattle.literal.specs.Literal.{Literal}
 use Rattle.table.specs.Tables.{Tables}
 use Rattle.common_example.specs.declared.deciding.Verdict.TheVariants.{Fits}
 use Rattle.common_example.specs.declared.example.Example.{Example}
 use Rattle.common_example.specs.declared.example.ExampleRefusal.{ExampleRefusal}
+use Rattle.common_example.specs.declared.graph.Joined.{Joined}
 use Rattle.common_example.specs.Overlap.{Template, example, size}
 use Rattle.common_example.specs.Operations.{node_words, child_words_lem, example_of, found}
 use Rattle.common_example.specs.Common.{Gives}
@@ -41,12 +42,12 @@ pub record FoundIs (nodes heads links classes : List ℕ) (p entries : ℕ) (out
       → (found r.node r.nodes r.children ≡ found (length nodes / 5 + size (example t)) (size (example t)) (size (example t) - 1))
       × (out' ≡ sets out 0 (node_words T (example t) entries)) × (kids' ≡ sets kids 0 (child_words_lem (example t) (length nodes / 5)))
 
-abbrev pub FoundWritten : Slices → Slices → Slices → Slices → ℕ → ℕ → MutSlices → MutSlices → Example → Type 0
-FoundWritten nodes heads links classes p entries out kids r = FoundIs nodes.entry.now heads.entry.now links.entry.now classes.entry.now p entries (old out) (old kids) (new out) (new kids) r
+abbrev pub FoundWritten : List ℕ → Joined → ℕ → ℕ → MutSlices → MutSlices → Example → Type 0
+FoundWritten nodes joined p entries out kids r = FoundIs nodes joined.graph.heads joined.graph.links joined.classes p entries (old out) (old kids) (new out) (new kids) r
 
 pub record ExampleIs (nodes heads links classes : List ℕ) (p entries : ℕ) (out kids out' kids' : List ℕ) (r : Result (Option Example) ExampleRefusal) : Type 0 where
   pub is : (T : Tables) (literal_of : ℕ → Literal) → T.nodes ≡ nodes → length T.children ≡ entries → Copied T literal_of heads links
       → Gives T (example_of (built_of literal_of heads links classes 2048 p)) out kids out' kids' r
 
-abbrev pub ExampleWritten : Slices → Slices → Slices → Slices → ℕ → ℕ → MutSlices → MutSlices → Result (Option Example) ExampleRefusal → Type 0
-ExampleWritten nodes heads links classes p entries out kids r = ExampleIs nodes.entry.now heads.entry.now links.entry.now classes.entry.now p entries (old out) (old kids) (new out) (new kids) r
+abbrev pub ExampleWritten : List ℕ → Joined → ℕ → ℕ → MutSlices → MutSlices → Result (Option Example) ExampleRefusal → Type 0
+ExampleWritten nodes joined p entries out kids r = ExampleIs nodes joined.graph.heads joined.graph.links joined.classes p entries (old out) (old kids) (new out) (new kids) r

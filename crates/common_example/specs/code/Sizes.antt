@@ -1,6 +1,6 @@
 -- Sizes of the values of classes, level by level: 0 for none yet, at most 513.
-use Rattle.std.specs.Prelude.{ℕ, zero, suc, ◌+◌, ◌*◌, ◌≤◌, ◌<◌, min, Bool, cond, List, ◌≡◌, eqb, leb, length, get_or, replicate}
-use Rattle.base.specs.Lists.{all_from, tabulate}
+use Rattle.std.specs.Prelude.{ℕ, zero, suc, ◌+◌, ◌*◌, ◌≤◌, ◌<◌, min, cond, List, ◌≡◌, eqb, leb, length, get_or, replicate}
+use Rattle.base.specs.Lists.{tabulate}
 use Rattle.common_example.specs.code.Graph.{kind_at, start_at, count_at, Linked}
 use Rattle.common_example.specs.code.Classes.{class_in, ClassesOk}
 
@@ -52,13 +52,6 @@ next_sizes heads links classes sizes = tabulate (level_size heads links classes 
 pub record LevelDone (heads links classes sizes r : List ℕ) : Type 0 where
   pub next : r ≡ next_sizes heads links classes sizes
   pub ok : SizesOk r
-
--- a level that changes nothing
-unfoldable pub same_at : List ℕ → List ℕ → ℕ → Bool
-same_at sizes next i = eqb (get_or sizes i 0) (get_or next i 0)
-
-abbrev pub same_sizes : List ℕ → List ℕ → Bool
-same_sizes sizes next = all_from (same_at sizes next) 0 2052
 
 -- what has a value of so many levels
 unfoldable pub sizes_after : List ℕ → List ℕ → List ℕ → ℕ → List ℕ

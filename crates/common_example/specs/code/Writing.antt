@@ -1,11 +1,13 @@
 -- The words of a class's value, from the arrays of heads, links, classes and sizes.
 use Rattle.std.specs.Prelude.{ℕ, zero, suc, ◌+◌, ◌-◌, ◌*◌, ◌/◌, ◌≤◌, ◌<◌, cond, List, [], ◌∷◌, ◌++◌, ◌≡◌, eqb, leb, length, get_or}
 use Rattle.std.proofs.lemmas.List.Edits.{sets}
-use Rattle.base.specs.Lent.{Slices, MutSlices, old, new}
+use Rattle.base.specs.Lent.{MutSlices, old, new}
 use Rattle.literal.specs.Literal.{Literal, null}
 use Rattle.table.specs.Tables.{Tables, kind_of, first_word_of, count_of}
 use Rattle.common_example.specs.Operations.{literal_words}
-use Rattle.common_example.specs.code.Graph.{kind_at, start_at, count_at, Linked}
+use Rattle.common_example.specs.declared.graph.Parts.{Parts}
+use Rattle.common_example.specs.declared.writing.Source.{Source}
+use Rattle.common_example.specs.code.Graph.{kind_at, start_at, count_at, Linked, shape_kind, step_by, link_by, step_of}
 use Rattle.common_example.specs.code.Classes.{class_in, ClassesOk}
 use Rattle.common_example.specs.code.Sizes.{SizesOk}
 
@@ -17,7 +19,7 @@ node_entry kind first count = kind ∷ (0 ∷ (0 ∷ (first ∷ (count ∷ [])))
 unfoldable pub literal_entry : List ℕ → ℕ → List ℕ
 literal_entry nodes id = cond (eqb id 0) (node_entry 5 0 0) (node_entry (kind_of nodes id) (first_word_of nodes id) (count_of nodes id))
 
--- Links of items stand 4 apart, those of fields' values 8, the key's node 2 before its value's place.
+-- a field has a key's node before its value's
 abbrev pub key_count : ℕ → ℕ
 key_count step = cond (eqb step 8) 1 0
 
@@ -29,12 +31,6 @@ key_number step before = cond (eqb step 8) ((before + 1) ∷ []) []
 
 abbrev pub leaf_node : List ℕ → ℕ → ℕ
 leaf_node heads q = cond (eqb (kind_at heads q) 1) (start_at heads q) 0
-
-abbrev pub step_by : ℕ → ℕ
-step_by kind = cond (eqb kind 2) 4 8
-
-abbrev pub link_by : ℕ → ℕ → ℕ
-link_by kind start = cond (eqb kind 2) start (start + 4)
 
 abbrev pub parent_kind : ℕ → ℕ
 parent_kind kind = cond (eqb kind 2) 7 9
@@ -191,13 +187,36 @@ pub record PartsWritten (nodes heads links classes sizes : List ℕ) (step link 
   pub ends : end ≡ entry + part_entries links sizes step link k
 
 -- the same of what a function is lent, at entry and at exit
-abbrev pub PlaceWrittenIn : Slices → Slices → Slices → Slices → Slices → ℕ → ℕ → ℕ → ℕ → ℕ → ℕ → MutSlices → MutSlices → Type 0
-PlaceWrittenIn nodes heads links classes sizes p r before entries at entry out kids =
-    PlaceWritten nodes.entry.now heads.entry.now links.entry.now classes.entry.now sizes.entry.now p r before entries at entry (old out) (old kids) (new out) (new kids)
+abbrev pub numbers_of : Source → Parts → ℕ → List ℕ
+numbers_of s parts before = part_numbers s.joined.now.graph.links s.sizes.now (step_of parts.shape) parts.link parts.count before
 
-abbrev pub PartsWrittenIn : Slices → Slices → Slices → Slices → Slices → ℕ → ℕ → ℕ → ℕ → ℕ → ℕ → ℕ → ℕ → MutSlices → MutSlices → ℕ → Type 0
-PartsWrittenIn nodes heads links classes sizes step link k r before entries at entry out kids end =
-    PartsWritten nodes.entry.now heads.entry.now links.entry.now classes.entry.now sizes.entry.now step link k r before entries at entry (old out) (old kids) (new out) (new kids) end
+abbrev pub NumberAsksIn : Source → Parts → ℕ → ℕ → List ℕ → Type 0
+NumberAsksIn s parts before entry children = NumberAsks s.joined.now.graph.links s.sizes.now (step_of parts.shape) parts.link parts.count before entry children
+
+abbrev pub ParentAsksIn : Source → Parts → ℕ → ℕ → ℕ → List ℕ → List ℕ → Type 0
+ParentAsksIn s parts first node end out kids =
+    ParentAsks s.joined.now.graph.links s.sizes.now (shape_kind parts.shape) parts.link parts.count s.before s.entries first node end out kids
+
+abbrev pub ParentWrittenIn : Source → Parts → ℕ → ℕ → ℕ → MutSlices → MutSlices → Type 0
+ParentWrittenIn s parts first node end out kids =
+    ParentWritten s.joined.now.graph.links s.sizes.now (shape_kind parts.shape) parts.link parts.count s.before s.entries first node end (old out) (old kids) (new out) (new kids)
+
+abbrev pub PlaceAsksIn : Source → ℕ → ℕ → ℕ → ℕ → List ℕ → List ℕ → Type 0
+PlaceAsksIn s p r at entry out kids =
+    PlaceAsks s.joined.now.graph.heads s.joined.now.graph.links s.joined.now.classes s.sizes.now p r s.before s.entries at entry out kids
+
+abbrev pub PlaceWrittenIn : Source → ℕ → ℕ → ℕ → ℕ → MutSlices → MutSlices → Type 0
+PlaceWrittenIn s p r at entry out kids =
+    PlaceWritten s.nodes.now s.joined.now.graph.heads s.joined.now.graph.links s.joined.now.classes s.sizes.now p r s.before s.entries at entry (old out) (old kids) (new out) (new kids)
+
+abbrev pub PartsAsksIn : Source → Parts → ℕ → ℕ → ℕ → List ℕ → List ℕ → Type 0
+PartsAsksIn s parts r at entry out kids =
+    PartsAsks s.joined.now.graph.heads s.joined.now.graph.links s.joined.now.classes s.sizes.now (step_of parts.shape) parts.link parts.count r s.before s.entries at entry out kids
+
+abbrev pub PartsWrittenIn : Source → Parts → ℕ → ℕ → ℕ → MutSlices → MutSlices → ℕ → Type 0
+PartsWrittenIn s parts r at entry out kids end =
+    PartsWritten s.nodes.now s.joined.now.graph.heads s.joined.now.graph.links s.joined.now.classes s.sizes.now (step_of parts.shape) parts.link parts.count r s.before s.entries at entry
+    (old out) (old kids) (new out) (new kids) end
 
 -- the nodes that stand for literals are those that are copied, and null's words are always the same
 pub record Copied (T : Tables) (literal_of : ℕ → Literal) (heads links : List ℕ) : Type 0 where

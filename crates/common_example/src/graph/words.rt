@@ -3,7 +3,7 @@ ghost use Rattle.std.specs.Prelude.{◌≤◌, ◌≡◌};
 ghost use Rattle.base.specs.Lists.{tabulate};
 ghost use Rattle.common_example.specs.code.arrays.Arrays.{of_node, link_word, head_kind, head_start, head_count, HeadAsks, head_part, head_word_at, HeadsAsks};
 
-use crate::classes::{HEAD_WORDS, LINK_WORDS};
+use crate::graph::{HEAD_WORDS, LINK_WORDS, known};
 use table::node_kind;
 use table::reading::{child_at, count_of, first_of, kind_of};
 
@@ -47,20 +47,20 @@ pub(crate) fn link_words(
     }
 }
 
-// What a node's kind says of its place: 0 nothing, 1 a literal, 2 an array, 3 an object.
+// What a node's kind says of its place.
 fn head_kind(kind: u32) -> u32
     ensures { result ≡ head_kind kind }
 {
     if kind <= node_kind::LAST_LITERAL {
-        return 1;
+        return known::LITERAL;
     }
     if kind == node_kind::ARRAY {
-        return 2;
+        return known::ARRAY;
     }
     if kind == node_kind::OBJECT {
-        return 3;
+        return known::OBJECT;
     }
-    0
+    known::NOTHING
 }
 
 // The node of a literal, or the first link.
@@ -68,11 +68,11 @@ fn head_start(nodes: &[u32], like: &[u32], node: u32, side: u32) -> u32
     requires { HeadAsks nodes.now node side }
     ensures { result ≡ head_start nodes.now like.now node side }
 {
-    let known = head_kind(kind_of(nodes, node));
-    if known == 0 {
+    let kind = head_kind(kind_of(nodes, node));
+    if kind == known::NOTHING {
         return 0;
     }
-    if known == 1 {
+    if kind == known::LITERAL {
         return of_node(like, node);
     }
     first_of(nodes, node) * 4 + side
@@ -82,8 +82,8 @@ fn head_start(nodes: &[u32], like: &[u32], node: u32, side: u32) -> u32
 fn head_count(nodes: &[u32], node: u32) -> u32
     ensures { result ≡ head_count nodes.now node }
 {
-    let known = head_kind(kind_of(nodes, node));
-    if known <= 1 {
+    let kind = head_kind(kind_of(nodes, node));
+    if kind <= known::LITERAL {
         return 0;
     }
     count_of(nodes, node)

@@ -7,123 +7,118 @@ use mathlib.Core.Option.{Option, none, some}
 use native.Mathlib.Omega.{arith}
 use mir.Val.{Fits}
 use mir.Syntax.{w64}
-use borrow.Author.Tests.{eq-eqb, ne_eqb}
 use lib.Dec.{eqb}
+use Rattle.std.specs.Prelude.{Some, None}
+use Rattle.std.specs.Prelude as Prelude
+use Rattle.std.specs.Option.{is_some}
 use Rattle.literal.specs.Literal.{Literal}
 use Rattle.literal.specs.Order.{Order, key_order, compared, comparison_of}
 use Rattle.literal.specs.declared.Comparison.{Comparison}
-use Rattle.literal.specs.declared.Comparison.TheVariants.{Less, Equal, Greater, NoLiteral}
+use Rattle.literal.specs.declared.Comparison.TheVariants.{Less}
 use Rattle.table.specs.Tables.{Tables, first_word_of, count_of, child_at}
 use Rattle.table.specs.Decode.{expr, fields, literal_at}
 use Rattle.planner.specs.Layout.{Slot}
 use Rattle.planner.specs.Simple.{has_key, add_key, keys_of}
 use Rattle.planner.proofs.fields.Objects.{node_of_lem}
-use Rattle.value.specs.code.Post.{under_from, under_in, KeyedObject, KeySetsAsks}
+use Rattle.value.specs.code.Post.{node_or_none, under_from, under_in, KeyedObject, KeySetsAsks}
 use Rattle.value.proofs.Admitted.{key-node}
-use Rattle.value.proofs.Under.{Fielded, object_fielded, found_key, key_of, position_fits, position_key_fits}
+use Rattle.value.proofs.Under.{some_is, Fielded, object_fielded, found_key, key_of, position_fits, position_key_fits}
 use Rattle.first_miss.specs.Miss.{slot, add_slot, is_less, lesser, missing_key, other_key}
 use Rattle.first_miss.specs.code.Walk.{slots_of}
-use Rattle.first_miss.specs.code.Post.{comes_before, slot_by, slot_at, IsKey, LesserAsks, keys_at, LesserTold, MissingTold, place_at, OtherTold}
+use Rattle.first_miss.specs.code.Post.{comes_before, slot_by, slot_at, IsKey, LesserAsks, keys_at, LesserTold, MissingTold, key_in}
 
 -- 1. Key order
 module _ {way : Comparison} (a b : Option Literal) (is : way ≡ compared a b) where
-  told : (c : Comparison) → way ≡ c → (r : Bool) → ((o : Order) → comparison_of o ≡ c → is_less o ≡ r) → (NoLiteral ≡ c → false ≡ r) → r ≡ comes_before a b
-  unfolding compared
-  told c e r f g = go a b (sym is ∙ e)
-    where
-      go : (a b : Option Literal) → compared a b ≡ c → r ≡ comes_before a b
-      go none b p = sym (g p)
-      go (some x) none p = sym (g p)
-      go (some x) (some y) p = sym (f (key_order x y) p)
-
   pub before_less : way ≡ Less → true ≡ comes_before a b
-  before_less e = told Less e true by (λ p. absurd (false≢true (cc)))
+  unfolding compared
+  before_less e = go a b (sym is ∙ e)
     where
-      by : (o : Order) → comparison_of o ≡ Less → is_less o ≡ true
+      by : (o : Order) → comparison_of o ≡ Less → true ≡ is_less o
       by Order.less p = refl
-      by Order.same p = absurd (false≢true (cc))
-      by Order.more p = absurd (false≢true (cc))
+      by Order.same p = cc
+      by Order.more p = cc
 
-  pub before_equal : way ≡ Equal → false ≡ comes_before a b
-  before_equal e = told Equal e false by (λ p. refl)
+      go : (a b : Option Literal) → compared a b ≡ Less → true ≡ comes_before a b
+      go none b p = cc
+      go (some x) none p = cc
+      go (some x) (some y) p = by (key_order x y) p
+
+  pub before_not : (way ≡ Less → ⊥) → false ≡ comes_before a b
+  unfolding compared
+  before_not e = go a b (λ p. e (is ∙ p))
     where
-      by : (o : Order) → comparison_of o ≡ Equal → is_less o ≡ false
-      by Order.less p = absurd (false≢true (cc))
+      by : (o : Order) → (comparison_of o ≡ Less → ⊥) → false ≡ is_less o
+      by Order.less p = absurd (p refl)
       by Order.same p = refl
       by Order.more p = refl
 
-  pub before_greater : way ≡ Greater → false ≡ comes_before a b
-  before_greater e = told Greater e false by (λ p. refl)
-    where
-      by : (o : Order) → comparison_of o ≡ Greater → is_less o ≡ false
-      by Order.less p = absurd (false≢true (cc))
-      by Order.same p = refl
-      by Order.more p = refl
-
-  pub before_none : way ≡ NoLiteral → false ≡ comes_before a b
-  before_none e = told NoLiteral e false by (λ p. refl)
-    where
-      by : (o : Order) → comparison_of o ≡ NoLiteral → is_less o ≡ false
-      by Order.less p = absurd (false≢true (cc))
-      by Order.same p = refl
-      by Order.more p = refl
+      go : (a b : Option Literal) → (compared a b ≡ Less → ⊥) → false ≡ comes_before a b
+      go none b p = refl
+      go (some x) none p = refl
+      go (some x) (some y) p = by (key_order x y) p
 
 -- 2. The least missing key so far
-slot_is : {T : Tables} {n : ℕ} (k : IsKey T n) → slot_at T n ≡ some (slot k.key n)
-slot_is {T} {n} k = let low = k.low in let z = ne_eqb n 0 (λ e. omega arith) in rw z (ap (slot_by n) k.is)
+slot_is : {T : Tables} {n : ℕ} (k : IsKey T n) → slot_at T (Some n) ≡ some (slot k.key n)
+slot_is {T} {n} k = ap (slot_by n) k.is
 
-module _ (T : Tables) (object key least : ℕ) (asks : LesserAsks T object key least) {value : ℕ} (of : value ≡ under_in T object key) where
-  has : (l : Literal) → literal_at T key ≡ some l → has_key l (keys_at T object) ≡ not (eqb value 0)
+only_key : {T : Tables} {key : ℕ} → IsKey T key → (n : ℕ) → Some key ≡ Some n → IsKey T n
+only_key {T} {key} k n e = let alike : n ≡ key = cc in rw alike k
+
+module _ (T : Tables) (object key : ℕ) (least : Prelude.Option ℕ) (asks : LesserAsks T object key least) {found : Prelude.Option ℕ} (of : found ≡ node_or_none (under_in T object key)) {there : Bool} (is-there : there ≡ is_some found) where
+  has : (l : Literal) → literal_at T key ≡ some l → has_key l (keys_at T object) ≡ there
   has l e =
       found_key T (first_word_of T.nodes object) (count_of T.nodes object) (object_fielded asks.keyed) l
-      ∙ ap (λ (x : ℕ). not (eqb x 0)) (sym (of ∙ ap (λ (o : Option Literal). under_from T o (first_word_of T.nodes object) (count_of T.nodes object)) e))
+      ∙ (ap (λ (x : ℕ). not (eqb x 0)) (sym (ap (λ (o : Option Literal). under_from T o (first_word_of T.nodes object) (count_of T.nodes object)) e)) ∙ sym (is-there ∙ some_is (under_in T object key) of))
 
-  by_test : (c : Bool) → eqb value 0 ≡ c → (r : ℕ) → ((l : Literal) → literal_at T key ≡ some l → slot_at T r ≡ cond (not c) (slot_at T least) (some (lesser (slot l key) (slot_at T least)))) → ((r ≡ 0 → ⊥) → IsKey T r) → LesserTold T object key least r
+  by_test : (c : Bool) → there ≡ c → (r : Prelude.Option ℕ) → ((l : Literal) → literal_at T key ≡ some l → slot_at T r ≡ cond c (slot_at T least) (some (lesser (slot l key) (slot_at T least)))) → ((n : ℕ) → r ≡ Some n → IsKey T n) → LesserTold T object key least r
   by_test c z r f ok = record {
-    is = λ l e. f l e ∙ sym (ap (λ (b : Bool). cond b (slot_at T least) (some (lesser (slot l key) (slot_at T least)))) (has l e ∙ ap not z));
+    is = λ l e. f l e ∙ sym (ap (λ (b : Bool). cond b (slot_at T least) (some (lesser (slot l key) (slot_at T least)))) (has l e ∙ z));
     ok = ok;
   }
 
-  pub lesser_there : (value ≡ 0 → ⊥) → LesserTold T object key least least
-  lesser_there nz = by_test false (ne_eqb value 0 nz) least (λ l e. refl) asks.least_ok
+  pub lesser_there : there ≡ true → LesserTold T object key least least
+  lesser_there t = by_test true t least (λ l e. refl) asks.least_ok
 
-  key_slot : (l : Literal) → literal_at T key ≡ some l → slot_at T key ≡ some (slot l key)
-  key_slot l e = let q : asks.key_ok.key ≡ l = let p = asks.key_ok.is in cc in rw (← q) (slot_is asks.key_ok)
+  module _ (z : there ≡ false) where
+    pub lesser_first : least ≡ None → LesserTold T object key least (Some key)
+    lesser_first none_yet = by_test false z (Some key) (λ l e. ap (slot_by key) e ∙ rw none_yet) (only_key asks.key_ok)
 
-  module _ (z : value ≡ 0) where
-    pub lesser_first : least ≡ 0 → LesserTold T object key least key
-    lesser_first none_yet = by_test true (eq-eqb value 0 z) key (λ l e. key_slot l e ∙ rw none_yet) (λ n. asks.key_ok)
+    module _ {other : ℕ} (some_yet : least ≡ Some other) {b : Bool} (is : b ≡ comes_before (literal_at T key) (literal_at T other)) where
+      yet : IsKey T other
+      yet = asks.least_ok other some_yet
 
-    module _ (nz : least ≡ 0 → ⊥) {b : Bool} (is : b ≡ comes_before (literal_at T key) (literal_at T least)) where
-      compared_is : (l : Literal) → literal_at T key ≡ some l → is_less (key_order l (asks.least_ok nz).key) ≡ b
-      compared_is l e = sym (is ∙ ap₂ comes_before e (asks.least_ok nz).is)
+      compared_is : (l : Literal) → literal_at T key ≡ some l → is_less (key_order l yet.key) ≡ b
+      compared_is l e = sym (is ∙ ap₂ comes_before e yet.is)
 
-      kept : (l : Literal) → literal_at T key ≡ some l → some (lesser (slot l key) (slot_at T least)) ≡ some (cond b (slot l key) (slot (asks.least_ok nz).key least))
+      slot_yet : slot_at T least ≡ some (slot yet.key other)
+      slot_yet = ap (slot_at T) some_yet ∙ slot_is yet
+
+      kept : (l : Literal) → literal_at T key ≡ some l → some (lesser (slot l key) (slot_at T least)) ≡ some (cond b (slot l key) (slot yet.key other))
       kept l e =
-          ap (λ (o : Option (Slot ℕ)). some (lesser (slot l key) o)) (slot_is (asks.least_ok nz))
-          ∙ ap (λ (c : Bool). some (cond c (slot l key) (slot (asks.least_ok nz).key least))) (compared_is l e)
+          ap (λ (o : Option (Slot ℕ)). some (lesser (slot l key) o)) slot_yet
+          ∙ ap (λ (c : Bool). some (cond c (slot l key) (slot yet.key other))) (compared_is l e)
 
-      pub lesser_less : b ≡ true → LesserTold T object key least key
-      lesser_less t = by_test true (eq-eqb value 0 z) key (λ l e. key_slot l e ∙ sym (kept l e ∙ ap (λ (c : Bool). some (cond c (slot l key) (slot (asks.least_ok nz).key least))) t)) (λ n. asks.key_ok)
+      pub lesser_less : b ≡ true → LesserTold T object key least (Some key)
+      lesser_less t = by_test false z (Some key) (λ l e. ap (slot_by key) e ∙ sym (kept l e ∙ ap (λ (c : Bool). some (cond c (slot l key) (slot yet.key other))) t)) (only_key asks.key_ok)
 
-      pub lesser_kept : b ≡ false → LesserTold T object key least least
-      lesser_kept t = by_test true (eq-eqb value 0 z) least (λ l e. slot_is (asks.least_ok nz) ∙ sym (kept l e ∙ ap (λ (c : Bool). some (cond c (slot l key) (slot (asks.least_ok nz).key least))) t)) asks.least_ok
+      pub lesser_kept : b ≡ false → LesserTold T object key least (Some other)
+      lesser_kept t = by_test false z (Some other) (λ l e. slot_is yet ∙ sym (kept l e ∙ ap (λ (c : Bool). some (cond c (slot l key) (slot yet.key other))) t)) (only_key yet)
 
 -- 3. All keys of an object, from the last to the first
-pub record Leasting (T : Tables) (a b first left least : ℕ) : Type 0 where
+pub record Leasting (T : Tables) (a b first left : ℕ) (least : Prelude.Option ℕ) : Type 0 where
   pub asks : KeySetsAsks T a b
   pub is_first : first ≡ first_word_of T.nodes a
   pub inside : left ≤ count_of T.nodes a
   pub same : slot_at T least ≡ missing_key (keys_at T b) (slots_of (fields (expr T) T.children (first + left * 2) (count_of T.nodes a - left)))
-  pub ok : (least ≡ 0 → ⊥) → IsKey T least
+  pub ok : (n : ℕ) → least ≡ Some n → IsKey T n
 
-pub leasting_start : {T : Tables} {a b first left : ℕ} → KeySetsAsks T a b → first ≡ first_word_of T.nodes a → left ≡ count_of T.nodes a → Leasting T a b first left 0
+pub leasting_start : {T : Tables} {a b first left : ℕ} → KeySetsAsks T a b → first ≡ first_word_of T.nodes a → left ≡ count_of T.nodes a → Leasting T a b first left None
 unfolding missing_key slots_of fields
 leasting_start {T} {a} {b} {first} {left} asks is of =
     let z : count_of T.nodes a - left ≡ 0 = omega arith in
-    record { asks = asks; is_first = is; inside = omega arith; same = rw z; ok = λ n. absurd (n refl) }
+    record { asks = asks; is_first = is; inside = omega arith; same = rw z; ok = λ n e. absurd (false≢true (cc)) }
 
-module _ {T : Tables} {a b first left least : ℕ} (go : Leasting T a b first left least) where
+module _ {T : Tables} {a b first left : ℕ} {least : Prelude.Option ℕ} (go : Leasting T a b first left least) where
   module _ (more : 0 < left) where
     lower : left - 1 < count_of T.nodes a
     lower = let i = go.inside in omega arith
@@ -141,10 +136,9 @@ module _ {T : Tables} {a b first left least : ℕ} (go : Leasting T a b first le
       pub leasting_ask : LesserAsks T b key least
       leasting_ask =
           let (l, d, q) = key_of T first (count_of T.nodes a) fielded (left - 1) lower in
-          let n = key-node fielded.asks (left - 1) lower in
-          record { keyed = go.asks.right; key_ok = record { key = l; is = rw is d; low = rw is n.low }; least_ok = go.ok }
+          record { keyed = go.asks.right; key_ok = record { key = l; is = rw is d }; least_ok = go.ok }
 
-      pub leasting_on : {r : ℕ} → LesserTold T b key least r → Leasting T a b first (left - 1) r
+      pub leasting_on : {r : Prelude.Option ℕ} → LesserTold T b key least r → Leasting T a b first (left - 1) r
       unfolding missing_key slots_of fields
       leasting_on {r} t =
           let (l, d, q) = key_of T first (count_of T.nodes a) fielded (left - 1) lower in
@@ -200,8 +194,8 @@ module _ {T : Tables} {a b first size i : ℕ} (go : Seeking T a b first size i)
     all_fields : Fielded T first size
     all_fields = rw (go.is_first, go.is_size) (object_fielded go.asks.left)
 
-    module _ {key value : ℕ} (is : key ≡ child_at T.children (first + i * 2)) (of : value ≡ under_in T b key) where
-      here : (c : Bool) → eqb value 0 ≡ c → cond (not c) (other_key (keys_at T b) (i + 1) (keys_of (fields (expr T) T.children (first + (i + 1) * 2) (size - (i + 1))))) (some i) ≡ other_key (keys_at T b) 0 (keys_at T a)
+    module _ {key : ℕ} {value : Prelude.Option ℕ} (is : key ≡ child_at T.children (first + i * 2)) (of : value ≡ node_or_none (under_in T b key)) {lacks : Bool} (told-lacks : is_some value ≡ not lacks) where
+      here : (c : Bool) → lacks ≡ c → cond (not c) (other_key (keys_at T b) (i + 1) (keys_of (fields (expr T) T.children (first + (i + 1) * 2) (size - (i + 1))))) (some i) ≡ other_key (keys_at T b) 0 (keys_at T a)
       unfolding fields keys_of other_key
       here c p =
           let (l, d, q) = key_of T first size all_fields i more in
@@ -209,27 +203,25 @@ module _ {T : Tables} {a b first size i : ℕ} (go : Seeking T a b first size i)
           let s : first + i * 2 + 2 ≡ first + (i + 1) * 2 = omega arith in
           let found : has_key l (keys_at T b) ≡ not c =
           found_key T (first_word_of T.nodes b) (count_of T.nodes b) (object_fielded go.asks.right) l
-          ∙ ap not (ap (λ (x : ℕ). eqb x 0) (sym (of ∙ ap (λ (o : Option Literal). under_from T o (first_word_of T.nodes b) (count_of T.nodes b)) (ap (λ (m : ℕ). literal_at T m) is ∙ d))) ∙ p) in
+          ∙ (ap (λ (x : ℕ). not (eqb x 0)) (sym (ap (λ (o : Option Literal). under_from T o (first_word_of T.nodes b) (count_of T.nodes b)) (ap (λ (m : ℕ). literal_at T m) is ∙ d))) ∙ (sym (some_is (under_in T b key) of) ∙ (told-lacks ∙ ap not p))) in
           sym (ap (λ (x : Bool). cond x (other_key (keys_at T b) (i + 1) (keys_of (fields (expr T) T.children (first + (i + 1) * 2) (size - (i + 1))))) (some i)) found)
           ∙ (sym (ap (λ (x : ℕ). cond (has_key l (keys_at T b)) (other_key (keys_at T b) (i + 1) (keys_of (fields (expr T) T.children x (size - (i + 1))))) (some i)) s)
           ∙ (sym (ap (λ (o : Option Literal). other_key (keys_at T b) i (add_key o (keys_of (fields (expr T) T.children (first + i * 2 + 2) (size - (i + 1)))))) q)
           ∙ (sym (ap (λ (k : ℕ). other_key (keys_at T b) i (keys_of (fields (expr T) T.children (first + i * 2) k))) e)
           ∙ go.same)))
 
-      pub seeking_found : value ≡ 0 → OtherTold T a b key
+      pub seeking_found : lacks ≡ true → Some key ≡ key_in T a (other_key (keys_at T b) 0 (keys_at T a))
       seeking_found z =
-          let n = key-node all_fields.asks i more in
-          let low : 1 ≤ key = rw is n.low in
-          let f = here true (eq-eqb value 0 z) in
+          let f = here true z in
           let x : first + i * 2 ≡ first_word_of T.nodes a + i * 2 = let e = go.is_first in omega arith in
-          record { is = (is ∙ ap (child_at T.children) x) ∙ ap (place_at T a) f; some_key = λ j e k. omega arith }
+          ap Some (is ∙ ap (child_at T.children) x) ∙ ap (key_in T a) f
 
-      pub seeking_on : (value ≡ 0 → ⊥) → Seeking T a b first size (i + 1)
-      seeking_on nz = record { asks = go.asks; is_first = go.is_first; is_size = go.is_size; inside = omega arith; same = here false (ne_eqb value 0 nz) }
+      pub seeking_on : lacks ≡ false → Seeking T a b first size (i + 1)
+      seeking_on nz = record { asks = go.asks; is_first = go.is_first; is_size = go.is_size; inside = omega arith; same = here false nz }
 
-  pub seeking_ends : size ≤ i → OtherTold T a b 0
+  pub seeking_ends : size ≤ i → None ≡ key_in T a (other_key (keys_at T b) 0 (keys_at T a))
   unfolding fields keys_of other_key
   seeking_ends le =
       let z : size - i ≡ 0 = omega arith in
       let f : none ≡ other_key (keys_at T b) 0 (keys_at T a) = rw z at go.same in
-      record { is = ap (place_at T a) f; some_key = λ j e k. false≢true (cc) }
+      ap (key_in T a) f

@@ -30,11 +30,12 @@ use Rattle.matching.proofs.Patterns.{PatternShape, pattern_literal, pattern_wild
 use Rattle.matching.proofs.Lists.{env_at, env_set, set_ok}
 use Rattle.first_miss.specs.declared.Miss.{Miss}
 use Rattle.first_miss.specs.declared.Why.TheVariants.{NameDiffers, LiteralDiffers, NoArray, OtherLength, NoObject, KeyMissing, KeyTooMany}
-use Rattle.std.proofs.Common.{Result, Ok, Err}
+use Rattle.std.proofs.Common.{Some, None, Result, Ok, Err}
+use Rattle.std.specs.Prelude as Prelude
 use Rattle.first_miss.specs.Miss.{MissOutcome, matched, missed, miss_at, or_miss, missing_key, other_key, keys_first}
 use Rattle.first_miss.specs.Operations.{key_at}
 use Rattle.first_miss.specs.code.Walk.{naming, even, slots_of, walk}
-use Rattle.first_miss.specs.code.Post.{keys_at, MissingTold, place_at, OtherTold, missed_by, literal_walked, array_walked, keys_walked, ObjectTold, PairAsks, LiteralAsks, ObjectAsks, WalkAsks, NameAsks, ItemsAsks, FieldsAsks, outcome_in, Came, walk_nodes, walk_listed, walk_under}
+use Rattle.first_miss.specs.code.Post.{keys_at, key_in, MissingTold, missed_by, literal_walked, array_walked, keys_walked, ObjectTold, PairAsks, LiteralAsks, ObjectAsks, WalkAsks, NameAsks, ItemsAsks, FieldsAsks, outcome_in, Came, walk_nodes, walk_listed, walk_under}
 use Rattle.first_miss.proofs.trees.KeySets.{is_none, slots_keys, none_missing}
 
 -- 1. A pair of nodes
@@ -100,35 +101,37 @@ module _ {T : Tables} {a b : ℕ} (asks : ObjectAsks T a b) {kind : ℕ} (is : k
     by_keys : (r : Result Unit Miss) → r ≡ keys_walked T a b (missing_key (keys_at T b) (slots_of (fields_of T a))) (other_key (keys_at T a) 0 (keys_at T b)) → ObjectTold T a b r
     by_keys r q = let e = eq-eqb (kind_of T.nodes b) 9 (sym is ∙ nine) in record { is = rw e q }
 
-    module _ {missing : ℕ} (told : MissingTold T a b missing) where
-      pub object_missing : (missing ≡ 0 → ⊥) → ObjectTold T a b (missed_by KeyMissing b missing)
-      object_missing nz =
-          let k = told.ok nz in
-          let z = ne_eqb missing 0 nz in
+    module _ {missing : Prelude.Option ℕ} (told : MissingTold T a b missing) where
+      pub object_missing : {key : ℕ} → missing ≡ Some key → ObjectTold T a b (missed_by KeyMissing b key)
+      object_missing {key} e =
+          let k = told.ok key e in
           let d = k.is in
-          let q : some (record { at = k.key; held = missing }) ≡ missing_key (keys_at T b) (slots_of (fields_of T a)) = rw (z, d) at told.is in
-          by_keys (missed_by KeyMissing b missing) (ap (λ (o : Option (Slot ℕ)). keys_walked T a b o (other_key (keys_at T a) 0 (keys_at T b))) q)
+          let q : some (record { at = k.key; held = key }) ≡ missing_key (keys_at T b) (slots_of (fields_of T a)) = rw d at (rw e at told.is) in
+          by_keys (missed_by KeyMissing b key) (ap (λ (o : Option (Slot ℕ)). keys_walked T a b o (other_key (keys_at T a) 0 (keys_at T b))) q)
 
-      module _ (none-missing-there : missing ≡ 0) {other : ℕ} (of : OtherTold T b a other) where
+      module _ (none-missing-there : missing ≡ None) {other : Prelude.Option ℕ} (of : other ≡ key_in T b (other_key (keys_at T a) 0 (keys_at T b))) where
         no_missing : none ≡ missing_key (keys_at T b) (slots_of (fields_of T a))
-        no_missing = let z = eq-eqb missing 0 none-missing-there in rw z at told.is
+        no_missing = rw none-missing-there at told.is
 
         by_other : (r : Result Unit Miss) (o : Option ℕ) → other_key (keys_at T a) 0 (keys_at T b) ≡ o → r ≡ keys_walked T a b none o → ObjectTold T a b r
         by_other r o e q = by_keys r (q ∙ ap₂ (keys_walked T a b) no_missing (sym e))
 
-        pub object_other : (other ≡ 0 → ⊥) → ObjectTold T a b (missed_by KeyTooMany other a)
-        object_other nz = go (other_key (keys_at T a) 0 (keys_at T b)) refl
+        pub object_other : {key : ℕ} → other ≡ Some key → ObjectTold T a b (missed_by KeyTooMany key a)
+        object_other {key} e = go (other_key (keys_at T a) 0 (keys_at T b)) refl
           where
-            go : (o : Option ℕ) → other_key (keys_at T a) 0 (keys_at T b) ≡ o → ObjectTold T a b (missed_by KeyTooMany other a)
-            go none e = absurd (nz (of.is ∙ ap (place_at T b) e))
-            go (some i) e = by_other (missed_by KeyTooMany other a) (some i) e (ap (λ (n : ℕ). missed_by KeyTooMany n a) (of.is ∙ ap (place_at T b) e))
+            go : (o : Option ℕ) → other_key (keys_at T a) 0 (keys_at T b) ≡ o → ObjectTold T a b (missed_by KeyTooMany key a)
+            go none p = let f : Some key ≡ None = sym e ∙ (of ∙ ap (key_in T b) p) in absurd (false≢true (cc))
+            go (some i) p =
+                let f : Some key ≡ Some (key_at T b i) = sym e ∙ (of ∙ ap (key_in T b) p) in
+                let alike : key ≡ key_at T b i = cc in
+                by_other (missed_by KeyTooMany key a) (some i) p (ap (λ (n : ℕ). missed_by KeyTooMany n a) alike)
 
-        pub objects_alike : other ≡ 0 → ObjectTold T a b (Ok tt)
-        objects_alike z = go (other_key (keys_at T a) 0 (keys_at T b)) refl
+        pub objects_alike : other ≡ None → ObjectTold T a b (Ok tt)
+        objects_alike e = go (other_key (keys_at T a) 0 (keys_at T b)) refl
           where
             go : (o : Option ℕ) → other_key (keys_at T a) 0 (keys_at T b) ≡ o → ObjectTold T a b (Ok tt)
-            go none e = by_other (Ok tt) none e refl
-            go (some i) e = absurd (of.some_key i e z)
+            go none p = by_other (Ok tt) none p refl
+            go (some i) p = let f : None ≡ Some (key_at T b i) = sym e ∙ (of ∙ ap (key_in T b) p) in absurd (false≢true (cc))
 
 -- 4. A name
 module _ {T : Tables} {list : List ℕ} (list_ok : ListOk T list) where

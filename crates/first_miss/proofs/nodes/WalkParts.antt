@@ -2,7 +2,7 @@
 use Prim.Native.Nat.{ℕ, suc, ◌+◌, ◌-◌, ◌*◌, ◌≤◌, ◌<◌}
 use mathlib.Core.Path.{◌≡◌, sym, ap, ap₂, ◌∙◌}
 use mathlib.Core.List.{List}
-use mathlib.Core.Bool.{true, false}
+use mathlib.Core.Bool.{true, false, not}
 use mathlib.Core.Option.{Option, some}
 use native.Mathlib.Omega.{arith}
 use mir.Val.{Fits}
@@ -15,14 +15,16 @@ use Rattle.table.specs.Expr.{node_of}
 use Rattle.table.proofs.trees.Trees.{width_array, width_object}
 use Rattle.planner.specs.code.Passes.{value_node}
 use Rattle.value.specs.Value.{Value, value_of, values_of, value_fields_of, value_at, under}
-use Rattle.value.specs.code.Post.{under_from, under_in, KeyedObject, ValueNode}
+use Rattle.value.specs.code.Post.{node_or_none, under_from, under_in, KeyedObject, ValueNode}
 use Rattle.value.proofs.Admitted.{array_item, object_value, array_children, value_node_lem, admitted_value}
-use Rattle.value.proofs.Under.{Fielded, object_fielded, found_field, found_value, key_of, position_fits, position_key_fits, position_value_fits}
+use Rattle.value.proofs.Under.{some_is, node_told, Fielded, object_fielded, found_field, found_value, key_of, position_fits, position_key_fits, position_value_fits}
 use Rattle.matching.specs.Matching.{Env, under_key}
 use Rattle.matching.specs.code.Post.{env_of, ListOk}
 use Rattle.first_miss.specs.declared.Miss.{Miss}
 use Rattle.first_miss.specs.declared.Why.TheVariants.{KeyMissing}
-use Rattle.std.proofs.Common.{Result, Ok, Err}
+use Rattle.std.proofs.Common.{Some, Result, Ok, Err}
+use Rattle.std.specs.Prelude as Prelude
+use Rattle.std.specs.Option.{IsSome}
 use Rattle.first_miss.specs.Miss.{MissOutcome, missed, miss_at, next, at}
 use Rattle.first_miss.specs.Operations.{key_at}
 use Rattle.first_miss.specs.code.Walk.{walk, walk_items, walk_fields}
@@ -191,16 +193,24 @@ module _ {T : Tables} {a b first count i : ℕ} {list₀ list : List ℕ} (go : 
         let lt : value < a = rw is-value (rw x at (pair_of.table.below a pair_of.node (i * 2 + 1) (omega arith)).1) in
         omega arith
 
-    module _ {key value : ℕ} (is_key : key ≡ child_at T.children (first + i * 2)) (is-value : value ≡ child_at T.children (first + i * 2 + 1)) {part : ℕ} (is-part : part ≡ under_in T b key) where
-      some_part : part ≡ 0 → ⊥
-      some_part z =
+    module _ {key value : ℕ} (is_key : key ≡ child_at T.children (first + i * 2)) (is-value : value ≡ child_at T.children (first + i * 2 + 1)) {found : Prelude.Option ℕ} (is-found : found ≡ node_or_none (under_in T b key)) where
+      is_there : under_in T b key ≡ 0 → ⊥
+      is_there z =
           let of = go.is_count in
           let x : key ≡ key_at T a i = is_key ∙ ap (λ (y : ℕ). child_at T.children (y + i * 2)) go.is_first in
-          go.asks.covered i (omega arith) (ap (under_in T b) (sym x) ∙ (sym is-part ∙ z))
+          go.asks.covered i (omega arith) (ap (under_in T b) (sym x) ∙ z)
+
+      -- the object has every key of the pattern
+      pub fields_some : IsSome found
+      fields_some = some_is (under_in T b key) is-found ∙ ap not (ne_eqb (under_in T b key) 0 is_there)
+
+    module _ {key value : ℕ} (is_key : key ≡ child_at T.children (first + i * 2)) (is-value : value ≡ child_at T.children (first + i * 2 + 1)) {found : Prelude.Option ℕ} (is-found : found ≡ node_or_none (under_in T b key)) {part : ℕ} (some_part : found ≡ Some part) where
+      is-part : part ≡ under_in T b key
+      is-part = (node_told is-found some_part).0
 
       partner : ValueNode T part
       partner =
-          let (j, lt, e) = found_field T (literal_at T key) (first_word_of T.nodes b) (count_of T.nodes b) (λ z. some_part (is-part ∙ z)) in
+          let (j, lt, e) = found_field T (literal_at T key) (first_word_of T.nodes b) (count_of T.nodes b) (node_told is-found some_part).1 in
           rw is-part (rw e (admitted_value T (value_node T (first_word_of T.nodes b) j) (value_node_lem (object_fielded fields_object).asks j lt)
           (object_value T pair_of.table b pair_of.value_ok.node false pair_of.value_ok.value go.asks.right_object j lt)))
 
@@ -226,11 +236,11 @@ module _ {T : Tables} {a b first count i : ℕ} {list₀ list : List ℕ} (go : 
           let (l, d, q) = key_of T first count fielded i more in
           let e : count - i ≡ suc (count - (i + 1)) = omega arith in
           let x : first + i * 2 + 2 ≡ first + (i + 1) * 2 = omega arith in
-          let z = ne_eqb part 0 some_part in
-          let here : value_at T part ≡ some (value_of (expr T part)) = rw z in
+          let z = ne_eqb (under_in T b key) 0 (node_told is-found some_part).1 in
+          let here : value_at T (under_in T b key) ≡ some (value_of (expr T part)) = rw (z, is-part) in
           let there : under l (value_fields_of (fields_of T b)) ≡ some (value_of (expr T part)) =
           found_value T (first_word_of T.nodes b) (count_of T.nodes b) (object_fielded fields_object) l
-          ∙ (ap (value_at T) (sym (is-part ∙ ap (λ (o : Option Literal). under_from T o (first_word_of T.nodes b) (count_of T.nodes b)) (ap (λ (m : ℕ). literal_at T m) is_key ∙ d))) ∙ here) in
+          ∙ (ap (value_at T) (sym (ap (λ (o : Option Literal). under_from T o (first_word_of T.nodes b) (count_of T.nodes b)) (ap (λ (m : ℕ). literal_at T m) is_key ∙ d))) ∙ here) in
           let own = miss_at KeyMissing b (node_of (expr T (child_at T.children (first + i * 2)))) in
           ap₂ (λ (o : Option Value) (m : ℕ). at o own (λ v. next (walk (key_at T) (expr T m) v (env_of T list)) later_fields)) (sym there) is-value
           ∙ (ap₂ (λ (o : Option Literal) (p : ℕ). at (under_key o (value_fields_of (fields_of T b))) own (λ v. next (walk (key_at T) (expr T (child_at T.children (first + i * 2 + 1))) v (env_of T list))

@@ -1,5 +1,6 @@
 -- What the functions of the code ask of their callers and say.
-use Rattle.std.specs.Prelude.{ℕ, ◌≤◌, ◌<◌, ◌≡◌, Bool, true, false, cond, Result, Ok, Err, List, eqb}
+use Rattle.std.specs.Prelude.{ℕ, ◌≤◌, ◌<◌, ◌≡◌, Bool, true, false, cond, Some, None, Result, Ok, Err, List, eqb}
+use Rattle.std.specs.Prelude as Prelude
 use Rattle.std.proofs.Math.Option.{Option, none, some}
 use Rattle.base.specs.Lent.{MutSlices, old, new}
 use Rattle.literal.specs.Literal.{Literal}
@@ -30,40 +31,37 @@ abbrev pub slot_by : ℕ → Option Literal → Option (Slot ℕ)
 slot_by n none = none
 slot_by n (some l) = some (slot l n)
 
--- the key at a node; of 0 none
-abbrev pub slot_at : Tables → ℕ → Option (Slot ℕ)
-slot_at T n = cond (eqb n 0) none (slot_by n (literal_at T n))
+-- the key at a node, if there is one
+abbrev pub slot_at : Tables → Prelude.Option ℕ → Option (Slot ℕ)
+slot_at T None = none
+slot_at T (Some n) = slot_by n (literal_at T n)
 
 -- a node of a literal
 pub record IsKey (T : Tables) (n : ℕ) : Type 0 where
   pub key : Literal
   pub is : literal_at T n ≡ some key
-  pub low : 1 ≤ n
 
 -- the least key so far, and one that is looked for in an object
-pub record LesserAsks (T : Tables) (object key least : ℕ) : Type 0 where
+pub record LesserAsks (T : Tables) (object key : ℕ) (least : Prelude.Option ℕ) : Type 0 where
   pub keyed : KeyedObject T object
   pub key_ok : IsKey T key
-  pub least_ok : (least ≡ 0 → ⊥) → IsKey T least
+  pub least_ok : (n : ℕ) → least ≡ Some n → IsKey T n
 
 abbrev pub keys_at : Tables → ℕ → List Literal
 keys_at T n = keys_of (fields_of T n)
 
-pub record LesserTold (T : Tables) (object key least r : ℕ) : Type 0 where
+pub record LesserTold (T : Tables) (object key : ℕ) (least r : Prelude.Option ℕ) : Type 0 where
   pub is : (l : Literal) → literal_at T key ≡ some l → slot_at T r ≡ cond (has_key l (keys_at T object)) (slot_at T least) (some (lesser (slot l key) (slot_at T least)))
-  pub ok : (r ≡ 0 → ⊥) → IsKey T r
+  pub ok : (n : ℕ) → r ≡ Some n → IsKey T n
 
-pub record MissingTold (T : Tables) (a b r : ℕ) : Type 0 where
+pub record MissingTold (T : Tables) (a b : ℕ) (r : Prelude.Option ℕ) : Type 0 where
   pub is : slot_at T r ≡ missing_key (keys_at T b) (slots_of (fields_of T a))
-  pub ok : (r ≡ 0 → ⊥) → IsKey T r
+  pub ok : (n : ℕ) → r ≡ Some n → IsKey T n
 
-abbrev pub place_at : Tables → ℕ → Option ℕ → ℕ
-place_at T n none = 0
-place_at T n (some i) = key_at T n i
-
-pub record OtherTold (T : Tables) (a b r : ℕ) : Type 0 where
-  pub is : r ≡ place_at T a (other_key (keys_at T b) 0 (keys_at T a))
-  pub some_key : (i : ℕ) → other_key (keys_at T b) 0 (keys_at T a) ≡ some i → r ≡ 0 → ⊥
+-- the node of a key by its number in an object
+abbrev pub key_in : Tables → ℕ → Option ℕ → Prelude.Option ℕ
+key_in T n none = None
+key_in T n (some i) = Some (key_at T n i)
 
 -- 2. What a part comes to without names
 abbrev pub missed_by : Why → ℕ → ℕ → Result Unit Miss

@@ -49,12 +49,6 @@ module _ {scratch nexts before : List ℕ} {at start count i : ℕ} {links : Lis
     pub chaining_word : child * entry_words + 4 < pattern_words
     chaining_word = let l = low in omega arith
 
-    pub chaining_base : Fits w64 (child * entry_words)
-    chaining_base = let l = low in record { fits = omega arith }
-
-    pub chaining_index_fits : Fits w64 (child * entry_words + 4)
-    chaining_index_fits = let l = low in record { fits = omega arith }
-
     pub chaining_bytes : Fits w64 ((child * entry_words + 4) * 4)
     chaining_bytes = let l = low in record { fits = omega arith }
 

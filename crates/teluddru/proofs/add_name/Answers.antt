@@ -1,4 +1,3 @@
-use Rattle.std.proofs.Common.{rules}
 use Rattle.teluddru.proofs.laws.AddedNames.{name_added}
 use Rattle.teluddru.proofs.add_name.Goals as goal
 
@@ -6,4 +5,4 @@ pub returns : goal.returns
 returns c =
     let copied = c.copy_names-copied in
     name_added c.args.nodes.now c.args.children.now c.args.numbers.now c.args.strings.now c.args.text.now c.args.used c.args.start c.args.length
-    _ _ copied.result _ copied.ensures (search rules) c.add_name-answer.ensures.answer (cc)
+    _ _ copied.result _ copied.ensures c.add_name-answer.ensures.answer (cc)

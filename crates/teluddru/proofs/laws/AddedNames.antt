@@ -1,5 +1,5 @@
 -- Adding a name over the words that are copied, and over all records.
-use Prim.Native.Nat.{ℕ, zero, suc, ◌+◌, ◌-◌, ◌*◌, ◌%◌, ◌^◌, ◌<◌, ◌≤◌}
+use Prim.Native.Nat.{ℕ, zero, suc, ◌+◌, ◌*◌, ◌%◌, ◌<◌, ◌≤◌}
 use mathlib.Core.Path.{◌≡◌, refl, sym, ◌∙◌, ap, subst}
 use mathlib.Core.Bool.{Bool, true, false, ◌&&◌, cond, false≢true}
 use mathlib.Core.List.{List, [], ◌∷◌, ◌++◌}
@@ -7,7 +7,7 @@ use native.Mathlib.Omega.{arith}
 use native.Mathlib.Nat.{not-suc-le-zero}
 use lib.Dec.{eqb, leb, ltb}
 use lib.ListN.{length, take, drop, set, length-take, length-append, take-append-drop}
-use lib.Seq.{take_all, take-append-le, set_out}
+use lib.Seq.{take_all, take-append-le}
 use borrow.Author.Tests.{leb-true, leb-false, ltb-true, eqb-false, le-leb, lt-ltb}
 use Rattle.base.specs.Lists.{part}
 use Rattle.base.specs.Refusal as Refusal
@@ -31,7 +31,7 @@ use Rattle.teluddru.specs.declared.records.NameWords.{NameWords}
 use Rattle.teluddru.specs.Records.{name_words}
 use Rattle.teluddru.specs.Adding.{RecordLaws}
 use Rattle.teluddru.specs.code.Copying.{held, Copied}
-use Rattle.teluddru.specs.code.Placing.{a_name, place_of}
+use Rattle.teluddru.specs.code.Placing.{a_name, place_of, put_at}
 use Rattle.teluddru.proofs.laws.Copying.{words_length}
 
 -- ---- the words of records
@@ -202,37 +202,33 @@ one_not e = omega (arith, e)
 place_not : ◌≡◌ {A = ℕ} 33 0 → ⊥
 place_not e = omega (arith, e)
 
-module _ (ns after : List Name) (used start size : ℕ) (few : length ns < 2 ^ 64) where
+module _ (ns after : List Name) (used start size : ℕ) where
   abbrev Left : AddOutcome → Type 0
   Left o = name_words after ≡ names_after o (name_words ns) used start size
 
-  -- no name was added
-  same : after ≡ set ns (2 ^ 64 - 1) (a_name start size) → name_words after ≡ name_words ns
-  same e = ap name_words (e ∙ set_out ns (2 ^ 64 - 1) (a_name start size) (omega (arith, few)))
-
-  left : (a : Result NameAnswer NameRefusal) (o : AddOutcome) → name_line a ≡ add_line o → after ≡ set ns (place_of a used) (a_name start size) → ((x : ℕ) → o ≡ added x → used < length ns) → Left o
+  left : (a : Result NameAnswer NameRefusal) (o : AddOutcome) → name_line a ≡ add_line o → after ≡ put_at (place_of a used) (a_name start size) ns → ((x : ℕ) → o ≡ added x → used < length ns) → Left o
   left (Ok (Answer.Added x)) (added y) e put there = ap name_words put ∙ words_set ns used start size (there y refl)
   left (Ok (Answer.Added x)) (existing y) e put there = absurd (one_not (ap (λ (l : Line). l.third) e))
   left (Ok (Answer.Added x)) (refused r) e put there = absurd (not_zero r (sym (ap (λ (l : Line). l.number) e)))
   left (Ok (Answer.Existing x)) (added y) e put there = absurd (one_not (sym (ap (λ (l : Line). l.third) e)))
-  left (Ok (Answer.Existing x)) (existing y) e put there = same put
-  left (Ok (Answer.Existing x)) (refused r) e put there = same put
+  left (Ok (Answer.Existing x)) (existing y) e put there = ap name_words put
+  left (Ok (Answer.Existing x)) (refused r) e put there = ap name_words put
   left (Err (No.TableRefused a)) (added y) e put there = absurd (not_zero (table_refused a) (ap (λ (l : Line). l.number) e))
-  left (Err (No.TableRefused a)) (existing y) e put there = same put
-  left (Err (No.TableRefused a)) (refused r) e put there = same put
+  left (Err (No.TableRefused a)) (existing y) e put there = ap name_words put
+  left (Err (No.TableRefused a)) (refused r) e put there = ap name_words put
   left (Err No.NoPlace) (added y) e put there = absurd (place_not (ap (λ (l : Line). l.number) e))
-  left (Err No.NoPlace) (existing y) e put there = same put
-  left (Err No.NoPlace) (refused r) e put there = same put
+  left (Err No.NoPlace) (existing y) e put there = ap name_words put
+  left (Err No.NoPlace) (refused r) e put there = ap name_words put
 
 -- what `add_name` says, from what it was told over the words that were copied
-pub name_added : (nodes children numbers strings text : List ℕ) (used start size : ℕ) (ns after : List Name) (names : NameWords) (a : Result NameAnswer NameRefusal) → Copied ns names → length ns < 2 ^ 64
-    → name_line a ≡ add_line (add_outcome (tables nodes children numbers (held names) strings text) used start size) → after ≡ set ns (place_of a used) (a_name start size)
+pub name_added : (nodes children numbers strings text : List ℕ) (used start size : ℕ) (ns after : List Name) (names : NameWords) (a : Result NameAnswer NameRefusal) → Copied ns names
+    → name_line a ≡ add_line (add_outcome (tables nodes children numbers (held names) strings text) used start size) → after ≡ put_at (place_of a used) (a_name start size) ns
     → NameAdded (add_outcome (tables nodes children numbers (name_words ns) strings text) used start size) used start size (name_words ns) (name_words after) a
-name_added nodes children numbers strings text used start size ns after names a c few told put =
+name_added nodes children numbers strings text used start size ns after names a c told put =
     let o = add_outcome (tables nodes children numbers (name_words ns) strings text) used start size in
     let answer : name_line a ≡ add_line o = told ∙ ap add_line (add_all nodes children numbers strings text used start size ns names c) in
     let l = words_length ns in
     record {
       answer = answer;
-      names = left ns after used start size few a o answer put (λ x e. let there = has_place_lem (tables nodes children numbers (name_words ns) strings text) used start size x e in omega (arith, l, there));
+      names = left ns after used start size a o answer put (λ x e. let there = has_place_lem (tables nodes children numbers (name_words ns) strings text) used start size x e in omega (arith, l, there));
     }

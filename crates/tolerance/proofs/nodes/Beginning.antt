@@ -1,6 +1,6 @@
 -- What the arrays begin with: labels, ends of ranges, the values of known names; and the list at the end.
-use Prim.Native.Nat.{ℕ, ◌+◌, ◌-◌, ◌*◌, ◌/◌, ◌≤◌, ◌<◌}
-use mathlib.Core.Path.{◌≡◌, refl, ap, ap₂, ◌∙◌}
+use Prim.Native.Nat.{ℕ, ◌+◌, ◌-◌, ◌/◌, ◌≤◌, ◌<◌}
+use mathlib.Core.Path.{◌≡◌, refl, ap, ◌∙◌}
 use mathlib.Core.List.{List}
 use mathlib.Core.Bool.{Bool, true, false, cond}
 use native.Mathlib.Omega.{arith}
@@ -8,102 +8,56 @@ use mir.Val.{Fits}
 use mir.Syntax.{w32}
 use borrow.Author.Tests.{eqb-true, eqb-false, leb-true, leb-false}
 use lib.Dec.{eqb, leb}
-use lib.ListN.{length, get_or, set, replicate}
+use lib.ListN.{length, get_or, set, replicate, length-set, length-replicate}
+use lib.Seq.{get_or-set_same, get_or-set_other}
 use Rattle.scope.specs.declared.Scope.{Scope}
 use Rattle.scope.specs.declared.ScopingMode.{ScopingMode}
-use Rattle.table.specs.Tables.{record_word}
 use Rattle.planner.specs.Names.{states_of}
 use Rattle.planner.proofs.buffer.Filling.{past_end}
 use Rattle.planner.proofs.laws.States.{states_each}
 use Rattle.value.proofs.Changing.{Changing, changing_zeros, changing_on}
 use Rattle.run.specs.code.NamesPost.{ListAsks}
-use Rattle.tolerance.specs.Tolerance.{num}
-use Rattle.tolerance.specs.Operations.{end_at, range_ok}
-use Rattle.tolerance.specs.code.Post.{label_in, pair_in, number_by, EndAsks, OwnLabels, EndsFrom, KnownList, ListSet}
-use Rattle.tolerance.proofs.nodes.Joining.{written_long, written_here, written_there}
+use Rattle.tolerance.specs.declared.number.Range.{Range as StoredRange}
+use Rattle.tolerance.specs.code.Post.{label_in, OwnLabels, zero_range, first_range, FirstRanges, KnownList, ListSet}
 
 -- 1. Labels
-pub record Labelling (labels : List ℕ) (n : ℕ) : Type 0 where
+pub own_labels_ok : {labels : List ℕ} → length labels ≡ 513 → ((n : ℕ) → n ≤ 512 → label_in labels n ≡ n) → OwnLabels labels
+own_labels_ok {labels} long own = record {
+  labels_ok = record {
+    long = long;
+    zero = own 0 (omega arith);
+    low = λ k low high. let e = own k high in omega arith;
+    high = λ k. at k (leb 513 k) refl;
+  };
+  each = own;
+}
+  where
+    at : (k : ℕ) (b : Bool) → leb 513 k ≡ b → label_in labels k ≤ 512
+    at k true e = let l = leb-true 513 k e in let z = past_end labels k (omega arith) in omega arith
+    at k false e = let l = leb-false 513 k e in let z = own k (omega arith) in omega arith
+
+-- 2. Ranges
+pub record Ranging (lows highs : List ℕ) (ranges : List StoredRange) (n : ℕ) : Type 0 where
   pub inside : n ≤ 513
-  pub going : Changing (λ k. k) (λ k. 0) 513 n labels
+  pub long : length ranges ≡ 513
+  pub each : (k : ℕ) → k < n → get_or ranges k zero_range ≡ first_range lows highs k
 
-pub labelling : Labelling (replicate 513 0) 0
-labelling = record { inside = omega arith; going = changing_zeros (λ k. k) 513 }
+pub ranges_start : (lows highs : List ℕ) → Ranging lows highs (replicate 513 zero_range) 0
+ranges_start lows highs = record { inside = omega arith; long = length-replicate {A = StoredRange} 513 zero_range; each = λ k lt. absurd (omega arith) }
 
-module _ {labels : List ℕ} {n : ℕ} (go : Labelling labels n) where
-  pub labelling_small : n < 513 → Fits w32 n
-  labelling_small lt = record { fits = omega arith }
+module _ {lows highs : List ℕ} {ranges : List StoredRange} {n : ℕ} (go : Ranging lows highs ranges n) where
+  pub ranges_node : n < 513 → Fits w32 n
+  ranges_node lt = record { fits = omega arith }
 
-  pub labelling_on : n < 513 → Labelling (set labels n n) (n + 1)
-  labelling_on lt = record { inside = omega arith; going = changing_on go.going lt refl }
-
-  label_at : 513 ≤ n → (k : ℕ) → k ≤ 512 → label_in labels k ≡ k
-  label_at le k high = go.going.each k (omega arith)
-
-  pub labelling_ends : 513 ≤ n → OwnLabels labels
-  labelling_ends le = record {
-    labels_ok = record {
-      long = go.going.long;
-      zero = label_at le 0 (omega arith);
-      low = λ k low high. let e = label_at le k high in omega arith;
-      high = λ k. at k (leb 513 k) refl;
-    };
-    each = label_at le;
-  }
+  pub ranges_on : n < 513 → {r : StoredRange} → r ≡ first_range lows highs n → Ranging lows highs (set ranges n r) (n + 1)
+  ranges_on lt {r} e = record { inside = omega arith; long = length-set ranges n r ∙ go.long; each = λ j l. at j l (eqb j n) refl }
     where
-      at : (k : ℕ) (b : Bool) → leb 513 k ≡ b → label_in labels k ≤ 512
-      at k true e = let l = leb-true 513 k e in let long = go.going.long in let z = past_end labels k (omega arith) in omega arith
-      at k false e = let l = leb-false 513 k e in let z = label_at le k (omega arith) in omega arith
+      at : (j : ℕ) → j < n + 1 → (b : Bool) → eqb j n ≡ b → get_or (set ranges n r) j zero_range ≡ first_range lows highs j
+      at j l true q = let z = eqb-true j n q in let long = go.long in rw z (get_or-set_same ranges n r zero_range (omega arith) ∙ e)
+      at j l false q = let d = eqb-false j n q in get_or-set_other ranges n j r zero_range d ∙ go.each j (omega (arith, d))
 
--- 2. Ends
-pub kept_yes : (kept : Bool) (word : ℕ) → kept ≡ true → word ≡ cond kept word 0
-kept_yes kept word e = rw e
-
-pub kept_no : (kept : Bool) (word : ℕ) → kept ≡ false → 0 ≡ cond kept word 0
-kept_no kept word e = rw e
-
-pub record EndsMade (lows highs ends words : List ℕ) (n : ℕ) : Type 0 where
-  pub inside : n ≤ 513
-  pub long : length words ≡ 1026
-  pub each : (k : ℕ) → k < n → pair_in words k ≡ cond (range_ok lows highs k) (end_at ends k) (num false 0)
-
-pub ends_start : (lows highs ends : List ℕ) → EndsMade lows highs ends (replicate 1026 0) 0
-ends_start lows highs ends = record { inside = omega arith; long = (changing_zeros (λ k. k) 1026).long; each = λ k lt. absurd (omega arith) }
-
-module _ {lows highs ends words : List ℕ} {n : ℕ} (go : EndsMade lows highs ends words n) where
-  module _ (lt : n < 513) where
-    pub ends_node : Fits w32 n
-    ends_node = record { fits = omega arith }
-
-    pub ends_first : n * 2 < 1026
-    ends_first = omega arith
-
-    pub ends_second : n * 2 + 1 < 1026
-    ends_second = omega arith
-
-    end_asks : EndAsks words n
-    end_asks = record { long = go.long; inside = lt }
-
-    pub ends_on : {kept : Bool} {s z sign size : ℕ} → kept ≡ range_ok lows highs n → s ≡ record_word 2 0 ends n → sign ≡ cond kept s 0 → z ≡ record_word 2 1 ends n → size ≡ cond kept z 0
-        → EndsMade lows highs ends (set (set words (n * 2) sign) (n * 2 + 1) size) (n + 1)
-    ends_on {kept} {s} {z} {sign} {size} k is-s is-sign is-z is_size = record {
-      inside = omega arith;
-      long = written_long end_asks sign size ∙ go.long;
-      each = λ j l. at j l (eqb j n) refl;
-    }
-      where
-        both : (b : Bool) → number_by (cond b (record_word 2 0 ends n) 0) (cond b (record_word 2 1 ends n) 0) ≡ cond b (end_at ends n) (num false 0)
-        both true = refl
-        both false = refl
-
-        at : (j : ℕ) → j < n + 1 → (b : Bool) → eqb j n ≡ b → pair_in (set (set words (n * 2) sign) (n * 2 + 1) size) j ≡ cond (range_ok lows highs j) (end_at ends j) (num false 0)
-        at j l true e =
-            let q = eqb-true j n e in
-            rw q (written_here end_asks sign size ∙ (ap₂ number_by (is-sign ∙ ap₂ (λ (b : Bool) (x : ℕ). cond b x 0) k is-s) (is_size ∙ ap₂ (λ (b : Bool) (x : ℕ). cond b x 0) k is-z) ∙ both (range_ok lows highs n)))
-        at j l false e = let q = eqb-false j n e in written_there end_asks sign size j q ∙ go.each j (omega (arith, q))
-
-  pub ends_end : 513 ≤ n → EndsFrom lows highs ends words
-  ends_end le = record { long = go.long; each = λ k high. go.each k (omega arith) }
+  pub ranges_end : 513 ≤ n → FirstRanges lows highs ranges
+  ranges_end le = record { long = go.long; each = λ k high. go.each k (omega arith) }
 
 -- 3. The known names' values
 pub record Knowing (names values states : List ℕ) (count i : ℕ) (list : List ℕ) : Type 0 where

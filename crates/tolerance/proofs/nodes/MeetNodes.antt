@@ -15,12 +15,14 @@ use Rattle.literal.specs.Order.{key_order}
 use Rattle.literal.specs.Reading.{literal_of, has_number as numberThere}
 use Rattle.literal.specs.declared.LiteralRef.TheVariants as Ref
 use Rattle.base.specs.Lists.{part}
+use Rattle.std.specs.Prelude.{Some, None}
+use Rattle.std.specs.Prelude as Prelude
 use Rattle.table.specs.Tables.{Tables, kind_of, first_word_of, count_of, child_at}
 use Rattle.table.specs.Decode.{expr, items, fields, literal_at, literal_node, literal_in, ref_of, ref_by, fields_of, is_wildcard, named_by}
 use Rattle.table.specs.declared.Key.{Key}
 use Rattle.table.specs.Expr as Expr
 use Rattle.table.specs.Expr.{Expr, literal, name, wildcard, array, set, object, other, Exprs, item, Fields, done, field}
-use Rattle.table.specs.code.Sound.{Node}
+use Rattle.table.specs.code.Sound.{Node, WellFormed}
 use Rattle.table.proofs.tests.Bools.{and_true}
 use Rattle.table.proofs.trees.Trees.{expr_literal, expr_array, expr_object, expr_name, width_array, width_object}
 use Rattle.planner.specs.Layout.{literal_key}
@@ -29,11 +31,11 @@ use Rattle.planner.specs.code.Post.{NameNumber}
 use Rattle.planner.specs.Simple.{same_key, has_key, differing, add_key, keys_of, is_literal, admitted, admitted_all, admitted_fields}
 use Rattle.planner.proofs.fields.Objects.{key_literal}
 use Rattle.value.specs.Value.{Value, ValueFields, value_of, values_of, value_fields_of, value_at, keysᵛ, under, within, same_key_sets}
-use Rattle.value.specs.code.Post.{same_literals, under_from, under_in, KeyedObject, ValueNode}
+use Rattle.value.specs.code.Post.{same_literals, node_or_none, under_from, under_in, KeyedObject, ValueNode}
 use Rattle.value.proofs.Keys.{both, is_true, true_is, sets_by_count, sets_uneven}
 use Rattle.value.proofs.Admitted.{value_keys, array_item, object_value, array_children, value_node_lem, keyed_object, admitted_value}
 use Rattle.value.proofs.SameValues.{ValueShape, value_literal, value_array, value_object, value_shape, under_has}
-use Rattle.value.proofs.Under.{Fielded, object_fielded, keys_length, found_field, found_value, key_of, position_fits, position_key_fits, position_value_fits}
+use Rattle.value.proofs.Under.{node_told, no_node, Fielded, object_fielded, keys_length, found_field, found_value, key_of, position_fits, position_key_fits, position_value_fits}
 use Rattle.matching.specs.Matching.{Env, under_key}
 use Rattle.matching.specs.code.Post.{env_of, ListOk}
 use Rattle.matching.proofs.Patterns.{PatternShape, pattern_literal, pattern_wildcard, pattern_name, pattern_array, pattern_object, pattern_shape}
@@ -42,34 +44,34 @@ use Rattle.tolerance.specs.Tolerance.{Number, num, num_order}
 use Rattle.tolerance.specs.code.Classes.{Equality, alike, equals, Classes, joined, node_of, open?, unified, is_some}
 use Rattle.tolerance.specs.code.Decision.{Conditions, only_rest, literals_met, literal_met}
 use Rattle.tolerance.specs.code.Meeting.{Held, held, held_with, asking, and_then, meets_at, naming, numbers_met, conditions_of, meets, meets_items, meets_fields}
-use Rattle.tolerance.specs.code.Post.{number_by, classes_in, NodeNumber, JoinAsks, EndsAsk, Joined, StateOk, Equated, LiteralAsks, MeetAsks, NameAsks, MeetItemsAsks, MeetFieldsAsks, held_in, Met, conditions_at, meets_nodes, meets_listed, meets_under}
+use Rattle.tolerance.specs.declared.number.Number.{Number as StoredNumber}
+use Rattle.tolerance.specs.code.Post.{number_of, number_in, NodeNumber, Joined, Equated, LiteralAsks, MeetAsks, NameAsks, MeetItemsAsks, MeetFieldsAsks, held_in, Met, conditions_at, meets_nodes, meets_listed, meets_array, meets_under}
 use Rattle.tolerance.proofs.trees.Meets.{value_meets}
 
 -- 1. Conditions that ask for no equality, or for one
-module _ {labels lows highs : List ℕ} (state : StateOk labels lows highs) where
-  plainly : (q : Conditions) (b : Bool) → q ≡ only_rest b → Equated q labels lows highs labels lows highs b
+module _ {classes : Classes num_order} where
+  plainly : (q : Conditions) (b : Bool) → q ≡ only_rest b → Equated q classes classes b
   unfolding unified
-  plainly q b e = rw e (record { is = right_true b; classes = λ t. refl; state = state })
+  plainly q b e = rw e (record { is = right_true b; classes = λ t. refl })
     where
       right_true : (b : Bool) → b ≡ (b && true)
       right_true true = refl
       right_true false = refl
 
-one_equality : (q : Equality Number) (c : Conditions) → c ≡ record { numbers = q ∷ []; rest = true } → {labels lows highs labels' lows' highs' : List ℕ} {r : Bool} → Joined q labels lows highs labels' lows' highs' r
-    → Equated c labels lows highs labels' lows' highs' r
+one_equality : (q : Equality Number) (c : Conditions) → c ≡ record { numbers = q ∷ []; rest = true } → {classes classes' : Classes num_order} {r : Bool} → Joined q classes classes' r
+    → Equated c classes classes' r
 unfolding unified
-one_equality q c e {labels} {lows} {highs} {labels'} {lows'} {highs'} {r} j =
+one_equality q c e {classes} {classes'} {r} j =
     rw e (record {
-      is = j.left ∙ told (open? num_order (node_of num_order q) (joined num_order q (classes_in labels lows highs)));
-      classes = λ y. after (open? num_order (node_of num_order q) (joined num_order q (classes_in labels lows highs))) (sym j.left ∙ y);
-      state = record { labels_ok = j.labels_ok; ends = j.ends };
+      is = j.left ∙ told (open? num_order (node_of num_order q) (joined num_order q classes));
+      classes = λ y. after (open? num_order (node_of num_order q) (joined num_order q classes)) (sym j.left ∙ y);
     })
   where
-    told : (b : Bool) → b ≡ is_some (cond b (some (joined num_order q (classes_in labels lows highs))) none)
+    told : (b : Bool) → b ≡ is_some (cond b (some (joined num_order q classes)) none)
     told true = refl
     told false = refl
 
-    after : (b : Bool) → b ≡ true → cond b (some (joined num_order q (classes_in labels lows highs))) none ≡ some (classes_in labels' lows' highs')
+    after : (b : Bool) → b ≡ true → cond b (some (joined num_order q classes)) none ≡ some classes'
     after true e = ap some (sym j.classes)
     after false e = absurd (false≢true e)
 
@@ -149,7 +151,7 @@ module _ (q : Number → Equality Number) where
   two_numbers s i (string bs) f = absurd (false≢true f)
 
 -- 3. A literal node and a value node
-module _ {T : Tables} {a b : ℕ} {labels lows highs : List ℕ} (asks : LiteralAsks T a b labels lows highs) (pattern : Bool) where
+module _ {T : Tables} {a b : ℕ} (asks : LiteralAsks T a b) (pattern : Bool) where
   left_literal : (l : Literal) × (literal_at T a ≡ some l) × (expr T a ≡ literal a l)
   left_literal =
       let (l, p) = asks.table.literals a asks.node asks.literal in
@@ -178,33 +180,30 @@ module _ {T : Tables} {a b : ℕ} {labels lows highs : List ℕ} (asks : Literal
       go e q (value_array h) = refl
       go e q (value_object h) = refl
 
-  pub met_plain : {kind : ℕ} {r : Bool} → kind ≡ kind_of T.nodes a → (kind ≡ 3 → ⊥) → r ≡ same_literals (literal_at T a) (literal_at T b) → Equated (conditions_at T pattern a b) labels lows highs labels lows highs r
-  met_plain {kind} {r} is not_three e =
+  pub met_plain : {classes : Classes num_order} {kind : ℕ} {r : Bool} → kind ≡ kind_of T.nodes a → (kind ≡ 3 → ⊥) → r ≡ same_literals (literal_at T a) (literal_at T b) → Equated (conditions_at T pattern a b) classes classes r
+  met_plain {classes} {kind} {r} is not_three e =
       let (l, p, t) = left_literal in
       let n : is_num l ≡ false = number_literal T a l p ∙ (sym (ap (λ (x : ℕ). eqb x 3) is) ∙ ne_eqb kind 3 not_three) in
-      plainly asks.state (conditions_at T pattern a b) r (not_both l t p (λ k q. plain_left (numbers_met pattern a b) l k n) ∙ ap only_rest (sym e))
+      plainly (conditions_at T pattern a b) r (not_both l t p (λ k q. plain_left (numbers_met pattern a b) l k n) ∙ ap only_rest (sym e))
 
-  pub met_unlike : {kind other : ℕ} {r : Bool} → kind ≡ kind_of T.nodes a → kind ≡ 3 → other ≡ kind_of T.nodes b → (other ≡ 3 → ⊥) → r ≡ same_literals (literal_at T a) (literal_at T b)
-      → Equated (conditions_at T pattern a b) labels lows highs labels lows highs r
-  met_unlike {kind} {other} {r} is three o not_three e =
+  pub met_unlike : {classes : Classes num_order} {kind other : ℕ} {r : Bool} → kind ≡ kind_of T.nodes a → kind ≡ 3 → other ≡ kind_of T.nodes b → (other ≡ 3 → ⊥) → r ≡ same_literals (literal_at T a) (literal_at T b)
+      → Equated (conditions_at T pattern a b) classes classes r
+  met_unlike {classes} {kind} {other} {r} is three o not_three e =
       let (l, p, t) = left_literal in
       let n : is_num l ≡ true = number_literal T a l p ∙ ap (λ (x : ℕ). eqb x 3) (sym is ∙ three) in
-      plainly asks.state (conditions_at T pattern a b) r (not_both l t p (λ k q. plain_right (numbers_met pattern a b) l k n (number_literal T b k q ∙ (sym (ap (λ (x : ℕ). eqb x 3) o) ∙ ne_eqb other 3 not_three))) ∙ ap only_rest (sym e))
+      plainly (conditions_at T pattern a b) r (not_both l t p (λ k q. plain_right (numbers_met pattern a b) l k n (number_literal T b k q ∙ (sym (ap (λ (x : ℕ). eqb x 3) o) ∙ ne_eqb other 3 not_three))) ∙ ap only_rest (sym e))
 
-  number_of : (n : ℕ) → Node T n → NodeNumber n
-  number_of n v =
+  number_of_node : (n : ℕ) → Node T n → NodeNumber n
+  number_of_node n v =
       let few = asks.table.limits.nodes in
       let high = v.high in
       record { low = v.low; high = omega arith }
 
-  pub join_ask : JoinAsks labels a b
-  join_ask = record { labels_ok = asks.state.labels_ok; first = number_of a asks.node; second = number_of b asks.value_ok.node }
+  pub left_node : NodeNumber a
+  left_node = number_of_node a asks.node
 
-  pub fix_ask : JoinAsks labels b b
-  fix_ask = record { labels_ok = asks.state.labels_ok; first = number_of b asks.value_ok.node; second = number_of b asks.value_ok.node }
-
-  pub join_ends : EndsAsk lows highs
-  join_ends = asks.state.ends
+  pub right_node : NodeNumber b
+  right_node = number_of_node b asks.value_ok.node
 
   -- both numbers
   module _ {kind other : ℕ} (is : kind ≡ kind_of T.nodes a) (three : kind ≡ 3) (o : other ≡ kind_of T.nodes b) (too : other ≡ 3) where
@@ -222,15 +221,15 @@ module _ {T : Tables} {a b : ℕ} {labels lows highs : List ℕ} (asks : Literal
         let e : l ≡ number own.below own.size = number_words T a l (sym is ∙ three) p in
         as_literal l t ∙ (ap₂ (λ (x : Expr) (y : Literal). literal_met (numbers_met pattern a) y (value_of x)) u e ∙ two_numbers (numbers_met pattern a b) own.below own.size k m)
 
-    pub met_own : pattern ≡ true → {first sign size : ℕ} → first ≡ first_word_of T.nodes a → sign ≡ get_or T.numbers (first * 2) 0 → size ≡ get_or T.numbers (first * 2 + 1) 0
-        → {labels' lows' highs' : List ℕ} {r : Bool} → Joined (equals b (number_by sign size)) labels lows highs labels' lows' highs' r → Equated (conditions_at T pattern a b) labels lows highs labels' lows' highs' r
-    met_own is_pattern {first} {sign} {size} f s z j =
-        one_equality (equals b (number_by sign size)) (conditions_at T pattern a b)
-        (both_numbers ∙ ap₂ (λ (p : Bool) (n : Number). record { numbers = numbers_met p a b n ∷ []; rest = true }) is_pattern
-        (ap₂ number_by (ap (λ (x : ℕ). get_or T.numbers (x * 2) 0) (sym f) ∙ sym s) (ap (λ (x : ℕ). get_or T.numbers (x * 2 + 1) 0) (sym f) ∙ sym z))) j
+    pub met_own : {classes : Classes num_order} → pattern ≡ true → {first : ℕ} {number : StoredNumber} → first ≡ first_word_of T.nodes a → number ≡ number_in T.numbers first
+        → {classes' : Classes num_order} {r : Bool} → Joined (equals b (number_of number)) classes classes' r → Equated (conditions_at T pattern a b) classes classes' r
+    met_own {classes} is_pattern {first} {number} f n j =
+        one_equality (equals b (number_of number)) (conditions_at T pattern a b)
+        (both_numbers ∙ ap₂ (λ (p : Bool) (x : Number). record { numbers = numbers_met p a b x ∷ []; rest = true }) is_pattern
+        (ap (λ (x : ℕ). number_of (number_in T.numbers x)) (sym f) ∙ ap number_of (sym n))) j
 
-    pub met_numbers : pattern ≡ false → {labels' lows' highs' : List ℕ} {r : Bool} → Joined (alike a b) labels lows highs labels' lows' highs' r → Equated (conditions_at T pattern a b) labels lows highs labels' lows' highs' r
-    met_numbers value j = one_equality (alike a b) (conditions_at T pattern a b) (both_numbers ∙ ap (λ (p : Bool). record { numbers = numbers_met p a b own ∷ []; rest = true }) value) j
+    pub met_numbers : {classes : Classes num_order} → pattern ≡ false → {classes' : Classes num_order} {r : Bool} → Joined (alike a b) classes classes' r → Equated (conditions_at T pattern a b) classes classes' r
+    met_numbers {classes} value j = one_equality (alike a b) (conditions_at T pattern a b) (both_numbers ∙ ap (λ (p : Bool). record { numbers = numbers_met p a b own ∷ []; rest = true }) value) j
 
 -- 4. Two nodes
 mutual
@@ -260,17 +259,16 @@ admitted_simple : (pattern : Bool) (e : Expr) → admitted pattern e ≡ true �
 admitted_simple true e t = t
 admitted_simple false e t = value_simple e t
 
-module _ {T : Tables} {list labels lows highs : List ℕ} (list_ok : ListOk T list) where
+module _ {T : Tables} {list : List ℕ} {classes : Classes num_order} (list_ok : ListOk T list) where
   -- conditions on numbers alone
-  met_asking : {q : Conditions} {labels' lows' highs' : List ℕ} {r : Bool} → Equated q labels lows highs labels' lows' highs' r → Met T (asking q (held_in T list labels lows highs)) list labels' lows' highs' r
-  met_asking {q} {labels'} {lows'} {highs'} {r} e = record {
-    hit = λ t. yea q.rest (unified num_order q.numbers (classes_in labels lows highs)) (sym e.is ∙ t) (e.classes t);
-    miss = λ t. nay q.rest (unified num_order q.numbers (classes_in labels lows highs)) (sym e.is ∙ t);
+  met_asking : {q : Conditions} {classes' : Classes num_order} {r : Bool} → Equated q classes classes' r → Met T (asking q (held_in T list classes)) list classes' r
+  met_asking {q} {classes'} {r} e = record {
+    hit = λ t. yea q.rest (unified num_order q.numbers classes) (sym e.is ∙ t) (e.classes t);
+    miss = λ t. nay q.rest (unified num_order q.numbers classes) (sym e.is ∙ t);
     list_ok = list_ok;
-    state = e.state;
   }
     where
-      yea : (b : Bool) (o : Option (Classes num_order)) → (b && is_some o) ≡ true → o ≡ some (classes_in labels' lows' highs') → cond b (held_with o (env_of T list)) none ≡ some (held_in T list labels' lows' highs')
+      yea : (b : Bool) (o : Option (Classes num_order)) → (b && is_some o) ≡ true → o ≡ some classes' → cond b (held_with o (env_of T list)) none ≡ some (held_in T list classes')
       yea true o t i = ap (λ (x : Option (Classes num_order)). held_with x (env_of T list)) i
       yea false o t i = absurd (false≢true t)
 
@@ -279,11 +277,11 @@ module _ {T : Tables} {list labels lows highs : List ℕ} (list_ok : ListOk T li
       nay true (some s) t = absurd (false≢true (sym t))
       nay false o t = refl
 
-  met_nothing : (state : StateOk labels lows highs) {o : Option Held} → o ≡ none → Met T o list labels lows highs false
-  met_nothing state e = record { hit = λ t. absurd (false≢true t); miss = λ t. e; list_ok = list_ok; state = state }
+  met_nothing : {o : Option Held} → o ≡ none → Met T o list classes false
+  met_nothing e = record { hit = λ t. absurd (false≢true t); miss = λ t. e; list_ok = list_ok }
 
-  met_something : (state : StateOk labels lows highs) {o : Option Held} → o ≡ some (held_in T list labels lows highs) → Met T o list labels lows highs true
-  met_something state e = record { hit = λ t. e; miss = λ t. absurd (false≢true (sym t)); list_ok = list_ok; state = state }
+  met_something : {o : Option Held} → o ≡ some (held_in T list classes) → Met T o list classes true
+  met_something e = record { hit = λ t. e; miss = λ t. absurd (false≢true (sym t)); list_ok = list_ok }
 
 items_uneven : (pattern : Bool) (g : ℕ → Expr) (ch : List ℕ) (at k from m : ℕ) (h : Held) → (m ≡ k → ⊥) → meets_items pattern (items g ch at k) (values_of (items g ch from m)) h ≡ none
 unfolding items value_of meets
@@ -322,9 +320,9 @@ nothing_either : (c : Bool) (o : Option Held) → o ≡ none → o ≡ cond c o 
 nothing_either true o e = refl
 nothing_either false o e = e
 
-module _ {T : Tables} {pattern : Bool} {a b : ℕ} {list labels lows highs : List ℕ} (asks : MeetAsks T pattern a b list labels lows highs) where
-  abbrev here : Held
-  here = held_in T list labels lows highs
+module _ {T : Tables} {pattern : Bool} {a b : ℕ} {list : List ℕ} (asks : MeetAsks T pattern a b list) where
+  abbrev here : Classes num_order → Held
+  here classes = held_in T list classes
 
   left_is : (e : Expr) × (expr T a ≡ e) × PatternShape T a e
   left_is = pattern_shape T asks.table a asks.node (admitted_simple pattern (expr T a) asks.admits)
@@ -332,8 +330,8 @@ module _ {T : Tables} {pattern : Bool} {a b : ℕ} {list labels lows highs : Lis
   right_is : (e : Expr) × (expr T b ≡ e) × ValueShape T b e
   right_is = value_shape T asks.table b asks.value_ok
 
-  meet_as : (e f : Expr) → expr T a ≡ e → expr T b ≡ f → meets_nodes T pattern a b here ≡ meets pattern e (value_of f) here
-  meet_as e f p q = ap₂ (λ (x y : Expr). meets pattern x (value_of y) here) p q
+  meet_as : (classes : Classes num_order) (e f : Expr) → expr T a ≡ e → expr T b ≡ f → meets_nodes T pattern a b (here classes) ≡ meets pattern e (value_of f) (here classes)
+  meet_as classes e f p q = ap₂ (λ (x y : Expr). meets pattern x (value_of y) (here classes)) p q
 
   left_keyed : kind_of T.nodes a ≡ 9 → KeyedObject T a
   left_keyed k = keyed_object T asks.table a asks.node pattern asks.admits k
@@ -377,25 +375,25 @@ module _ {T : Tables} {pattern : Bool} {a b : ℕ} {list labels lows highs : Lis
           absurd (no_name (is_wildcard T (first_word_of T.nodes a)) (rw (expr_name T asks.table a asks.node k) at t))
 
   module _ {kind : ℕ} (is-kind : kind ≡ kind_of T.nodes a) where
-    pub ask_literal : kind ≤ 5 → LiteralAsks T a b labels lows highs
-    ask_literal low = record { table = asks.table; node = asks.node; literal = rw (← is-kind) low; value_ok = asks.value_ok; state = asks.state }
+    pub ask_literal : kind ≤ 5 → LiteralAsks T a b
+    ask_literal low = record { table = asks.table; node = asks.node; literal = rw (← is-kind) low; value_ok = asks.value_ok }
 
-    pub met_literal : kind ≤ 5 → {labels' lows' highs' : List ℕ} {r : Bool} → Equated (conditions_at T pattern a b) labels lows highs labels' lows' highs' r → Met T (meets_nodes T pattern a b here) list labels' lows' highs' r
+    pub met_literal : {classes : Classes num_order} → kind ≤ 5 → {classes' : Classes num_order} {r : Bool} → Equated (conditions_at T pattern a b) classes classes' r → Met T (meets_nodes T pattern a b (here classes)) list classes' r
     unfolding meets
-    met_literal low e =
+    met_literal {classes} low e =
         let (l, p, t) = left_literal (ask_literal low) pattern in
-        let q : asking (conditions_at T pattern a b) here ≡ meets_nodes T pattern a b here =
-        ap (λ (x : Expr). asking (conditions_of pattern x (value_of (expr T b))) here) t ∙ sym (ap (λ (x : Expr). meets pattern x (value_of (expr T b)) here) t) in
+        let q : asking (conditions_at T pattern a b) (here classes) ≡ meets_nodes T pattern a b (here classes) =
+        ap (λ (x : Expr). asking (conditions_of pattern x (value_of (expr T b))) (here classes)) t ∙ sym (ap (λ (x : Expr). meets pattern x (value_of (expr T b)) (here classes)) t) in
         rw q at (met_asking asks.list_ok e)
 
-    pub ask_name : kind ≡ 6 → NameAsks T a b list labels lows highs
+    pub ask_name : kind ≡ 6 → NameAsks T a b list
     ask_name six = record {
-      asks = record { table = asks.table; node = asks.node; admits = admitted_simple pattern (expr T a) asks.admits; value_ok = asks.value_ok; list_ok = asks.list_ok; state = asks.state };
+      asks = record { table = asks.table; node = asks.node; admits = admitted_simple pattern (expr T a) asks.admits; value_ok = asks.value_ok; list_ok = asks.list_ok };
       kind_is = sym is-kind ∙ six;
     }
 
-    pub met_name : kind ≡ 6 → {list' labels' lows' highs' : List ℕ} {r : Bool} → Met T (meets_nodes T true a b here) list' labels' lows' highs' r → Met T (meets_nodes T pattern a b here) list' labels' lows' highs' r
-    met_name six m = let q = name_pattern (sym is-kind ∙ six) in rw q m
+    pub met_name : (classes : Classes num_order) → kind ≡ 6 → {list' : List ℕ} {classes' : Classes num_order} {r : Bool} → Met T (meets_nodes T true a b (here classes)) list' classes' r → Met T (meets_nodes T pattern a b (here classes)) list' classes' r
+    met_name classes six m = let q = name_pattern (sym is-kind ∙ six) in rw q m
 
     pub name_falls : kind ≡ 6 → {t : ℕ} → cond pattern 1200 0 + 2 * a ≡ t → 1200 + 2 * a - 1 < t
     name_falls six {t} e =
@@ -405,11 +403,11 @@ module _ {T : Tables} {pattern : Bool} {a b : ℕ} {list labels lows highs : Lis
         omega arith
 
     module _ (high : 5 < kind) (not-name : kind ≡ 6 → ⊥) {other : ℕ} (is-other : other ≡ kind_of T.nodes b) where
-      pub met_kinds : (other ≡ kind → ⊥) → Met T (meets_nodes T pattern a b here) list labels lows highs false
+      pub met_kinds : {classes : Classes num_order} → (other ≡ kind → ⊥) → Met T (meets_nodes T pattern a b (here classes)) list classes false
       unfolding value_of meets
-      met_kinds unlike = let s = left_is in let t = right_is in met_nothing asks.list_ok asks.state (meet_as s.0 t.0 s.1 t.1 ∙ go s.0 t.0 s.2 t.2)
+      met_kinds {classes} unlike = let s = left_is in let t = right_is in met_nothing asks.list_ok (meet_as classes s.0 t.0 s.1 t.1 ∙ go s.0 t.0 s.2 t.2)
         where
-          go : (e f : Expr) → PatternShape T a e → ValueShape T b f → meets pattern e (value_of f) here ≡ none
+          go : (e f : Expr) → PatternShape T a e → ValueShape T b f → meets pattern e (value_of f) (here classes) ≡ none
           go e f (pattern_literal l h) y = absurd (omega arith)
           go e f (pattern_wildcard h) y = absurd (not-name (is-kind ∙ h))
           go e f (pattern_name h) y = absurd (not-name (is-kind ∙ h))
@@ -421,60 +419,40 @@ module _ {T : Tables} {pattern : Bool} {a b : ℕ} {list labels lows highs : Lis
           go e f (pattern_object h) (value_object k) = absurd (unlike (omega arith))
 
       module _ (alike-kinds : other ≡ kind) {size count : ℕ} (is_size : size ≡ count_of T.nodes a) (is_count : count ≡ count_of T.nodes b) where
-        pub met_counts : (count ≡ size → ⊥) → Met T (meets_nodes T pattern a b here) list labels lows highs false
+        pub met_counts : {classes : Classes num_order} → (count ≡ size → ⊥) → Met T (meets_nodes T pattern a b (here classes)) list classes false
         unfolding value_of meets
-        met_counts uneven = let s = left_is in let t = right_is in met_nothing asks.list_ok asks.state (meet_as s.0 t.0 s.1 t.1 ∙ go s.0 t.0 s.2 t.2)
+        met_counts {classes} uneven = let s = left_is in let t = right_is in met_nothing asks.list_ok (meet_as classes s.0 t.0 s.1 t.1 ∙ go s.0 t.0 s.2 t.2)
           where
-            go : (e f : Expr) → PatternShape T a e → ValueShape T b f → meets pattern e (value_of f) here ≡ none
+            go : (e f : Expr) → PatternShape T a e → ValueShape T b f → meets pattern e (value_of f) (here classes) ≡ none
             go e f (pattern_literal l h) y = absurd (omega arith)
             go e f (pattern_wildcard h) y = absurd (not-name (is-kind ∙ h))
             go e f (pattern_name h) y = absurd (not-name (is-kind ∙ h))
             go e f (pattern_array h) (value_literal m k) = refl
-            go e f (pattern_array h) (value_array k) = items_uneven pattern (expr T) T.children (first_word_of T.nodes a) (count_of T.nodes a) (first_word_of T.nodes b) (count_of T.nodes b) here (λ q. uneven (omega arith))
+            go e f (pattern_array h) (value_array k) = items_uneven pattern (expr T) T.children (first_word_of T.nodes a) (count_of T.nodes a) (first_word_of T.nodes b) (count_of T.nodes b) (here classes) (λ q. uneven (omega arith))
             go e f (pattern_array h) (value_object k) = refl
             go e f (pattern_object h) (value_literal m k) = refl
             go e f (pattern_object h) (value_array k) = refl
             go e f (pattern_object h) (value_object k) =
-                ap (λ (x : Bool). cond x (meets_fields pattern (fields_of T a) (value_fields_of (fields_of T b)) here) none) (uneven_keys h k (λ q. uneven (omega arith)))
+                ap (λ (x : Bool). cond x (meets_fields pattern (fields_of T a) (value_fields_of (fields_of T b)) (here classes)) none) (uneven_keys h k (λ q. uneven (omega arith)))
 
         module _ (even : count ≡ size) where
-          module _ (seven : kind ≡ 7) {at from : ℕ} (is_at : at ≡ first_word_of T.nodes a) (is_from : from ≡ first_word_of T.nodes b) where
+          module _ (seven : kind ≡ 7) where
             left_seven : kind_of T.nodes a ≡ 7
             left_seven = sym is-kind ∙ seven
 
             right_seven : kind_of T.nodes b ≡ 7
             right_seven = sym is-other ∙ (alike-kinds ∙ seven)
 
-            pub ask_items : MeetItemsAsks T pattern a at from size list labels lows highs
-            ask_items =
-                let left = array_children T asks.table a asks.node left_seven in
-                let right = array_children T asks.table b asks.value_ok.node right_seven in
-                let few = asks.table.limits.children in
-                let ls = left.listed in
-                let rs = right.listed in
-                let wide = width_array (kind_of T.nodes a) (count_of T.nodes a) left_seven in
-                record {
-                  table = asks.table;
-                  lefts = λ i lt. rw is_at (
-                    left.each i (omega arith),
-                    array_item T asks.table a asks.node pattern asks.admits left_seven i (omega arith),
-                    (asks.table.below a asks.node i (omega arith)).1,
-                  );
-                  rights = λ i lt. rw is_from (admitted_value T (child_at T.children (first_word_of T.nodes b + i)) (right.each i (omega arith)) (array_item T asks.table b asks.value_ok.node false asks.value_ok.value right_seven i (omega arith)));
-                  left_small = omega arith;
-                  right_small = omega arith;
-                  list_ok = asks.list_ok;
-                  state = asks.state;
-                }
+            pub ask_items : MeetItemsAsks T pattern a b list
+            ask_items = record { asks = asks; left_array = left_seven; right_array = right_seven; even = sym is_count ∙ (even ∙ is_size) }
 
-            pub met_array : {list' labels' lows' highs' : List ℕ} {r : Bool} → Met T (meets_listed T pattern at from size here) list' labels' lows' highs' r → Met T (meets_nodes T pattern a b here) list' labels' lows' highs' r
+            pub met_array : (classes : Classes num_order) {list' : List ℕ} {classes' : Classes num_order} {r : Bool} → Met T (meets_array T pattern a b (here classes)) list' classes' r → Met T (meets_nodes T pattern a b (here classes)) list' classes' r
             unfolding value_of meets
-            met_array m =
-                let sizes : size ≡ count_of T.nodes b = omega arith in
-                let q : meets_listed T pattern at from size here ≡ meets_nodes T pattern a b here =
-                ap₂ (λ (x y : ℕ). meets_listed T pattern x y size here) is_at is_from
-                ∙ (ap₂ (λ (x y : ℕ). meets_items pattern (items (expr T) T.children (first_word_of T.nodes a) x) (values_of (items (expr T) T.children (first_word_of T.nodes b) y)) here) is_size sizes
-                ∙ sym (meet_as _ _ (expr_array T asks.table a asks.node left_seven) (expr_array T asks.table b asks.value_ok.node right_seven))) in
+            met_array classes m =
+                let sizes : count_of T.nodes a ≡ count_of T.nodes b = omega arith in
+                let q : meets_array T pattern a b (here classes) ≡ meets_nodes T pattern a b (here classes) =
+                ap (λ (y : ℕ). meets_items pattern (items (expr T) T.children (first_word_of T.nodes a) (count_of T.nodes a)) (values_of (items (expr T) T.children (first_word_of T.nodes b) y)) (here classes)) sizes
+                ∙ sym (meet_as _ _ _ (expr_array T asks.table a asks.node left_seven) (expr_array T asks.table b asks.value_ok.node right_seven)) in
                 rw q at m
 
           module _ (not-seven : kind ≡ 7 → ⊥) where
@@ -491,30 +469,30 @@ module _ {T : Tables} {pattern : Bool} {a b : ℕ} {list labels lows highs : Lis
             right_object : kind_of T.nodes b ≡ 9
             right_object = let h = left_object in omega arith
 
-            pub ask_fields : MeetFieldsAsks T pattern a b list labels lows highs
+            pub ask_fields : MeetFieldsAsks T pattern a b list
             ask_fields = record { asks = asks; left_object = left_object; right_object = right_object }
 
-            pub met_object : {list' labels' lows' highs' : List ℕ} {r : Bool} → Met T (meets_under T pattern a b here) list' labels' lows' highs' r → Met T (meets_nodes T pattern a b here) list' labels' lows' highs' r
+            pub met_object : (classes : Classes num_order) {list' : List ℕ} {classes' : Classes num_order} {r : Bool} → Met T (meets_under T pattern a b (here classes)) list' classes' r → Met T (meets_nodes T pattern a b (here classes)) list' classes' r
             unfolding value_of meets admitted
-            met_object m =
-                let q : meets_under T pattern a b here ≡ meets_nodes T pattern a b here =
-                keyed (meets_under T pattern a b here) refl
-                ∙ sym (meet_as _ _ (expr_object T asks.table a asks.node left_object) (expr_object T asks.table b asks.value_ok.node right_object)) in
+            met_object classes m =
+                let q : meets_under T pattern a b (here classes) ≡ meets_nodes T pattern a b (here classes) =
+                keyed (meets_under T pattern a b (here classes)) refl
+                ∙ sym (meet_as _ _ _ (expr_object T asks.table a asks.node left_object) (expr_object T asks.table b asks.value_ok.node right_object)) in
                 rw q at m
               where
                 fields_admitted : admitted_fields pattern (fields_of T a) ≡ true
                 fields_admitted = (and_true (differing (keys_of (fields_of T a))) (admitted_fields pattern (fields_of T a)) (rw (expr_object T asks.table a asks.node left_object) at asks.admits)).1
 
-                keyed : (o : Option Held) → meets_under T pattern a b here ≡ o → o ≡ cond (same_key_sets (keys_of (fields_of T a)) (keysᵛ (value_fields_of (fields_of T b)))) o none
+                keyed : (o : Option Held) → meets_under T pattern a b (here classes) ≡ o → o ≡ cond (same_key_sets (keys_of (fields_of T a)) (keysᵛ (value_fields_of (fields_of T b)))) o none
                 keyed none q = nothing_either (same_key_sets (keys_of (fields_of T a)) (keysᵛ (value_fields_of (fields_of T b)))) none refl
                 keyed (some h) q =
-                    let w : within (keys_of (fields_of T a)) (keysᵛ (value_fields_of (fields_of T b))) ≡ true = is_true (fields_within pattern (fields_of T a) (value_fields_of (fields_of T b)) here h fields_admitted q) in
+                    let w : within (keys_of (fields_of T a)) (keysᵛ (value_fields_of (fields_of T b))) ≡ true = is_true (fields_within pattern (fields_of T a) (value_fields_of (fields_of T b)) (here classes) h fields_admitted q) in
                     sym (ap (λ (x : Bool). cond x (some h) none) (sym (even_keys left_object right_object (omega arith)) ∙ w))
 
 -- 5. A name
-module _ {T : Tables} {a b : ℕ} {list labels lows highs : List ℕ} (asks : NameAsks T a b list labels lows highs) {x : ℕ} (is_name : x ≡ first_word_of T.nodes a) where
-  abbrev held_here : Held
-  held_here = held_in T list labels lows highs
+module _ {T : Tables} {a b : ℕ} {list : List ℕ} (asks : NameAsks T a b list) {x : ℕ} (is_name : x ≡ first_word_of T.nodes a) where
+  abbrev held_here : Classes num_order → Held
+  held_here classes = held_in T list classes
 
   pub name_number : NameNumber x
   name_number =
@@ -533,31 +511,31 @@ module _ {T : Tables} {a b : ℕ} {list labels lows highs : List ℕ} (asks : Na
   named_as : expr T a ≡ named_by (is_wildcard T x) a x
   named_as = expr_name T asks.asks.table a asks.asks.node asks.kind_is ∙ ap (λ (y : ℕ). named_by (is_wildcard T y) a y) (sym is_name)
 
-  pub wild_met : {w : Bool} → w ≡ is_wildcard T x → w ≡ true → Met T (meets_nodes T true a b held_here) list labels lows highs true
+  pub wild_met : {classes : Classes num_order} {w : Bool} → w ≡ is_wildcard T x → w ≡ true → Met T (meets_nodes T true a b (held_here classes)) list classes true
   unfolding meets
-  wild_met e t = met_something asks.asks.list_ok asks.asks.state
-      (ap (λ (y : Expr). meets true y (value_of (expr T b)) held_here) (named_as ∙ ap (λ (c : Bool). named_by c a x) (sym e ∙ t)))
+  wild_met {classes} e t = met_something asks.asks.list_ok
+      (ap (λ (y : Expr). meets true y (value_of (expr T b)) (held_here classes)) (named_as ∙ ap (λ (c : Bool). named_by c a x) (sym e ∙ t)))
 
   module _ {w : Bool} (e : w ≡ is_wildcard T x) (f : w ≡ false) where
-    named_meets : meets_nodes T true a b held_here ≡ naming x (value_of (expr T b)) held_here (value_at T (get_or list (x - 1) 0))
+    named_meets : (classes : Classes num_order) → meets_nodes T true a b (held_here classes) ≡ naming x (value_of (expr T b)) (held_here classes) (value_at T (get_or list (x - 1) 0))
     unfolding meets
-    named_meets =
+    named_meets classes =
         let low = name_number.low in
-        ap (λ (y : Expr). meets true y (value_of (expr T b)) held_here) (named_as ∙ ap (λ (c : Bool). named_by c a x) (sym e ∙ f))
-        ∙ ap (naming x (value_of (expr T b)) held_here) (env_at T x low list)
+        ap (λ (y : Expr). meets true y (value_of (expr T b)) (held_here classes)) (named_as ∙ ap (λ (c : Bool). named_by c a x) (sym e ∙ f))
+        ∙ ap (naming x (value_of (expr T b)) (held_here classes)) (env_at T x low list)
 
-    pub name_bound : get_or list (x - 1) 0 ≡ 0 → Met T (meets_nodes T true a b held_here) (set_at list (x - 1) b) labels lows highs true
-    name_bound z =
+    pub name_bound : {classes : Classes num_order} → get_or list (x - 1) 0 ≡ 0 → Met T (meets_nodes T true a b (held_here classes)) (set_at list (x - 1) b) classes true
+    name_bound {classes} z =
         let n = name_number in
-        met_something (set_ok T x n.low list n.high b asks.asks.list_ok asks.asks.value_ok) asks.asks.state
-        (named_meets ∙ (ap (λ (m : ℕ). naming x (value_of (expr T b)) held_here (value_at T m)) z
-        ∙ ap (λ (env : Env). some (held (classes_in labels lows highs) env)) (env_set T x n.low list n.high b asks.asks.list_ok asks.asks.value_ok)))
+        met_something (set_ok T x n.low list n.high b asks.asks.list_ok asks.asks.value_ok)
+        (named_meets classes ∙ (ap (λ (m : ℕ). naming x (value_of (expr T b)) (held_here classes) (value_at T m)) z
+        ∙ ap (λ (env : Env). some (held classes env)) (env_set T x n.low list n.high b asks.asks.list_ok asks.asks.value_ok)))
 
     module _ (nz : get_or list (x - 1) 0 ≡ 0 → ⊥) where
-      pub ask_held : MeetAsks T false (get_or list (x - 1) 0) b list labels lows highs
+      pub ask_held : MeetAsks T false (get_or list (x - 1) 0) b list
       ask_held =
           let v = asks.asks.list_ok.each (x - 1) nz in
-          record { table = asks.asks.table; node = v.node; admits = v.value; value_ok = asks.asks.value_ok; list_ok = asks.asks.list_ok; state = asks.asks.state }
+          record { table = asks.asks.table; node = v.node; admits = v.value; value_ok = asks.asks.value_ok; list_ok = asks.asks.list_ok }
 
       pub held_falls : {t : ℕ} → 1200 + 2 * a - 1 ≡ t → 0 + 2 * get_or list (x - 1) 0 < t
       held_falls e =
@@ -567,14 +545,14 @@ module _ {T : Tables} {a b : ℕ} {list labels lows highs : List ℕ} (asks : Na
           let low = asks.asks.node.low in
           omega arith
 
-      pub held_met : {list' labels' lows' highs' : List ℕ} {r : Bool} → Met T (meets_nodes T false (get_or list (x - 1) 0) b held_here) list' labels' lows' highs' r → Met T (meets_nodes T true a b held_here) list' labels' lows' highs' r
-      held_met m =
+      pub held_met : (classes : Classes num_order) {list' : List ℕ} {classes' : Classes num_order} {r : Bool} → Met T (meets_nodes T false (get_or list (x - 1) 0) b (held_here classes)) list' classes' r → Met T (meets_nodes T true a b (held_here classes)) list' classes' r
+      held_met classes m =
           let v = asks.asks.list_ok.each (x - 1) nz in
           let z = ne_eqb (get_or list (x - 1) 0) 0 nz in
           let there : value_at T (get_or list (x - 1) 0) ≡ some (value_of (expr T (get_or list (x - 1) 0))) = rw z in
-          let q : meets_nodes T false (get_or list (x - 1) 0) b held_here ≡ meets_nodes T true a b held_here =
-          value_meets (expr T (get_or list (x - 1) 0)) (value_of (expr T b)) held_here v.value
-          ∙ sym (named_meets ∙ ap (naming x (value_of (expr T b)) held_here) there) in
+          let q : meets_nodes T false (get_or list (x - 1) 0) b (held_here classes) ≡ meets_nodes T true a b (held_here classes) =
+          value_meets (expr T (get_or list (x - 1) 0)) (value_of (expr T b)) (held_here classes) v.value
+          ∙ sym (named_meets classes ∙ ap (naming x (value_of (expr T b)) (held_here classes)) there) in
           rw q at m
 
 -- the measures: a value's node is twice its number, a pattern's 1,200 more, their children's one less
@@ -583,29 +561,59 @@ child_falls true lt e = omega arith
 child_falls false lt e = omega arith
 
 -- 6. Items in turn
-pub record MeetingItems (T : Tables) (pattern : Bool) (parent at from left i : ℕ) (list₀ labels₀ lows₀ highs₀ list labels lows highs : List ℕ) : Type 0 where
-  pub asks : MeetItemsAsks T pattern parent at from left list₀ labels₀ lows₀ highs₀
+-- those of two arrays, the first below `parent`
+pub record Items (T : Tables) (pattern : Bool) (parent at from left : ℕ) : Type 0 where
+  pub table : WellFormed T
+  pub lefts : (i : ℕ) → i < left → Node T (child_at T.children (at + i)) × (admitted pattern (expr T (child_at T.children (at + i))) ≡ true) × (child_at T.children (at + i) < parent)
+  pub rights : (i : ℕ) → i < left → ValueNode T (child_at T.children (from + i))
+  pub left_small : at + left ≤ 512
+  pub right_small : from + left ≤ 512
+
+pub record MeetingItems (T : Tables) (pattern : Bool) (parent other at from left i : ℕ) (list₀ : List ℕ) (classes₀ : Classes num_order) (list : List ℕ) (classes : Classes num_order) : Type 0 where
+  pub asks : Items T pattern parent at from left
   pub inside : i ≤ left
   pub list_ok : ListOk T list
-  pub state : StateOk labels lows highs
-  pub same : meets_listed T pattern (at + i) (from + i) (left - i) (held_in T list labels lows highs) ≡ meets_listed T pattern at from left (held_in T list₀ labels₀ lows₀ highs₀)
+  pub same : meets_listed T pattern (at + i) (from + i) (left - i) (held_in T list classes) ≡ meets_array T pattern parent other (held_in T list₀ classes₀)
 
-pub items_start : {T : Tables} {pattern : Bool} {parent at from left : ℕ} {list labels lows highs : List ℕ} → MeetItemsAsks T pattern parent at from left list labels lows highs
-    → MeetingItems T pattern parent at from left 0 list labels lows highs list labels lows highs
-items_start {T} {pattern} {parent} {at} {from} {left} a =
-    let x : at + 0 ≡ at = omega arith in
-    let y : from + 0 ≡ from = omega arith in
-    let z : left - 0 ≡ left = omega arith in
-    record { asks = a; inside = omega arith; list_ok = a.list_ok; state = a.state; same = rw (x, y, z) }
+pub items_start : {T : Tables} {pattern : Bool} {a b at from size : ℕ} {list : List ℕ} {classes : Classes num_order} → MeetItemsAsks T pattern a b list → at ≡ first_word_of T.nodes a → from ≡ first_word_of T.nodes b → size ≡ count_of T.nodes a
+    → MeetingItems T pattern a b at from size 0 list classes list classes
+items_start {T} {pattern} {a} {b} {at} {from} {size} items is_at is_from is_size =
+    let asks = items.asks in
+    let even = items.even in
+    let left = array_children T asks.table a asks.node items.left_array in
+    let right = array_children T asks.table b asks.value_ok.node items.right_array in
+    let few = asks.table.limits.children in
+    let ls = left.listed in
+    let rs = right.listed in
+    let wide = width_array (kind_of T.nodes a) (count_of T.nodes a) items.left_array in
+    let x : at + 0 ≡ first_word_of T.nodes a = omega arith in
+    let y : from + 0 ≡ first_word_of T.nodes b = omega arith in
+    let z : size - 0 ≡ count_of T.nodes a = omega arith in
+    record {
+      asks = record {
+        table = asks.table;
+        lefts = λ i lt. rw is_at (
+          left.each i (omega arith),
+          array_item T asks.table a asks.node pattern asks.admits items.left_array i (omega arith),
+          (asks.table.below a asks.node i (omega arith)).1,
+        );
+        rights = λ i lt. rw is_from (admitted_value T (child_at T.children (first_word_of T.nodes b + i)) (right.each i (omega arith)) (array_item T asks.table b asks.value_ok.node false asks.value_ok.value items.right_array i (omega arith)));
+        left_small = omega arith;
+        right_small = omega arith;
+      };
+      inside = omega arith;
+      list_ok = asks.list_ok;
+      same = rw (x, y, z);
+    }
 
 -- what is left, after a part was met or not
-met_on : {T : Tables} {o : Option Held} {list labels lows highs : List ℕ} {r : Bool} → Met T o list labels lows highs r → not r ≡ false → (f : Held → Option Held) → and_then o f ≡ f (held_in T list labels lows highs)
+met_on : {T : Tables} {o : Option Held} {list : List ℕ} {classes : Classes num_order} {r : Bool} → Met T o list classes r → not r ≡ false → (f : Held → Option Held) → and_then o f ≡ f (held_in T list classes)
 met_on {r = r} m t f = let e = m.hit (not-false r t) in rw e
 
-met_fails : {T : Tables} {o : Option Held} {list labels lows highs : List ℕ} {r : Bool} → Met T o list labels lows highs r → not r ≡ true → (f : Held → Option Held) → and_then o f ≡ none
+met_fails : {T : Tables} {o : Option Held} {list : List ℕ} {classes : Classes num_order} {r : Bool} → Met T o list classes r → not r ≡ true → (f : Held → Option Held) → and_then o f ≡ none
 met_fails {r = r} m t f = let e = m.miss (not-true r t) in rw e
 
-module _ {T : Tables} {pattern : Bool} {parent at from left i : ℕ} {list₀ labels₀ lows₀ highs₀ list labels lows highs : List ℕ} (go : MeetingItems T pattern parent at from left i list₀ labels₀ lows₀ highs₀ list labels lows highs) where
+module _ {T : Tables} {pattern : Bool} {parent partner at from left i : ℕ} {list₀ : List ℕ} {classes₀ : Classes num_order} {list : List ℕ} {classes : Classes num_order} (go : MeetingItems T pattern parent partner at from left i list₀ classes₀ list classes) where
   module _ (more : i < left) where
     pub items_left_fits : Fits w64 (at + i)
     items_left_fits = let s = go.asks.left_small in record { fits = omega arith }
@@ -614,8 +622,8 @@ module _ {T : Tables} {pattern : Bool} {parent at from left i : ℕ} {list₀ la
     items_right_fits = let s = go.asks.right_small in record { fits = omega arith }
 
     module _ {a b : ℕ} (is-a : a ≡ child_at T.children (at + i)) (is_b : b ≡ child_at T.children (from + i)) where
-      pub items_ask : MeetAsks T pattern a b list labels lows highs
-      items_ask = record { table = go.asks.table; node = rw is-a (go.asks.lefts i more).0; admits = rw is-a (go.asks.lefts i more).1; value_ok = rw is_b (go.asks.rights i more); list_ok = go.list_ok; state = go.state }
+      pub items_ask : MeetAsks T pattern a b list
+      items_ask = record { table = go.asks.table; node = rw is-a (go.asks.lefts i more).0; admits = rw is-a (go.asks.lefts i more).1; value_ok = rw is_b (go.asks.rights i more); list_ok = go.list_ok }
 
       pub items_below : a < parent
       items_below = rw is-a (go.asks.lefts i more).2
@@ -623,49 +631,48 @@ module _ {T : Tables} {pattern : Bool} {parent at from left i : ℕ} {list₀ la
       abbrev later_items : Held → Option Held
       later_items g = meets_listed T pattern (at + (i + 1)) (from + (i + 1)) (left - (i + 1)) g
 
-      items_step : and_then (meets_nodes T pattern a b (held_in T list labels lows highs)) later_items ≡ meets_listed T pattern at from left (held_in T list₀ labels₀ lows₀ highs₀)
+      items_step : and_then (meets_nodes T pattern a b (held_in T list classes)) later_items ≡ meets_array T pattern parent partner (held_in T list₀ classes₀)
       unfolding items value_of meets
       items_step =
           let e : left - i ≡ suc (left - (i + 1)) = omega arith in
           let x : at + i + 1 ≡ at + (i + 1) = omega arith in
           let y : from + i + 1 ≡ from + (i + 1) = omega arith in
-          ap₂ (λ (m n : ℕ). and_then (meets_nodes T pattern m n (held_in T list labels lows highs)) later_items) is-a is_b
-          ∙ (sym (ap₂ (λ (m n : ℕ). and_then (meets_nodes T pattern (child_at T.children (at + i)) (child_at T.children (from + i)) (held_in T list labels lows highs)) (λ g. meets_listed T pattern m n (left - (i + 1)) g)) x y)
-          ∙ (sym (ap (λ (k : ℕ). meets_listed T pattern (at + i) (from + i) k (held_in T list labels lows highs)) e)
+          ap₂ (λ (m n : ℕ). and_then (meets_nodes T pattern m n (held_in T list classes)) later_items) is-a is_b
+          ∙ (sym (ap₂ (λ (m n : ℕ). and_then (meets_nodes T pattern (child_at T.children (at + i)) (child_at T.children (from + i)) (held_in T list classes)) (λ g. meets_listed T pattern m n (left - (i + 1)) g)) x y)
+          ∙ (sym (ap (λ (k : ℕ). meets_listed T pattern (at + i) (from + i) k (held_in T list classes)) e)
           ∙ go.same))
 
-      module _ {list' labels' lows' highs' : List ℕ} {r : Bool} (m : Met T (meets_nodes T pattern a b (held_in T list labels lows highs)) list' labels' lows' highs' r) where
-        pub items_fail : not r ≡ true → Met T (meets_listed T pattern at from left (held_in T list₀ labels₀ lows₀ highs₀)) list' labels' lows' highs' false
-        items_fail t = met_nothing m.list_ok m.state (sym items_step ∙ met_fails m t later_items)
+      module _ {list' : List ℕ} {classes' : Classes num_order} {r : Bool} (m : Met T (meets_nodes T pattern a b (held_in T list classes)) list' classes' r) where
+        pub items_fail : not r ≡ true → Met T (meets_array T pattern parent partner (held_in T list₀ classes₀)) list' classes' false
+        items_fail t = met_nothing m.list_ok (sym items_step ∙ met_fails m t later_items)
 
-        pub items_on : not r ≡ false → MeetingItems T pattern parent at from left (i + 1) list₀ labels₀ lows₀ highs₀ list' labels' lows' highs'
-        items_on t = record { asks = go.asks; inside = omega arith; list_ok = m.list_ok; state = m.state; same = sym (met_on m t later_items) ∙ items_step }
+        pub items_on : not r ≡ false → MeetingItems T pattern parent partner at from left (i + 1) list₀ classes₀ list' classes'
+        items_on t = record { asks = go.asks; inside = omega arith; list_ok = m.list_ok; same = sym (met_on m t later_items) ∙ items_step }
 
-  pub items_end : left ≤ i → Met T (meets_listed T pattern at from left (held_in T list₀ labels₀ lows₀ highs₀)) list labels lows highs true
+  pub items_end : left ≤ i → Met T (meets_array T pattern parent partner (held_in T list₀ classes₀)) list classes true
   unfolding items value_of meets
   items_end le =
       let z : left - i ≡ 0 = omega arith in
-      met_something go.list_ok go.state (sym (rw z at go.same))
+      met_something go.list_ok (sym (rw z at go.same))
 
 -- 7. Fields in turn, by the first object's keys
-pub record MeetingFields (T : Tables) (pattern : Bool) (a b first size i : ℕ) (list₀ labels₀ lows₀ highs₀ list labels lows highs : List ℕ) : Type 0 where
-  pub asks : MeetFieldsAsks T pattern a b list₀ labels₀ lows₀ highs₀
+pub record MeetingFields (T : Tables) (pattern : Bool) (a b first size i : ℕ) (list₀ : List ℕ) (classes₀ : Classes num_order) (list : List ℕ) (classes : Classes num_order) : Type 0 where
+  pub asks : MeetFieldsAsks T pattern a b list₀
   pub is_first : first ≡ first_word_of T.nodes a
   pub is_size : size ≡ count_of T.nodes a
   pub inside : i ≤ size
   pub list_ok : ListOk T list
-  pub state : StateOk labels lows highs
-  pub same : meets_fields pattern (fields (expr T) T.children (first + i * 2) (size - i)) (value_fields_of (fields_of T b)) (held_in T list labels lows highs) ≡ meets_under T pattern a b (held_in T list₀ labels₀ lows₀ highs₀)
+  pub same : meets_fields pattern (fields (expr T) T.children (first + i * 2) (size - i)) (value_fields_of (fields_of T b)) (held_in T list classes) ≡ meets_under T pattern a b (held_in T list₀ classes₀)
 
-pub fields_start : {T : Tables} {pattern : Bool} {a b first size : ℕ} {list labels lows highs : List ℕ} → MeetFieldsAsks T pattern a b list labels lows highs → first ≡ first_word_of T.nodes a → size ≡ count_of T.nodes a
-    → MeetingFields T pattern a b first size 0 list labels lows highs list labels lows highs
+pub fields_start : {T : Tables} {pattern : Bool} {a b first size : ℕ} {list : List ℕ} {classes : Classes num_order} → MeetFieldsAsks T pattern a b list → first ≡ first_word_of T.nodes a → size ≡ count_of T.nodes a
+    → MeetingFields T pattern a b first size 0 list classes list classes
 fields_start {T} {pattern} {a} {b} {first} {size} asks is of =
     let x : first + 0 * 2 ≡ first_word_of T.nodes a = omega arith in
     let z : size - 0 ≡ count_of T.nodes a = omega arith in
-    record { asks = asks; is_first = is; is_size = of; inside = omega arith; list_ok = asks.asks.list_ok; state = asks.asks.state; same = rw (x, z) }
+    record { asks = asks; is_first = is; is_size = of; inside = omega arith; list_ok = asks.asks.list_ok; same = rw (x, z) }
 
-module _ {T : Tables} {pattern : Bool} {a b first size i : ℕ} {list₀ labels₀ lows₀ highs₀ list labels lows highs : List ℕ} (go : MeetingFields T pattern a b first size i list₀ labels₀ lows₀ highs₀ list labels lows highs) where
-  asked : MeetAsks T pattern a b list₀ labels₀ lows₀ highs₀
+module _ {T : Tables} {pattern : Bool} {a b first size i : ℕ} {list₀ : List ℕ} {classes₀ : Classes num_order} {list : List ℕ} {classes : Classes num_order} (go : MeetingFields T pattern a b first size i list₀ classes₀ list classes) where
+  asked : MeetAsks T pattern a b list₀
   asked = go.asks.asks
 
   first_keyed : KeyedObject T a
@@ -697,36 +704,42 @@ module _ {T : Tables} {pattern : Bool} {a b first size i : ℕ} {list₀ labels�
     pub fields_fall : {value : ℕ} → value ≡ child_at T.children (first + i * 2 + 1) → {t : ℕ} → cond pattern 1200 0 + 2 * a - 1 ≡ t → cond pattern 1200 0 + 2 * value < t
     fields_fall is-value e = child_falls pattern (fields_below is-value) e
 
-    module _ {key value : ℕ} (is_key : key ≡ child_at T.children (first + i * 2)) (is-value : value ≡ child_at T.children (first + i * 2 + 1)) {other : ℕ} (is-other : other ≡ under_in T b key) where
+    module _ {key value : ℕ} (is_key : key ≡ child_at T.children (first + i * 2)) (is-value : value ≡ child_at T.children (first + i * 2 + 1)) {found : Prelude.Option ℕ} (is-found : found ≡ node_or_none (under_in T b key)) where
       abbrev later_fields : Held → Option Held
       later_fields g = meets_fields pattern (fields (expr T) T.children (first + (i + 1) * 2) (size - (i + 1))) (value_fields_of (fields_of T b)) g
 
-      field_step : meets_at (value_at T other) (λ v. and_then (meets pattern (expr T value) v (held_in T list labels lows highs)) later_fields) ≡ meets_under T pattern a b (held_in T list₀ labels₀ lows₀ highs₀)
+      field_step : meets_at (value_at T (under_in T b key)) (λ v. and_then (meets pattern (expr T value) v (held_in T list classes)) later_fields) ≡ meets_under T pattern a b (held_in T list₀ classes₀)
       unfolding fields meets
       field_step =
           let (l, d, q) = key_of T first size fielded i more in
           let e : size - i ≡ suc (size - (i + 1)) = omega arith in
           let x : first + i * 2 + 2 ≡ first + (i + 1) * 2 = omega arith in
-          let there : under l (value_fields_of (fields_of T b)) ≡ value_at T other =
+          let there : under l (value_fields_of (fields_of T b)) ≡ value_at T (under_in T b key) =
           found_value T (first_word_of T.nodes b) (count_of T.nodes b) (object_fielded fields_object) l
-          ∙ ap (value_at T) (sym (is-other ∙ ap (λ (o : Option Literal). under_from T o (first_word_of T.nodes b) (count_of T.nodes b)) (ap (λ (m : ℕ). literal_at T m) is_key ∙ d))) in
-          ap₂ (λ (o : Option Value) (m : ℕ). meets_at o (λ v. and_then (meets pattern (expr T m) v (held_in T list labels lows highs)) later_fields)) (sym there) is-value
-          ∙ (ap₂ (λ (o : Option Literal) (p : ℕ). meets_at (under_key o (value_fields_of (fields_of T b))) (λ v. and_then (meets pattern (expr T (child_at T.children (first + i * 2 + 1))) v (held_in T list labels lows highs))
+          ∙ ap (value_at T) (sym (ap (λ (o : Option Literal). under_from T o (first_word_of T.nodes b) (count_of T.nodes b)) (ap (λ (m : ℕ). literal_at T m) is_key ∙ d))) in
+          ap₂ (λ (o : Option Value) (m : ℕ). meets_at o (λ v. and_then (meets pattern (expr T m) v (held_in T list classes)) later_fields)) (sym there) is-value
+          ∙ (ap₂ (λ (o : Option Literal) (p : ℕ). meets_at (under_key o (value_fields_of (fields_of T b))) (λ v. and_then (meets pattern (expr T (child_at T.children (first + i * 2 + 1))) v (held_in T list classes))
           (λ g. meets_fields pattern (fields (expr T) T.children p (size - (i + 1))) (value_fields_of (fields_of T b)) g))) (sym q) (sym x)
-          ∙ (sym (ap (λ (k : ℕ). meets_fields pattern (fields (expr T) T.children (first + i * 2) k) (value_fields_of (fields_of T b)) (held_in T list labels lows highs)) e)
+          ∙ (sym (ap (λ (k : ℕ). meets_fields pattern (fields (expr T) T.children (first + i * 2) k) (value_fields_of (fields_of T b)) (held_in T list classes)) e)
           ∙ go.same))
 
-      pub fields_missing : other ≡ 0 → Met T (meets_under T pattern a b (held_in T list₀ labels₀ lows₀ highs₀)) list labels lows highs false
-      fields_missing z = met_nothing go.list_ok go.state (sym field_step ∙ ap (λ (m : ℕ). meets_at (value_at T m) (λ v. and_then (meets pattern (expr T value) v (held_in T list labels lows highs)) later_fields)) z)
+      pub fields_missing : found ≡ None → Met T (meets_under T pattern a b (held_in T list₀ classes₀)) list classes false
+      fields_missing none_there = let z = no_node is-found none_there in met_nothing go.list_ok (sym field_step ∙ ap (λ (m : ℕ). meets_at (value_at T m) (λ v. and_then (meets pattern (expr T value) v (held_in T list classes)) later_fields)) z)
 
-      module _ (nz : other ≡ 0 → ⊥) where
+      module _ {other : ℕ} (some_other : found ≡ Some other) where
+        is-other : other ≡ under_in T b key
+        is-other = (node_told is-found some_other).0
+
+        is_there : under_in T b key ≡ 0 → ⊥
+        is_there = (node_told is-found some_other).1
+
         partner : ValueNode T other
         partner =
-            let (j, lt, e) = found_field T (literal_at T key) (first_word_of T.nodes b) (count_of T.nodes b) (λ z. nz (is-other ∙ z)) in
+            let (j, lt, e) = found_field T (literal_at T key) (first_word_of T.nodes b) (count_of T.nodes b) is_there in
             rw is-other (rw e (admitted_value T (value_node T (first_word_of T.nodes b) j) (value_node_lem (object_fielded fields_object).asks j lt)
             (object_value T asked.table b asked.value_ok.node false asked.value_ok.value go.asks.right_object j lt)))
 
-        pub fields_ask : MeetAsks T pattern value other list labels lows highs
+        pub fields_ask : MeetAsks T pattern value other list
         fields_ask =
             let lt : i < count_of T.nodes a = rw (← go.is_size) more in
             record {
@@ -735,36 +748,34 @@ module _ {T : Tables} {pattern : Bool} {a b first size i : ℕ} {list₀ labels�
               admits = rw is-value (rw go.is_first (object_value T asked.table a asked.node pattern asked.admits go.asks.left_object i lt));
               value_ok = partner;
               list_ok = go.list_ok;
-              state = go.state;
             }
 
-        field_met : and_then (meets_nodes T pattern value other (held_in T list labels lows highs)) later_fields ≡ meets_under T pattern a b (held_in T list₀ labels₀ lows₀ highs₀)
+        field_met : and_then (meets_nodes T pattern value other (held_in T list classes)) later_fields ≡ meets_under T pattern a b (held_in T list₀ classes₀)
         field_met =
-            let z = ne_eqb other 0 nz in
-            let there : value_at T other ≡ some (value_of (expr T other)) = rw z in
-            sym (ap (λ (o : Option Value). meets_at o (λ v. and_then (meets pattern (expr T value) v (held_in T list labels lows highs)) later_fields)) there) ∙ field_step
+            let z = ne_eqb (under_in T b key) 0 is_there in
+            let there : value_at T (under_in T b key) ≡ some (value_of (expr T other)) = rw (z, is-other) in
+            sym (ap (λ (o : Option Value). meets_at o (λ v. and_then (meets pattern (expr T value) v (held_in T list classes)) later_fields)) there) ∙ field_step
 
-        module _ {list' labels' lows' highs' : List ℕ} {r : Bool} (m : Met T (meets_nodes T pattern value other (held_in T list labels lows highs)) list' labels' lows' highs' r) where
-          pub fields_fail : not r ≡ true → Met T (meets_under T pattern a b (held_in T list₀ labels₀ lows₀ highs₀)) list' labels' lows' highs' false
-          fields_fail t = met_nothing m.list_ok m.state (sym field_met ∙ met_fails m t later_fields)
+        module _ {list' : List ℕ} {classes' : Classes num_order} {r : Bool} (m : Met T (meets_nodes T pattern value other (held_in T list classes)) list' classes' r) where
+          pub fields_fail : not r ≡ true → Met T (meets_under T pattern a b (held_in T list₀ classes₀)) list' classes' false
+          fields_fail t = met_nothing m.list_ok (sym field_met ∙ met_fails m t later_fields)
 
-          pub fields_on : not r ≡ false → MeetingFields T pattern a b first size (i + 1) list₀ labels₀ lows₀ highs₀ list' labels' lows' highs'
+          pub fields_on : not r ≡ false → MeetingFields T pattern a b first size (i + 1) list₀ classes₀ list' classes'
           fields_on t = record {
             asks = go.asks;
             is_first = go.is_first;
             is_size = go.is_size;
             inside = omega arith;
             list_ok = m.list_ok;
-            state = m.state;
             same = sym (met_on m t later_fields) ∙ field_met;
           }
 
-  pub fields_end : size ≤ i → Met T (meets_under T pattern a b (held_in T list₀ labels₀ lows₀ highs₀)) list labels lows highs true
+  pub fields_end : size ≤ i → Met T (meets_under T pattern a b (held_in T list₀ classes₀)) list classes true
   unfolding fields meets
   fields_end le =
       let z : size - i ≡ 0 = omega arith in
-      met_something go.list_ok go.state (sym (rw z at go.same))
+      met_something go.list_ok (sym (rw z at go.same))
 
-pub parts_fall : {T : Tables} {pattern : Bool} {a b t : ℕ} {list labels lows highs : List ℕ} → MeetAsks T pattern a b list labels lows highs → cond pattern 1200 0 + 2 * a ≡ t → cond pattern 1200 0 + 2 * a - 1 < t
+pub parts_fall : {T : Tables} {pattern : Bool} {a b t : ℕ} {list : List ℕ} → MeetAsks T pattern a b list → cond pattern 1200 0 + 2 * a ≡ t → cond pattern 1200 0 + 2 * a - 1 < t
 parts_fall {pattern = true} asks e = let l = asks.node.low in omega arith
 parts_fall {pattern = false} asks e = let l = asks.node.low in omega arith

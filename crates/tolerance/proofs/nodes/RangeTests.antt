@@ -9,8 +9,8 @@ use mir.Val.{Fits}
 use mir.Syntax.{w64}
 use borrow.Author.Tests.{eq-eqb, ne_eqb, le-leb, lt-leb, not-true, not-false}
 use lib.Dec.{eqb}
-use lib.ListN.{length, get_or}
-use Rattle.literal.specs.Literal.{Literal, null, boolean, number, string, is_number}
+use lib.ListN.{length}
+use Rattle.literal.specs.Literal.{Literal, null, boolean, number, string}
 use Rattle.base.specs.Lists.{all_from}
 use Rattle.table.specs.Tables.{Tables, kind_of, first_word_of, count_of, child_at, record_word, node_count}
 use Rattle.table.specs.Decode.{expr, items, fields, literal_at}
@@ -24,53 +24,28 @@ use Rattle.value.specs.code.Post.{ValueNode}
 use Rattle.value.proofs.Admitted.{array_item, object_value, array_children, object_children, value_node_lem, keyed_object, admitted_value}
 use Rattle.value.proofs.SameValues.{ValueShape, value_literal, value_array, value_object, value_shape}
 use Rattle.value.proofs.Under.{Fielded, fielded_on, object_fielded, key_of}
-use Rattle.tolerance.specs.Tolerance.{num_order, at_most}
-use Rattle.tolerance.specs.Operations.{is_number_in, end_at, range_ok, long_enough}
+use Rattle.tolerance.specs.Operations.{range_ok, long_enough}
 use Rattle.tolerance.specs.code.Decision.{holds_at, every_number, every_number_all, every_number_under}
-use Rattle.tolerance.specs.code.Post.{number_by, numbers_ok, numbers_ok_in, given_ok, RangesAsks, ListedAsks, NamesAsks, GivenAsks}
+use Rattle.tolerance.specs.declared.number.Number.{Number as StoredNumber}
+use Rattle.tolerance.specs.code.Post.{number_in, number_at, numbers_ok, numbers_ok_in, given_ok, RangesAsks, ListedAsks, NamesAsks, GivenAsks}
 use Rattle.tolerance.proofs.nodes.MeetNodes.{is_num, number_literal, number_words}
 
--- 1. The words of an end
-pub no_node : (k : ℕ) (words : List ℕ) {n : ℕ} → n ≡ 0 → 0 ≡ record_word 2 k words n
+-- 1. A number in a list
+pub no_node : (words : List ℕ) {n : ℕ} → n ≡ 0 → ◌≡◌ {A = StoredNumber} (record { sign = 0; size = 0 }) (number_at words n)
 unfolding record_word
-no_node k words {n} z = let e = eq-eqb n 0 z in rw e
+no_node words {n} z = let e = eq-eqb n 0 z in rw e
 
-module _ (words : List ℕ) {n r : ℕ} (nz : n ≡ 0 → ⊥) where
-  pub sign_word : r ≡ get_or words ((n - 1) * 2) 0 → r ≡ record_word 2 0 words n
-  unfolding record_word
-  sign_word e = let z = ne_eqb n 0 nz in let p : (n - 1) * 2 + 0 ≡ (n - 1) * 2 = omega arith in rw z (rw p e)
-
-  pub size_word : r ≡ get_or words ((n - 1) * 2 + 1) 0 → r ≡ record_word 2 1 words n
-  unfolding record_word
-  size_word e = let z = ne_eqb n 0 nz in rw z e
+pub some_node : (words : List ℕ) {n : ℕ} {r : StoredNumber} → (n ≡ 0 → ⊥) → r ≡ number_in words (n - 1) → r ≡ number_at words n
+unfolding record_word
+some_node words {n} {r} nz e =
+    let z = ne_eqb n 0 nz in
+    let p : (n - 1) * 2 + 0 ≡ (n - 1) * 2 = omega arith in
+    rw (z, p) e
 
 pub node_low : {n : ℕ} → (n ≡ 0 → ⊥) → 1 ≤ n
 node_low nz = omega (arith, nz)
 
--- 2. A range
-module _ (lows highs : List ℕ) (n : ℕ) {sign size : ℕ} (s : sign ≡ record_word 2 0 lows n) (z : size ≡ record_word 2 1 lows n) {told : Bool} (t : told ≡ is_number sign size) where
-  low_told : is_number_in lows n ≡ told
-  low_told = sym (t ∙ ap₂ is_number s z)
-
-  pub range_low : not told ≡ true → false ≡ range_ok lows highs n
-  range_low f = sym (ap (λ (b : Bool). b && (is_number_in highs n && at_most num_order (end_at lows n) (end_at highs n))) (low_told ∙ not-true told f))
-
-  module _ (y : not told ≡ false) {bound most : ℕ} (b : bound ≡ record_word 2 0 highs n) (m : most ≡ record_word 2 1 highs n) {too : Bool} (u : too ≡ is_number bound most) where
-    low_yes : is_number_in lows n ≡ true
-    low_yes = low_told ∙ not-false told y
-
-    high_told : is_number_in highs n ≡ too
-    high_told = sym (u ∙ ap₂ is_number b m)
-
-    pub range_high : not too ≡ true → false ≡ range_ok lows highs n
-    range_high f = sym (ap₂ (λ (x w : Bool). x && (w && at_most num_order (end_at lows n) (end_at highs n))) low_yes (high_told ∙ not-true too f))
-
-    pub range_told : not too ≡ false → {r : Bool} → r ≡ at_most num_order (number_by sign size) (number_by bound most) → r ≡ range_ok lows highs n
-    range_told g e =
-        e ∙ (ap₂ (at_most num_order) (ap₂ number_by s z) (ap₂ number_by b m)
-        ∙ sym (ap₂ (λ (x w : Bool). x && (w && at_most num_order (end_at lows n) (end_at highs n))) low_yes (high_told ∙ not-false too g)))
-
--- 3. The numbers below a node
+-- 2. The numbers below a node
 all_shift : (f : ℕ → Bool) (i k : ℕ) → all_from f (i + 1) k ≡ all_from (λ j. f (j + 1)) i k
 unfolding all_from
 all_shift f i zero = refl
@@ -151,7 +126,7 @@ module _ {T : Tables} {n : ℕ} (asks : RangesAsks T n) (p : ℕ → Bool) where
         short = omega arith;
       }
 
--- 4. A value
+-- 3. A value
 module _ {T : Tables} {n : ℕ} (asks : RangesAsks T n) (lows highs : List ℕ) {kind : ℕ} (is-kind : kind ≡ kind_of T.nodes n) where
   leaf : kind ≤ 5 → (l : Literal) × (literal_at T n ≡ some l) × (expr T n ≡ literal n l)
   leaf low =
@@ -254,19 +229,7 @@ module _ {T : Tables} {lows highs : List ℕ} {n first step size i : ℕ} (go : 
   pub ranging_ends : size ≤ i → true ≡ numbers_ok T lows highs n
   ranging_ends le = scan_ends go.scan le ∙ sym go.below.all
 
--- 5. A name's value
-module _ {T : Tables} {list : List ℕ} {i : ℕ} (asks : ListedAsks T list i) (lows highs : List ℕ) where
-  pub listed_none : get_or list i 0 ≡ 0 → true ≡ numbers_ok_in T lows highs list i
-  listed_none z = let e = eq-eqb (get_or list i 0) 0 z in rw e
-
-  module _ (nz : get_or list i 0 ≡ 0 → ⊥) where
-    pub listed_ask : RangesAsks T (get_or list i 0)
-    listed_ask = record { table = asks.table; value_ok = asks.list_ok.each i nz }
-
-    pub listed_told : {r : Bool} → r ≡ numbers_ok T lows highs (get_or list i 0) → r ≡ numbers_ok_in T lows highs list i
-    listed_told e = let z = ne_eqb (get_or list i 0) 0 nz in rw z e
-
--- 6. All names' values, in turn
+-- 4. All names' values, in turn
 pub record Giving (T : Tables) (lows highs list : List ℕ) (i : ℕ) : Type 0 where
   pub asks : NamesAsks T list
   pub scan : Scan (numbers_ok_in T lows highs list) 0 128 i
@@ -292,7 +255,7 @@ module _ {T : Tables} {lows highs list : List ℕ} {i : ℕ} (go : Giving T lows
   pub giving_ends : 128 ≤ i → true ≡ all_from (numbers_ok_in T lows highs list) 0 128
   giving_ends le = scan_ends go.scan le
 
--- 7. The lists' lengths, the value and the names
+-- 5. The lists' lengths, the value and the names
 module _ {T : Tables} {value : ℕ} {list : List ℕ} (asks : GivenAsks T value list) (lows highs : List ℕ) where
   pub short_low : length lows / 2 < length T.nodes / 5 → false ≡ given_ok T value lows highs list
   unfolding given_ok

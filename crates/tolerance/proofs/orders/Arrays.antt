@@ -13,6 +13,7 @@ use Rattle.tolerance.specs.code.Classes.{Equality, alike, equals, equal, single,
 use Rattle.tolerance.specs.Tolerance.{Ranges}
 use Rattle.tolerance.specs.Tolerance.{Number, num_order, is_allowed, always, sometimes, never}
 use Rattle.tolerance.specs.code.Decision.{decided}
+use Rattle.tolerance.specs.declared.number.Range.{Range as StoredRange}
 use Rattle.tolerance.specs.code.Post.{label_in, classes_in, ranges_by}
 use Rattle.tolerance.proofs.orders.Numbers.{num_order_lem}
 use Rattle.tolerance.proofs.orders.Unify.{Counts, AllCount, Good, Starts, starts_apart, same_verdict}
@@ -44,12 +45,12 @@ pub record In512 (n : ℕ) : Type 0 where
   pub low : 1 ≤ n
   pub high : n ≤ 512
 
-module _ (labels lowest highest : List ℕ) (each : (n : ℕ) → n ≤ 512 → label_in labels n ≡ n) (good : Good num_order_lem In512 is_allowed (ranges_by lowest highest)) (qs : List (Equality Number)) (count : AllCount num_order_lem In512 is_allowed qs) where
+module _ (labels : List ℕ) (ranges : List StoredRange) (each : (n : ℕ) → n ≤ 512 → label_in labels n ≡ n) (good : Good num_order_lem In512 is_allowed (ranges_by ranges)) (qs : List (Equality Number)) (count : AllCount num_order_lem In512 is_allowed qs) where
   abbrev r : Ranges Number
-  r = ranges_by lowest highest
+  r = ranges_by ranges
 
   abbrev first : Classes num_order
-  first = classes_in labels lowest highest
+  first = classes_in (labels, ranges)
 
   starts : Starts num_order_lem In512 is_allowed r first
   starts = record {

@@ -2,11 +2,11 @@ use Rattle.tolerance.proofs.nodes.RangeTests.{short_low, short_high, given_ask, 
 use borrow.Author.Rules.{rules}
 use Rattle.tolerance.proofs.ranges_given.Goals as goal
 
-pub returns-then-lowest-tables : goal.returns-then-lowest-tables
-returns-then-lowest-tables c = search (short_low, rules)
+pub returns-then-ranges-tables : goal.returns-then-ranges-tables
+returns-then-ranges-tables c = search (short_low, rules)
 
-pub returns-then-highest-tables : goal.returns-then-highest-tables
-returns-then-highest-tables c = search (short_high, rules)
+pub returns-then-ranges-tables-2 : goal.returns-then-ranges-tables-2
+returns-then-ranges-tables-2 c = search (short_high, rules)
 
 pub numbers_ok-requires : goal.numbers_ok-requires
 numbers_ok-requires c = search (given_ask, rules)

@@ -37,7 +37,7 @@ use Rattle.tolerance.specs.Answer.{turned_back_lem, answers}
 use Rattle.tolerance.specs.Operations.{end_at, ranges_in, listed_known, known_values, ranges_ok, ToleranceOutcome, refused, judged, after_checks, IsAnswer, with_lowest, tolerance_result, plan_left, set_by, values_left, is_judged}
 use Rattle.tolerance.specs.Promise.{Promised, Exact, exact_answer}
 use Rattle.tolerance.specs.Demand.{Accepted, to_set, list_after, Promises, tolerantly, AsRun, ToleranceDemand}
-use Rattle.tolerance.specs.code.Decision.{answer_of, walked, decision, names}
+use Rattle.tolerance.specs.code.Decision.{answer_at_end, walked, decision, names}
 use Rattle.tolerance.proofs.trees.Answers.{exactly}
 use Rattle.tolerance.proofs.trees.Present.{own_chosen, own_env, present_answer}
 use Rattle.tolerance.proofs.tables.Tied.{pattern_allowed, not_wildcard, ranges_good, tolerance_promised}
@@ -84,7 +84,7 @@ module _ (T : Tables) (s : Scope) (mode : ScopingMode) (pattern value : ℕ) (va
     ended : decision T s mode pattern value values lows highs ≡ always → (env : Env) × ((walked unbound (listed_known T values) e v).end ≡ matched env)
     ended a = go (walked unbound (listed_known T values) e v).end refl a
       where
-        go : (o : MatchOutcome) → (walked unbound (listed_known T values) e v).end ≡ o → answer_of (ranges_in lows highs) (walked unbound (listed_known T values) e v).numbers o ≡ always → (env : Env) × ((walked unbound (listed_known T values) e v).end ≡ matched env)
+        go : (o : MatchOutcome) → (walked unbound (listed_known T values) e v).end ≡ o → answer_at_end (ranges_in lows highs) (walked unbound (listed_known T values) e v).numbers o ≡ always → (env : Env) × ((walked unbound (listed_known T values) e v).end ≡ matched env)
         go (matched env) i q = (env, i)
         go missed i q = absurd (false≢true (cc))
         go fault i q = absurd (false≢true (cc))

@@ -15,7 +15,7 @@ use Rattle.tolerance.specs.Tolerance.{Ranges}
 use Rattle.tolerance.specs.Tolerance.{Number, num_order, is_allowed, chosen_value, chosen_env, Answer, always, sometimes, never, Measured, in_value, in_name, Choice, outcome_under, Means}
 use Rattle.tolerance.specs.code.Trees.{numbers_allowed, EndsOk}
 use Rattle.tolerance.specs.Promise.{carry}
-use Rattle.tolerance.specs.code.Decision.{decided, answer_of, walked, answer}
+use Rattle.tolerance.specs.code.Decision.{decided, answer_at_end, walked, answer}
 use Rattle.tolerance.proofs.orders.Numbers.{num_order_lem}
 use Rattle.tolerance.proofs.orders.Unify.{Within, Good, AllCount, starts_apart, some_choice, no_choice}
 use Rattle.tolerance.proofs.orders.Certain.{all_met, some_unmet, lowest_within}
@@ -108,7 +108,7 @@ module _ (unbound : ℕ → Bool) (listed : Env) (e : Expr) (v : Value) (r : Ran
       pub means : Means (carry unbound e) v (start unbound listed) r (answer unbound listed e v r)
       means = go (walked unbound listed e v).end refl
         where
-          go : (o : MatchOutcome) → (walked unbound listed e v).end ≡ o → Means (carry unbound e) v (start unbound listed) r (answer_of r qs o)
+          go : (o : MatchOutcome) → (walked unbound listed e v).end ≡ o → Means (carry unbound e) v (start unbound listed) r (answer_at_end r qs o)
           go (matched env) i = ends_matched env i
           go missed i = λ c m. let (env, j, z, h) = when_matched c.chose m.0 m.1 in false≢true (cc)
           go fault i = λ c m. let (env, j, z, h) = when_matched c.chose m.0 m.1 in false≢true (cc)

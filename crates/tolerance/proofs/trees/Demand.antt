@@ -15,7 +15,7 @@ use Rattle.tolerance.specs.Tolerance.{Ranges}
 use Rattle.tolerance.specs.Tolerance.{Number, chosen, chosen_all, chosen_fields, chosen_value, chosen_env, Answer, always, sometimes, never, Choice, outcome_under, Matches}
 use Rattle.tolerance.specs.code.Trees.{numbers_allowed, EndsOk}
 use Rattle.tolerance.specs.Promise.{MakesUnder, Promised, carry}
-use Rattle.tolerance.specs.code.Decision.{answer_of, set_where, walked, answer, names_after}
+use Rattle.tolerance.specs.code.Decision.{answer_at_end, set_where, walked, answer, names_after}
 use Rattle.tolerance.proofs.trees.Walking.{chosen_keys}
 use Rattle.tolerance.proofs.trees.Ends.{Parts, plan_ends}
 use Rattle.tolerance.proofs.trees.Answers.{start_chosen, when_matched, some_choice_there, means}
@@ -70,7 +70,7 @@ module _ (unbound : ℕ → Bool) (listed : Env) (e : Expr) (v : Value) (asked :
     ended : answer unbound listed e v r ≡ always → (env : Env) × ((walked unbound listed e v).end ≡ matched env)
     ended a = go (walked unbound listed e v).end refl a
       where
-        go : (o : MatchOutcome) → (walked unbound listed e v).end ≡ o → answer_of r (walked unbound listed e v).numbers o ≡ always → (env : Env) × ((walked unbound listed e v).end ≡ matched env)
+        go : (o : MatchOutcome) → (walked unbound listed e v).end ≡ o → answer_at_end r (walked unbound listed e v).numbers o ≡ always → (env : Env) × ((walked unbound listed e v).end ≡ matched env)
         go (matched env) i p = (env, i)
         go missed i p = absurd (false≢true (cc))
         go fault i p = absurd (false≢true (cc))

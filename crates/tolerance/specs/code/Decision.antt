@@ -142,10 +142,10 @@ unfoldable mutual
 unfoldable pub decided : Ranges Number → List (Equality Number) → Answer
 decided r qs = cond (all_certain num_order r qs) always (cond (is_some (unified num_order qs (apart num_order r))) sometimes never)
 
-abbrev pub answer_of : Ranges Number → List (Equality Number) → MatchOutcome → Answer
-answer_of r qs (matched env) = decided r qs
-answer_of r qs missed = never
-answer_of r qs fault = never
+abbrev pub answer_at_end : Ranges Number → List (Equality Number) → MatchOutcome → Answer
+answer_at_end r qs (matched env) = decided r qs
+answer_at_end r qs missed = never
+answer_at_end r qs fault = never
 
 -- the names' values where the answer is always; else those of the start
 abbrev pub set_where : Answer → MatchOutcome → Env → Env
@@ -161,7 +161,7 @@ module _ (unbound : ℕ → Bool) (listed : Env) (e : Expr) (v : Value) where
 
   module _ (r : Ranges Number) where
     abbrev pub answer : Answer
-    answer = answer_of r walked.numbers walked.end
+    answer = answer_at_end r walked.numbers walked.end
 
     abbrev pub names_after : Env
     names_after = set_where answer walked.end (start unbound listed)

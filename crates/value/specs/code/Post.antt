@@ -1,5 +1,6 @@
 -- What the functions on values ask of their caller and say.
-use Rattle.std.specs.Prelude.{ℕ, zero, suc, ◌+◌, ◌-◌, ◌*◌, ◌≤◌, ◌<◌, ◌≡◌, Bool, true, false, cond, ◌&&◌, List, eqb, leb, length, get_or}
+use Rattle.std.specs.Prelude.{ℕ, zero, suc, ◌+◌, ◌-◌, ◌*◌, ◌≤◌, ◌<◌, ◌≡◌, Bool, true, false, cond, ◌&&◌, List, eqb, leb, length, get_or, Some, None}
+use Rattle.std.specs.Prelude as Prelude
 use Rattle.std.proofs.Math.Option.{Option, none, some}
 use Rattle.literal.specs.Literal.{Literal}
 use Rattle.table.specs.Tables.{Tables, tables, kind_of, first_word_of, count_of, child_at, is_node}
@@ -59,6 +60,10 @@ abbrev pub same_literals : Option Literal → Option Literal → Bool
 same_literals none b = false
 same_literals (some a) none = false
 same_literals (some a) (some b) = same_key a b
+
+-- a node, or none where it is 0
+abbrev pub node_or_none : ℕ → Prelude.Option ℕ
+node_or_none n = cond (eqb n 0) None (Some n)
 
 -- the value node of the first of k fields under a key, or 0
 unfoldable pub under_from : Tables → Option Literal → ℕ → ℕ → ℕ

@@ -17,14 +17,7 @@ pub fn same_value(tables: &Tables<'_>, a: u32, b: u32) -> bool
 {
     let kind = kind_of(tables.nodes, a);
     if kind <= node_kind::LAST_LITERAL {
-        return same_literals(
-            tables.nodes,
-            tables.numbers,
-            tables.strings,
-            tables.text,
-            a,
-            b,
-        );
+        return same_literals(tables, a, b);
     }
     if kind_of(tables.nodes, b) != kind {
         return false;
@@ -69,10 +62,9 @@ fn same_fields(tables: &Tables<'_>, a: u32, b: u32) -> bool
         let place = first + i * 2;
         let key = child_at(tables.children, place);
         let value = child_at(tables.children, place + 1);
-        let other = value_under(tables, b, i, key);
-        if other == 0 {
+        let Some(other) = value_under(tables, b, i, key) else {
             return false;
-        }
+        };
         if !same_value(tables, value, other) {
             return false;
         }

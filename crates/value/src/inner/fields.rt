@@ -1,77 +1,57 @@
 // The fields of an object by their keys.
 ghost use Rattle.table.specs.Contents.{contents};
-ghost use Rattle.table.specs.Lent.{lent_literal};
 ghost use Rattle.std.specs.Prelude.{◌≡◌};
 ghost use Rattle.table.specs.Decode.{literal_at, fields_of};
 ghost use Rattle.planner.specs.Simple.{keys_of};
 ghost use Rattle.value.specs.Value.{same_key_sets};
-ghost use Rattle.value.specs.code.Post.{same_literals, ChildrenAsks, under_from, under_in, KeyedObject, KeySetsAsks};
+ghost use Rattle.value.specs.code.Post.{same_literals, ChildrenAsks, node_or_none, under_from, under_in, KeyedObject, KeySetsAsks};
 
 use literal::Comparison;
 use table::reading::{child_at, compare_literals, count_of, first_of};
 use table::tables::Tables;
 
 // Are two nodes equal literals?
-pub fn same_literals<'a>(
-    nodes: &[u32],
-    numbers: &[u64],
-    strings: &'a [u8],
-    text: &'a [u8],
-    a: u32,
-    b: u32,
-) -> bool
-    ensures { result ≡ same_literals (lent_literal nodes numbers strings text a) (lent_literal nodes numbers strings text b) }
+pub fn same_literals(tables: &Tables<'_>, a: u32, b: u32) -> bool
+    ensures { let T = contents tables.now in result ≡ same_literals (literal_at T a) (literal_at T b) }
 {
-    let way = compare_literals(nodes, numbers, strings, text, a, b);
-    match way {
-        Comparison::Equal => true,
-        Comparison::Less => false,
-        Comparison::Greater => false,
-        Comparison::NoLiteral => false,
-    }
+    let way = compare_literals(
+        tables.nodes,
+        tables.numbers,
+        tables.strings,
+        tables.text,
+        a,
+        b,
+    );
+    matches!(way, Comparison::Equal)
 }
 
-// The value node of the first of `left` fields under a key, or 0.
-fn scan_under(tables: &Tables<'_>, at: usize, left: usize, key: u32) -> u32
+// The value node of the first of `left` fields under a key.
+fn scan_under(tables: &Tables<'_>, at: usize, left: usize, key: u32) -> Option<u32>
     requires { ChildrenAsks (contents tables.now) at 2 left }
-    ensures { let T = contents tables.now in result ≡ under_from T (literal_at T key) at left }
+    ensures { let T = contents tables.now in result ≡ node_or_none (under_from T (literal_at T key) at left) }
 {
     for i in 0..left {
         let place = at + i * 2;
         let other = child_at(tables.children, place);
-        if same_literals(
-            tables.nodes,
-            tables.numbers,
-            tables.strings,
-            tables.text,
-            key,
-            other,
-        ) {
-            return child_at(tables.children, place + 1);
+        if same_literals(tables, key, other) {
+            return Some(child_at(tables.children, place + 1));
         }
     }
-    0
+    None
 }
 
-// An object's value node under a key, or 0. The field at `position` is looked at first.
-pub fn value_under(tables: &Tables<'_>, object: u32, position: usize, key: u32) -> u32
+// An object's value node under a key. The field at `position` is looked at first.
+pub fn value_under(tables: &Tables<'_>, object: u32, position: usize, key: u32) -> Option<u32>
     requires { KeyedObject (contents tables.now) object }
-    ensures { result ≡ under_in (contents tables.now) object key }
+    ensures { result ≡ node_or_none (under_in (contents tables.now) object key) }
 {
     let first = first_of(tables.nodes, object) as usize;
     let count = count_of(tables.nodes, object) as usize;
     if position < count {
         let place = first + position * 2;
         let other = child_at(tables.children, place);
-        if same_literals(
-            tables.nodes,
-            tables.numbers,
-            tables.strings,
-            tables.text,
-            key,
-            other,
-        ) {
-            return child_at(tables.children, place + 1);
+        if same_literals(tables, key, other) {
+            return Some(child_at(tables.children, place + 1));
         }
     }
     scan_under(tables, first, count, key)
@@ -89,8 +69,7 @@ pub fn same_key_sets(tables: &Tables<'_>, a: u32, b: u32) -> bool
     }
     for i in 0..count {
         let key = child_at(tables.children, first + i * 2);
-        let value = value_under(tables, b, i, key);
-        if value == 0 {
+        if value_under(tables, b, i, key).is_none() {
             return false;
         }
     }

@@ -1,9 +1,9 @@
-use Rattle.c_calls.proofs.Rows.{number_short, number_told}
+use Rattle.c_calls.proofs.Rows.{given_fits, given_told}
 use borrow.Author.Rules.{rules}
 use Rattle.c_calls.proofs.answer.refuse.Goals as goal
 
 pub tell-requires : goal.tell-requires
-tell-requires c = search (number_short, rules)
+tell-requires c = search (given_fits, rules)
 
 pub returns : goal.returns
-returns c = search (number_told, rules)
+returns c = search (given_told, rules)

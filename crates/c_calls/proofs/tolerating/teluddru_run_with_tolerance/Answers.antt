@@ -2,8 +2,8 @@ use Rattle.c_calls.proofs.Tolerated.{tolerance_fits, tolerance_refused, toleranc
 use borrow.Author.Rules.{rules}
 use Rattle.c_calls.proofs.tolerating.teluddru_run_with_tolerance.Goals as goal
 
-pub returns-then-before-ne0 : goal.returns-then-before-ne0
-returns-then-before-ne0 c = search (tolerance_refused, rules)
+pub returns-in-Err : goal.returns-in-Err
+returns-in-Err c = search (tolerance_refused, rules)
 
 pub tell-requires : goal.tell-requires
 tell-requires c = search (tolerance_fits, rules)

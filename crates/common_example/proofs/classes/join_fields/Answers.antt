@@ -5,8 +5,8 @@ use Rattle.common_example.proofs.classes.join_fields.Goals as goal
 pub loop-i-init : goal.loop-i-init
 loop-i-init c = search (fields_start, rules)
 
-pub returns-then-links-first : goal.returns-then-links-first
-returns-then-links-first c = search (fields_differ, rules)
+pub returns-then-graph-first : goal.returns-then-graph-first
+returns-then-graph-first c = search (fields_differ, rules)
 
 pub join_pair-requires : goal.join_pair-requires
 join_pair-requires c = search (fields_pair, rules)

@@ -2,11 +2,11 @@ use Rattle.common_example.proofs.loops.classes.MeetLoops.{class_free, own_free, 
 use borrow.Author.Rules.{rules}
 use Rattle.common_example.proofs.classes.meet_class.Goals as goal
 
-pub returns-then-kind-eq0 : goal.returns-then-kind-eq0
-returns-then-kind-eq0 c = search (class_free, rules)
+pub returns-then-kind-eq-NOTHING : goal.returns-then-kind-eq-NOTHING
+returns-then-kind-eq-NOTHING c = search (class_free, rules)
 
-pub returns-then-own-eq0 : goal.returns-then-own-eq0
-returns-then-own-eq0 c = search (own_free, rules)
+pub returns-then-own-eq-NOTHING : goal.returns-then-own-eq-NOTHING
+returns-then-own-eq-NOTHING c = search (own_free, rules)
 
 pub returns-then-own-kind : goal.returns-then-own-kind
 returns-then-own-kind c = search (other_kinds, rules)

@@ -1,24 +1,24 @@
-use Rattle.common_example.proofs.loops.sizes.SizeLoops.{leaf_size, array_asks, array_size, object_fits, object_start, object_asks, object_size}
+use Rattle.common_example.proofs.loops.sizes.SizeLoops.{size_asks, leaf_size, array_asks, array_size, object_fits, object_asks, object_size}
 use borrow.Author.Rules.{rules}
 use Rattle.common_example.proofs.levels.place_size.Goals as goal
 
-pub returns-then-kind-le1 : goal.returns-then-kind-le1
-returns-then-kind-le1 c = search (leaf_size, rules)
+pub parts_at-requires : goal.parts_at-requires
+parts_at-requires c = search (size_asks, rules)
+
+pub returns-in_default : goal.returns-in_default
+returns-in_default c = leaf_size c.requires c.parts_at.ensures c.in_default.is
 
 pub sum_sizes-requires : goal.sum_sizes-requires
-sum_sizes-requires c = search (array_asks, rules)
+sum_sizes-requires c = array_asks c.requires c.parts_at.ensures c.in-Some.is c.in-Items.is
 
-pub returns-then-kind-eq2 : goal.returns-then-kind-eq2
-returns-then-kind-eq2 c = search (array_size, rules)
+pub returns-in-Items : goal.returns-in-Items
+returns-in-Items c = array_size c.requires c.parts_at.ensures c.in-Some.is c.in-Items.is c.sum_sizes.ensures
 
-pub overflow_add-start : goal.overflow_add-start
-overflow_add-start c = search (object_start, rules)
+pub overflow_add-parts : goal.overflow_add-parts
+overflow_add-parts c = object_fits c.requires c.parts_at.ensures c.in-Some.is c.in-Fields.is
 
-pub overflow_add-count : goal.overflow_add-count
-overflow_add-count c = search (object_fits, rules)
+pub sum_sizes-requires-in-Fields : goal.sum_sizes-requires-in-Fields
+sum_sizes-requires-in-Fields c = object_asks c.requires c.parts_at.ensures c.in-Some.is c.in-Fields.is
 
-pub sum_sizes-requires-2 : goal.sum_sizes-requires-2
-sum_sizes-requires-2 c = search (object_asks, rules)
-
-pub returns : goal.returns
-returns c = search (object_size, rules)
+pub returns-in-Fields : goal.returns-in-Fields
+returns-in-Fields c = object_size c.requires c.parts_at.ensures c.in-Some.is c.in-Fields.is c.sum_sizes-in-Fields.ensures

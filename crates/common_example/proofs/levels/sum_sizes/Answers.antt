@@ -6,11 +6,11 @@ use Rattle.common_example.proofs.levels.sum_sizes.Goals as goal
 pub loop-part-init : goal.loop-part-init
 loop-part-init c = search (summing_start, rules)
 
-pub offset_bounds-links-link : goal.offset_bounds-links-link
-offset_bounds-links-link c = search (link_low, rules)
+pub offset_bounds-graph-link : goal.offset_bounds-graph-link
+offset_bounds-graph-link c = search (link_low, rules)
 
-pub bounds-links-link : goal.bounds-links-link
-bounds-links-link c = search (link_low, rules)
+pub bounds-graph-link : goal.bounds-graph-link
+bounds-graph-link c = search (link_low, rules)
 
 pub size_at-size-requires : goal.size_at-size-requires
 size_at-size-requires c = search (size_low, rules)
@@ -25,9 +25,9 @@ pub overflow_add-link : goal.overflow_add-link
 overflow_add-link c = search (link_fits, rules)
 
 pub loop-part-preserved : goal.loop-part-preserved
-loop-part-preserved c = let e : c.args.count - (c.loop-part._part + 1) ≡ c.args.count - c.loop-part._part - 1 = omega arith in
-    let more : 0 < c.args.count - c.loop-part._part = omega arith in
-    rw e (summing_on c.loop-part.invariant more c.size_at-size.ensures (search rules) c.capped-total.ensures)
+loop-part-preserved c = let e : c.args.parts.count - (c.loop-part._part + 1) ≡ c.args.parts.count - c.loop-part._part - 1 = omega arith in
+    let more : 0 < c.args.parts.count - c.loop-part._part = omega arith in
+    rw e (summing_on c.loop-part.invariant more c.size_at-size.ensures (search rules) c.capped-total.ensures c.step-link.ensures)
 
 pub returns : goal.returns
 returns c = search (summing_ends, rules)

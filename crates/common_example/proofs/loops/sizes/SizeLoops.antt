@@ -4,17 +4,21 @@ use mathlib.Core.Bool.{Bool, true, false, cond}
 use mathlib.Core.List.{List}
 use mathlib.Core.Path.{◌≡◌, refl, ap, sym, ◌∙◌}
 use native.Mathlib.Omega.{arith}
-use borrow.Author.Tests.{eq-eqb, ne_eqb, eqb-true, eqb-false, le-leb, lt-leb, leb-false, ltb-true, ltb-false}
+use borrow.Author.Tests.{eq-eqb, ne_eqb, eqb-false, le-leb, lt-leb, leb-false, ltb-true, ltb-false}
 use mir.Syntax.{w16, w32}
 use mir.Val.{Fits}
 use lib.Dec.{eqb, leb, ltb}
 use lib.ListN.{get_or, set, replicate, length-replicate, get_or-eq_default}
-use lib.Seq.{ext_get_or}
+use Rattle.std.specs.Prelude.{Option}
+use Rattle.std.proofs.Common.{Some, None}
 use Rattle.base.proofs.Filling.{Filling, filling_start, filling_on, filling_ends, get_d_tabulate, length_tabulate}
-use Rattle.table.proofs.tests.Scan.{Scan, scan_on, scan_fails, all_at}
-use Rattle.common_example.specs.code.Graph.{kind_at, start_at, count_at, Linked}
+use Rattle.common_example.specs.declared.graph.Shape.{Shape}
+use Rattle.common_example.specs.declared.graph.Shape.TheVariants.{Items, Fields}
+use Rattle.common_example.specs.declared.graph.Parts.{Parts}
+use Rattle.common_example.specs.code.Graph.{kind_at, start_at, count_at, Linked, shape_kind, link_by, step_of, ShapeAsks, PartsOf, PartsAre}
 use Rattle.common_example.specs.code.Classes.{class_in, ClassAsks, ClassIs}
-use Rattle.common_example.specs.code.Sizes.{SizesOk, CapAsks, sum_at, SumAsks, place_size, SizeAsks, LevelAsks, level_size, next_sizes, LevelDone, same_at, same_sizes, sizes_after, SettleAsks, Settled}
+use Rattle.common_example.specs.code.Sizes.{SizesOk, CapAsks, sum_at, SumAsks, place_size, SizeAsks, LevelAsks, level_size, next_sizes, LevelDone, sizes_after, SettleAsks, Settled}
+use Rattle.common_example.proofs.loops.graph.PartsTold.{shape_deep, items_step, fields_step, no_parts, some_parts}
 
 cap_most : (n : ℕ) → min 513 n ≤ 513
 cap_most n = omega arith
@@ -46,8 +50,8 @@ module _ {links sizes : List ℕ} {step at₀ k₀ total₀ at left total : ℕ}
     pub size_low : get_or links at 0 < 2052
     size_low = go.asks.places at
 
-    pub link_fits : at + step < 2 ^ 64
-    link_fits = let h = link_low in let s = go.asks.short in omega arith
+    pub link_fits : {apart : ℕ} → apart ≡ step → at + apart < 2 ^ 64
+    link_fits e = let h = link_low in let s = go.asks.short in omega (arith, h, s, e)
 
     module _ {size : ℕ} (is : size ≡ get_or sizes (get_or links at 0) 0) where
       pub summed : CapAsks total size
@@ -56,17 +60,17 @@ module _ {links sizes : List ℕ} {step at₀ k₀ total₀ at left total : ℕ}
       pub summing_none : size ≡ 0 → 0 ≡ sum_at links sizes step at₀ k₀ total₀
       summing_none z = let e = eq-eqb (get_or sizes (get_or links at 0) 0) 0 (sym is ∙ z) in sym (sum_step links sizes step at left total more ∙ rw e) ∙ go.same
 
-      pub summing_on : (size ≡ 0 → ⊥) → {r : ℕ} → r ≡ min 513 (total + size) → Summing links sizes step at₀ k₀ total₀ (at + step) (left - 1) r
-      summing_on n {r} c₀ =
+      pub summing_on : (size ≡ 0 → ⊥) → {r apart : ℕ} → r ≡ min 513 (total + size) → apart ≡ step → Summing links sizes step at₀ k₀ total₀ (at + apart) (left - 1) r
+      summing_on n {r} {apart} c₀ i =
           let c : r ≡ min 513 (total + get_or sizes (get_or links at 0) 0) = c₀ ∙ ap (λ (x : ℕ). min 513 (total + x)) is in
           let h = go.asks.inside in
           let e = scaled left step more in
           let m = cap_most (total + get_or sizes (get_or links at 0) 0) in
           let q = ne_eqb (get_or sizes (get_or links at 0) 0) 0 (λ z. n (is ∙ z)) in
-          record {
+          rw i (record {
             asks = record { places = go.asks.places; inside = omega (arith, h, e); short = go.asks.short; sizes_ok = go.asks.sizes_ok; few = rw c m };
             same = ap (sum_at links sizes step (at + step) (left - 1)) c ∙ (sym (sum_step links sizes step at left total more ∙ rw q) ∙ go.same);
-          }
+          })
 
   pub summing_ends : left ≤ 0 → total ≡ sum_at links sizes step at₀ k₀ total₀
   unfolding sum_at
@@ -74,41 +78,75 @@ module _ {links sizes : List ℕ} {step at₀ k₀ total₀ at left total : ℕ}
 
 -- 2. a place
 module _ {heads links sizes : List ℕ} {q : ℕ} (asks : SizeAsks heads links sizes q) where
-  module _ {kind : ℕ} (k : kind ≡ kind_at heads q) where
-    pub leaf_size : kind ≤ 1 → 1 ≡ place_size heads links sizes q
+  pub size_asks : ShapeAsks heads links q
+  size_asks = record { linked = asks.linked; inside = asks.inside }
+
+  module _ {r : Option Parts} (told : PartsAre heads q r) where
+    pub leaf_size : r ≡ None → 1 ≡ place_size heads links sizes q
     unfolding place_size
-    leaf_size h = let e : leb (kind_at heads q) 1 ≡ true = rw (← k) (le-leb kind 1 h) in rw e
+    leaf_size n = let e = le-leb (kind_at heads q) 1 (no_parts heads q told n) in rw e
 
-    module _ (deep : 1 < kind) {start count : ℕ} (s : start ≡ start_at heads q) (c : count ≡ count_at heads q) where
-      parts_size : leb (kind_at heads q) 1 ≡ false
-      parts_size = rw (← k) (lt-leb kind 1 deep)
+  module _ {r : Option Parts} (told : PartsAre heads q r) {parts : Parts} (is_some : r ≡ Some parts) where
+    of : PartsOf heads q parts
+    of = some_parts heads q told is_some
 
-      pub array_asks : kind ≡ 2 → SumAsks links sizes 4 start count 1
-      array_asks e = let h = asks.linked.arrays q (sym k ∙ e) in record { places = asks.linked.places; inside = omega (arith, h, s, c); short = omega arith; sizes_ok = asks.sizes_ok; few = omega arith }
+    parts_size : leb (kind_at heads q) 1 ≡ false
+    parts_size = let k = of.kind in let d = shape_deep parts.shape in lt-leb (kind_at heads q) 1 (omega (arith, k, d))
 
-      pub array_size : kind ≡ 2 → {r : ℕ} → r ≡ sum_at links sizes 4 start count 1 → r ≡ place_size heads links sizes q
+    module _ (e : parts.shape ≡ Items) where
+      array_kind : kind_at heads q ≡ 2
+      array_kind = of.kind ∙ ap (λ (s : Shape). shape_kind s) e
+
+      array_link : parts.link ≡ start_at heads q
+      array_link = of.link ∙ ap (λ (s : Shape). link_by (shape_kind s) (start_at heads q)) e
+
+      pub array_asks : SumAsks links sizes (step_of parts.shape) parts.link parts.count 1
+      array_asks =
+          let h = asks.linked.arrays q array_kind in
+          let s = array_link in
+          let c = of.count in
+          let z = items_step e in
+          rw z (record { places = asks.linked.places; inside = omega (arith, h, s, c); short = omega arith; sizes_ok = asks.sizes_ok; few = omega arith })
+
+      pub array_size : {r : ℕ} → r ≡ sum_at links sizes (step_of parts.shape) parts.link parts.count 1 → r ≡ place_size heads links sizes q
       unfolding place_size
-      array_size e {r} is = let p = parts_size in let t : eqb (kind_at heads q) 2 ≡ true = rw (← k) (eq-eqb kind 2 e) in rw (p, t) (is ∙ (ap (λ (n : ℕ). sum_at links sizes 4 n count 1) s ∙ ap (λ (n : ℕ). sum_at links sizes 4 (start_at heads q) n 1) c))
+      array_size {r} is =
+          let p = parts_size in
+          let t = eq-eqb (kind_at heads q) 2 array_kind in
+          rw (p, t) (is
+          ∙ (ap (λ (n : ℕ). sum_at links sizes n parts.link parts.count 1) (items_step e)
+          ∙ (ap (λ (n : ℕ). sum_at links sizes 4 n parts.count 1) array_link ∙ ap (λ (n : ℕ). sum_at links sizes 4 (start_at heads q) n 1) of.count)))
 
-      module _ (n : kind ≡ 2 → ⊥) where
-        objects : start_at heads q + count_at heads q * 8 < 2052
-        objects = let h = asks.linked.kinds q in asks.linked.objects q (omega (arith, h, k, deep, n))
+    module _ (e : parts.shape ≡ Fields) where
+      object_kind : kind_at heads q ≡ 3
+      object_kind = of.kind ∙ ap (λ (s : Shape). shape_kind s) e
 
-        pub object_few : 1 + count ≤ 513
-        object_few = let h = objects in omega (arith, h, c)
+      object_link : parts.link ≡ start_at heads q + 4
+      object_link = of.link ∙ ap (λ (s : Shape). link_by (shape_kind s) (start_at heads q)) e
 
-        pub object_fits : Fits w32 (1 + count)
-        object_fits = let h = object_few in record { fits = omega arith }
+      pub object_few : 1 + parts.count ≤ 513
+      object_few = let h = asks.linked.objects q object_kind in let c = of.count in omega (arith, h, c)
 
-        pub object_start : start + 4 < 2 ^ 32
-        object_start = let h = objects in omega (arith, h, s)
+      pub object_fits : Fits w32 (1 + parts.count)
+      object_fits = let h = object_few in record { fits = omega arith }
 
-        pub object_asks : SumAsks links sizes 8 (start + 4) count (1 + count)
-        object_asks = let h = objects in record { places = asks.linked.places; inside = omega (arith, h, s, c); short = omega arith; sizes_ok = asks.sizes_ok; few = object_few }
+      pub object_asks : SumAsks links sizes (step_of parts.shape) parts.link parts.count (1 + parts.count)
+      object_asks =
+          let h = asks.linked.objects q object_kind in
+          let s = object_link in
+          let c = of.count in
+          let z = fields_step e in
+          rw z (record { places = asks.linked.places; inside = omega (arith, h, s, c); short = omega arith; sizes_ok = asks.sizes_ok; few = object_few })
 
-        pub object_size : {r : ℕ} → r ≡ sum_at links sizes 8 (start + 4) count (1 + count) → r ≡ place_size heads links sizes q
-        unfolding place_size
-        object_size {r} is = let p = parts_size in let t : eqb (kind_at heads q) 2 ≡ false = rw (← k) (ne_eqb kind 2 n) in rw (p, t) (is ∙ (ap (λ (m : ℕ). sum_at links sizes 8 (m + 4) count (1 + count)) s ∙ ap (λ (m : ℕ). sum_at links sizes 8 (start_at heads q + 4) m (1 + m)) c))
+      pub object_size : {r : ℕ} → r ≡ sum_at links sizes (step_of parts.shape) parts.link parts.count (1 + parts.count) → r ≡ place_size heads links sizes q
+      unfolding place_size
+      object_size {r} is =
+          let p = parts_size in
+          let k = object_kind in
+          let t = ne_eqb (kind_at heads q) 2 (λ z. omega (arith, z, k)) in
+          rw (p, t) (is
+          ∙ (ap (λ (n : ℕ). sum_at links sizes n parts.link parts.count (1 + parts.count)) (fields_step e)
+          ∙ (ap (λ (n : ℕ). sum_at links sizes 8 n parts.count (1 + parts.count)) object_link ∙ ap (λ (n : ℕ). sum_at links sizes 8 (start_at heads q + 4) n (1 + n)) of.count)))
 
 -- sizes stay within the cap
 sum_most : (links sizes : List ℕ) (step at k total : ℕ) → total ≤ 513 → sum_at links sizes step at k total ≤ 513
@@ -173,24 +211,6 @@ module _ {heads links classes sizes : List ℕ} {i : ℕ} {next : List ℕ} (go 
       let e : next ≡ next_sizes heads links classes sizes = filling_ends go.filled (omega arith) in
       record { next = e; ok = rw e (next_ok heads links classes sizes go.asks.linked) }
 
--- a level that changes nothing
-module _ (sizes next : List ℕ) {i : ℕ} (go : Scan (same_at sizes next) 0 2052 i) (more : i < 2052) where
-  pub same_on : get_or sizes i 0 ≡ get_or next i 0 → Scan (same_at sizes next) 0 2052 (i + 1)
-  unfolding same_at
-  same_on e = let z : 0 + i ≡ i = omega arith in scan_on go more (rw z (eq-eqb (get_or sizes i 0) (get_or next i 0) e))
-
-  pub same_fails : (get_or sizes i 0 ≡ get_or next i 0 → ⊥) → false ≡ same_sizes sizes next
-  unfolding same_at
-  same_fails n = let z : 0 + i ≡ i = omega arith in scan_fails go more (rw z (ne_eqb (get_or sizes i 0) (get_or next i 0) n))
-
-same_lists : (sizes next : List ℕ) → SizesOk sizes → SizesOk next → same_sizes sizes next ≡ true → sizes ≡ next
-unfolding same_at
-same_lists sizes next a b e =
-    let l = a.long in
-    ext_get_or 0 sizes next (l ∙ sym b.long) (λ k lt.
-    let z : 0 + k ≡ k = omega arith in
-    eqb-true (get_or sizes k 0) (get_or next k 0) (rw z at (all_at (same_at sizes next) 0 2052 e k (omega arith))))
-
 -- 4. levels
 pub record Settling (heads links classes : List ℕ) (levels done : ℕ) (sizes : List ℕ) : Type 0 where
   pub asks : SettleAsks heads links classes
@@ -231,10 +251,10 @@ module _ {heads links classes : List ℕ} {levels done : ℕ} {sizes : List ℕ}
   stays still zero = let z : done + 0 ≡ done = omega arith in ap (sizes_after heads links classes) z ∙ sym go.so_far
   stays still (suc k) = let z : done + suc k ≡ suc (done + k) = omega arith in ap (sizes_after heads links classes) z ∙ (ap (next_sizes heads links classes) (stays still k) ∙ still)
 
-  pub settling_stops : done < levels → {next : List ℕ} → LevelDone heads links classes sizes next → {r : Bool} → r ≡ same_sizes sizes next → r ≡ true → Settled heads links classes levels sizes
-  settling_stops more {next} d {r} is t =
+  pub settling_stops : done < levels → {next : List ℕ} → LevelDone heads links classes sizes next → sizes ≡ next → Settled heads links classes levels sizes
+  settling_stops more {next} d same =
       let q : done + (levels - done) ≡ levels = omega arith in
-      let still : next_sizes heads links classes sizes ≡ sizes = sym (same_lists sizes next go.ok d.ok (sym is ∙ t) ∙ d.next) in
+      let still : next_sizes heads links classes sizes ≡ sizes = sym (same ∙ d.next) in
       record { sizes = sym (stays still (levels - done)) ∙ ap (sizes_after heads links classes) q; ok = go.ok }
 
   pub settling_ends : levels ≤ done → Settled heads links classes levels sizes

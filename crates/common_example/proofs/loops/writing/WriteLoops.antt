@@ -82,8 +82,8 @@ module _ {links sizes : List ℕ} {step link count before entry : ℕ} {children
     pub number_place : get_or links from 0 < 2052
     number_place = go.asks.places from
 
-    pub number_next : from + step < 2 ^ 64
-    number_next = let h = number_link in let s = go.asks.high in omega arith
+    pub number_next : {apart : ℕ} → apart ≡ step → from + apart < 2 ^ 64
+    number_next e = let h = number_link in let s = go.asks.high in omega (arith, h, s, e)
 
     pub number_asks : KeyNumberAsks step node to here
     number_asks =
@@ -110,9 +110,9 @@ module _ {links sizes : List ℕ} {step link count before entry : ℕ} {children
       pub number_value : Fits w32 (value + 1)
       number_value = let b = go.asks.low in let e = scaled left (1 + key_count step) more in let v = n.next in record { fits = omega (arith, b, e, v) }
 
-      pub numbering_on : {keys size : ℕ} → keys ≡ key_count step → size ≡ get_or sizes (get_or links from 0) 0
-          → Numbering links sizes step link count before entry children₀ (from + step) (left - 1) (node + keys + size) (value + 1) (set mid value (node + keys + size))
-      numbering_on {keys} {size} k z =
+      pub numbering_on : {keys size apart : ℕ} → keys ≡ key_count step → size ≡ get_or sizes (get_or links from 0) 0 → apart ≡ step
+          → Numbering links sizes step link count before entry children₀ (from + apart) (left - 1) (node + keys + size) (value + 1) (set mid value (node + keys + size))
+      numbering_on {keys} {size} {apart} k z i =
           let a = go.asks.inside in
           let b = go.asks.few in
           let c = go.asks.room in
@@ -125,7 +125,7 @@ module _ {links sizes : List ℕ} {step link count before entry : ℕ} {children
           let m = length-set mid value (node + keys + size) in
           let same : node + keys + size ≡ node + key_count step + size_from links sizes step from = omega (arith, k, z) in
           let long : length (set mid value (node + keys + size)) ≡ length children₀ = m ∙ (l ∙ go.long) in
-          record {
+          rw i (record {
             asks = record {
               places = go.asks.places;
               inside = omega (arith, a, p);
@@ -136,7 +136,7 @@ module _ {links sizes : List ℕ} {step link count before entry : ℕ} {children
             };
             same = rw same (stores ∙ go.same);
             long = long;
-          }
+          })
         where
           stores : sets (set mid value (node + key_count step + size_from links sizes step from)) (value + 1) (part_numbers links sizes step (from + step) (left - 1) (node + key_count step + size_from links sizes step from))
               ≡ sets here to (part_numbers links sizes step from left node)

@@ -4,38 +4,33 @@ use mathlib.Core.Bool.{Bool, true, false, cond}
 use mathlib.Core.List.{List, [], ◌∷◌, ◌++◌}
 use mathlib.Core.Path.{◌≡◌, refl, ap, sym, ◌∙◌}
 use native.Mathlib.Omega.{arith}
-use borrow.Author.Tests.{eq-eqb, ne_eqb, eqb-true, eqb-false, le-leb, lt-leb}
+use borrow.Author.Tests.{eq-eqb, ne_eqb, le-leb, lt-leb}
 use mir.Syntax.{w32}
 use mir.Val.{Fits}
-use lib.Dec.{eqb, leb}
+use lib.Dec.{eqb}
 use lib.ListN.{length, get_or}
 use lib.Seq.{sets, length-sets}
 use Rattle.planner.specs.Layout.{entry, below}
 use Rattle.planner.specs.Entries.{Wrote}
-use Rattle.common_example.specs.code.Graph.{kind_at, start_at, count_at}
+use Rattle.common_example.specs.declared.graph.Shape.{Shape}
+use Rattle.common_example.specs.declared.graph.Shape.TheVariants.{Items, Fields}
+use Rattle.common_example.specs.declared.graph.Parts.{Parts}
+use Rattle.common_example.specs.code.Graph.{kind_at, start_at, shape_kind, step_by, step_of, ShapeAsks, PartsOf, PartsAre}
 use Rattle.common_example.specs.code.Classes.{class_in, ClassAsks, ClassIs}
-use Rattle.common_example.specs.code.Writing.{node_entry, literal_entry, key_count, key_words, leaf_node, step_by, link_by, parent_kind, size_from, part_sizes, part_entries, part_numbers, part_nodes, part_children, parent_nodes, head_nodes, parent_children, head_children, place_nodes, place_children, PartsFit, HeadFit, Fit, LiteralAsks, KeyAsks, KeyWritten, NumberAsks, ParentAsks, ParentWritten, PlaceAsks, PlaceWritten, PartsAsks, PartsWritten}
+use Rattle.common_example.specs.code.Writing.{node_entry, literal_entry, key_count, key_words, leaf_node, parent_kind, size_from, part_sizes, part_entries, part_numbers, part_nodes, part_children, parent_nodes, head_nodes, parent_children, head_children, place_nodes, place_children, PartsFit, HeadFit, Fit, LiteralAsks, KeyAsks, KeyWritten, NumberAsks, ParentAsks, ParentWritten, PlaceAsks, PlaceWritten, PartsAsks, PartsWritten}
+use Rattle.std.specs.Prelude.{Option}
+use Rattle.std.proofs.Common.{Some, None}
+use Rattle.common_example.proofs.loops.graph.PartsTold.{shape_deep, no_parts, some_parts}
 use Rattle.common_example.proofs.loops.writing.WriteWords.{sets_on, node_put, key_words_lem, part_here, parts_rest, fit_one, fit_nodes, fit_children, parts_nodes, parts_children, parts_entries}
 use Rattle.common_example.proofs.loops.writing.WriteLoops.{scaled, sizes_step}
 
 -- 1. an array or an object
-pub array_step : (kind : ℕ) → kind ≡ 2 → 4 ≡ step_by kind
-array_step kind e = let q = eq-eqb kind 2 e in rw q
+module _ {shape : Shape} where
+  pub array_own : shape ≡ Items → 7 ≡ parent_kind (shape_kind shape)
+  array_own e = sym (ap (λ (s : Shape). parent_kind (shape_kind s)) e)
 
-pub object_step : (kind : ℕ) → (kind ≡ 2 → ⊥) → 8 ≡ step_by kind
-object_step kind n = let q = ne_eqb kind 2 n in rw q
-
-pub array_link : (kind start : ℕ) → kind ≡ 2 → start ≡ link_by kind start
-array_link kind start e = let q = eq-eqb kind 2 e in rw q
-
-pub object_link : (kind start : ℕ) → (kind ≡ 2 → ⊥) → start + 4 ≡ link_by kind start
-object_link kind start n = let q = ne_eqb kind 2 n in rw q
-
-pub array_kind : (kind : ℕ) → kind ≡ 2 → 7 ≡ parent_kind kind
-array_kind kind e = let q = eq-eqb kind 2 e in rw q
-
-pub object_kind : (kind : ℕ) → (kind ≡ 2 → ⊥) → 9 ≡ parent_kind kind
-object_kind kind n = let q = ne_eqb kind 2 n in rw q
+  pub object_own : shape ≡ Fields → 9 ≡ parent_kind (shape_kind shape)
+  object_own e = sym (ap (λ (s : Shape). parent_kind (shape_kind s)) e)
 
 module _ (heads : List ℕ) (q : ℕ) {kind : ℕ} (k : kind ≡ kind_at heads q) where
   pub leaf_literal : kind ≡ 1 → {start : ℕ} → start ≡ start_at heads q → start ≡ leaf_node heads q
@@ -110,8 +105,8 @@ module _ {nodes heads links classes sizes : List ℕ} {step link count rest befo
     pub writing_link : from < 2048
     writing_link = let h = go.asks.fit.inside in let e = scaled left step more in omega (arith, h, e)
 
-    pub writing_next : from + step < 2 ^ 64
-    writing_next = let h = writing_link in let s = go.asks.fit.high in omega arith
+    pub writing_next : {apart : ℕ} → apart ≡ step → from + apart < 2 ^ 64
+    writing_next e = let h = writing_link in let s = go.asks.fit.high in omega (arith, h, s, e)
 
     pub writing_part : get_or links from 0 < 2052
     writing_part = go.asks.arrays.linked.places from
@@ -165,9 +160,9 @@ module _ {nodes heads links classes sizes : List ℕ} {step link count rest befo
         pub writing_end : Fits w32 (end + (size - 1))
         writing_end = let b = go.asks.space.children in let e = sizes_step links sizes step from left more in record { fits = omega (arith, b, e, z) }
 
-        pub writing_on : {out' kids' : List ℕ} → PlaceWritten nodes heads links classes sizes (get_or links from 0) rest before entries value end mid kids out' kids'
-            → Writing nodes heads links classes sizes step link count rest before entries at entry out₀ kids₀ (from + step) (left - 1) (value + size) (end + (size - 1)) out' kids'
-        writing_on {out'} {kids'} w =
+        pub writing_on : {out' kids' : List ℕ} {apart : ℕ} → apart ≡ step → PlaceWritten nodes heads links classes sizes (get_or links from 0) rest before entries value end mid kids out' kids'
+            → Writing nodes heads links classes sizes step link count rest before entries at entry out₀ kids₀ (from + apart) (left - 1) (value + size) (end + (size - 1)) out' kids'
+        writing_on {out'} {kids'} {apart} i w =
             let a = go.asks.space.nodes in
             let b = go.asks.space.children in
             let c = go.asks.space.out_nodes in
@@ -180,7 +175,7 @@ module _ {nodes heads links classes sizes : List ℕ} {step link count rest befo
             let ln = out_now in
             let lk = kids_now in
             let ol : length out' ≡ length out = ln ∙ mid_long in
-            record {
+            rw i (record {
               asks = record {
                 arrays = go.asks.arrays;
                 fit = parts_rest go.asks.fit more;
@@ -198,7 +193,7 @@ module _ {nodes heads links classes sizes : List ℕ} {step link count rest befo
               ends_same = omega (arith, f, g, z);
               out_long = ol ∙ go.out_long;
               kids_long = lk ∙ go.kids_long;
-            }
+            })
           where
             out_now : length out' ≡ length mid
             out_now = let q = w.nodes_are in ap (λ (l : List ℕ). length l) q ∙ length-sets mid (value * 5) (place_nodes nodes heads links classes sizes rest (get_or links from 0) (entries + end))
@@ -273,6 +268,9 @@ module _ {heads links classes sizes : List ℕ} {p r before entries at entry : �
   pub place_class : ClassAsks classes p
   place_class = record { ok = asks.arrays.ok; inside = asks.inside }
 
+  pub place_asks : {q : ℕ} → ClassIs classes p q → ShapeAsks heads links q
+  place_asks is = record { linked = asks.arrays.linked; inside = is.inside }
+
   pub place_level : 1 ≤ r
   place_level = fit_levels heads links classes sizes r p asks.fit
 
@@ -286,7 +284,7 @@ module _ {heads links classes sizes : List ℕ} {p r before entries at entry : �
       let one = fit_one [] heads links classes sizes r p asks.fit in
       record { room = omega (arith, b, one); few = omega (arith, a, one) }
 
-  module _ {q : ℕ} (is : ClassIs classes p q) {kind : ℕ} (k : kind ≡ kind_at heads q) where
+  module _ {q : ℕ} (is : ClassIs classes p q) where
     class_fit : HeadFit (Fit heads links classes sizes (r - 1)) heads links sizes (get_or sizes p 0) q
     class_fit = let c = is.class in rw c (fit_head heads links classes sizes r p asks.fit)
 
@@ -296,10 +294,10 @@ module _ {heads links classes sizes : List ℕ} {p r before entries at entry : �
     children_class : (b : ℕ) → place_children heads links classes sizes r p b ≡ head_children heads links sizes (place_children heads links classes sizes (r - 1)) q b
     children_class b = let c = is.class in children_head heads links classes sizes r p b place_level ∙ ap (λ (x : ℕ). head_children heads links sizes (place_children heads links classes sizes (r - 1)) x b) (sym c)
 
-    pub place_leaf : (nodes : List ℕ) → kind ≤ 1 → {leaf : ℕ} → leaf ≡ leaf_node heads q → {out' : List ℕ} → out' ≡ sets out (at * 5) (literal_entry nodes leaf)
+    pub place_leaf : (nodes : List ℕ) {r₁ : Option Parts} → PartsAre heads q r₁ → r₁ ≡ None → {leaf : ℕ} → leaf ≡ leaf_node heads q → {out' : List ℕ} → out' ≡ sets out (at * 5) (literal_entry nodes leaf)
         → PlaceWritten nodes heads links classes sizes p r before entries at entry out kids out' kids
-    place_leaf nodes h {leaf} l {out'} w =
-        let b : leb (kind_at heads q) 1 ≡ true = rw (← k) (le-leb kind 1 h) in
+    place_leaf nodes told n {leaf} l {out'} w =
+        let b = le-leb (kind_at heads q) 1 (no_parts heads q told n) in
         let x : head_nodes nodes heads links sizes (place_nodes nodes heads links classes sizes (r - 1)) q (entries + entry) ≡ literal_entry nodes (leaf_node heads q) = rw b in
         let y : head_children heads links sizes (place_children heads links classes sizes (r - 1)) q (before + at) ≡ [] = rw b in
         record {
@@ -307,103 +305,102 @@ module _ {heads links classes sizes : List ℕ} {p r before entries at entry : �
           children_are = ap (sets kids entry) (sym (children_class (before + at) ∙ y));
         }
 
-    module _ (deep : 1 < kind) where
+    module _ {r₁ : Option Parts} (told : PartsAre heads q r₁) {parts : Parts} (is_some : r₁ ≡ Some parts) where
+      of : PartsOf heads q parts
+      of = some_parts heads q told is_some
+
       deep_kind : 1 < kind_at heads q
-      deep_kind = rw (← k) deep
+      deep_kind = let k = of.kind in let d = shape_deep parts.shape in omega (arith, k, d)
 
-      pub place_start : {start : ℕ} → start ≡ start_at heads q → start < 2052
-      place_start {start} s = go (eqb (kind_at heads q) 2) refl
-        where
-          go : (b : Bool) → eqb (kind_at heads q) 2 ≡ b → start < 2052
-          go true e = let h = asks.arrays.linked.arrays q (eqb-true (kind_at heads q) 2 e) in omega (arith, h, s)
-          go false e =
-              let n = eqb-false (kind_at heads q) 2 e in
-              let m = asks.arrays.linked.kinds q in
-              let d = deep_kind in
-              let h = asks.arrays.linked.objects q (omega (arith, n, m, d)) in
-              omega (arith, h, s)
+      kind_is : shape_kind parts.shape ≡ kind_at heads q
+      kind_is = sym of.kind
 
-      module _ {start link count : ℕ} (s : start ≡ start_at heads q) (l : link ≡ link_by kind start) (c : count ≡ count_at heads q) where
-        parts_fit : PartsFit (Fit heads links classes sizes (r - 1)) links (step_by kind) link count
-        parts_fit = rw (l, s, c, k) (class_fit.parts deep_kind)
+      parts_fit : PartsFit (Fit heads links classes sizes (r - 1)) links (step_of parts.shape) parts.link parts.count
+      parts_fit = let l = of.link in let c = of.count in let k = kind_is in rw (l, c, k) (class_fit.parts deep_kind)
 
-        parts_size : get_or sizes p 0 ≡ 1 + part_sizes links sizes (step_by kind) link count
-        parts_size = rw (l, s, c, k) (class_fit.parent deep_kind)
+      parts_size : get_or sizes p 0 ≡ 1 + part_sizes links sizes (step_of parts.shape) parts.link parts.count
+      parts_size = let l = of.link in let c = of.count in let k = kind_is in rw (l, c, k) (class_fit.parent deep_kind)
 
-        nodes_parent : (nodes : List ℕ) (e : ℕ) → place_nodes nodes heads links classes sizes r p e ≡ parent_nodes nodes heads links sizes (place_nodes nodes heads links classes sizes (r - 1)) kind link count e
-        nodes_parent nodes e =
-            let b = lt-leb (kind_at heads q) 1 deep_kind in
-            let x : head_nodes nodes heads links sizes (place_nodes nodes heads links classes sizes (r - 1)) q e ≡ parent_nodes nodes heads links sizes (place_nodes nodes heads links classes sizes (r - 1)) kind link count e = rw (b, l, s, c, k) in
-            nodes_class nodes e ∙ x
+      nodes_parent : (nodes : List ℕ) (e : ℕ) → place_nodes nodes heads links classes sizes r p e ≡ parent_nodes nodes heads links sizes (place_nodes nodes heads links classes sizes (r - 1)) (shape_kind parts.shape) parts.link parts.count e
+      nodes_parent nodes e =
+          let b = lt-leb (kind_at heads q) 1 deep_kind in
+          let l = of.link in
+          let c = of.count in
+          let k = kind_is in
+          let x : head_nodes nodes heads links sizes (place_nodes nodes heads links classes sizes (r - 1)) q e ≡ parent_nodes nodes heads links sizes (place_nodes nodes heads links classes sizes (r - 1)) (shape_kind parts.shape) parts.link parts.count e = rw (b, l, c, k) in
+          nodes_class nodes e ∙ x
 
-        children_parent : (b : ℕ) → place_children heads links classes sizes r p b ≡ parent_children heads links sizes (place_children heads links classes sizes (r - 1)) kind link count b
-        children_parent e =
-            let b = lt-leb (kind_at heads q) 1 deep_kind in
-            let x : head_children heads links sizes (place_children heads links classes sizes (r - 1)) q e ≡ parent_children heads links sizes (place_children heads links classes sizes (r - 1)) kind link count e = rw (b, l, s, c, k) in
-            children_class e ∙ x
+      children_parent : (b : ℕ) → place_children heads links classes sizes r p b ≡ parent_children heads links sizes (place_children heads links classes sizes (r - 1)) (shape_kind parts.shape) parts.link parts.count b
+      children_parent e =
+          let b = lt-leb (kind_at heads q) 1 deep_kind in
+          let l = of.link in
+          let c = of.count in
+          let k = kind_is in
+          let x : head_children heads links sizes (place_children heads links classes sizes (r - 1)) q e ≡ parent_children heads links sizes (place_children heads links classes sizes (r - 1)) (shape_kind parts.shape) parts.link parts.count e = rw (b, l, c, k) in
+          children_class e ∙ x
 
-        pub place_parts : {step : ℕ} → step ≡ step_by kind → PartsAsks heads links classes sizes step link count (r - 1) before entries at entry out kids
-        place_parts {step} z =
+      pub place_parts : PartsAsks heads links classes sizes (step_of parts.shape) parts.link parts.count (r - 1) before entries at entry out kids
+      place_parts =
+          let e = parts_size in
+          record {
+            arrays = asks.arrays;
+            fit = parts_fit;
+            space = rw (← e) asks.space;
+          }
+
+      module _ {nodes out₁ kids₁ : List ℕ} {end : ℕ} (w : PartsWritten nodes heads links classes sizes (step_of parts.shape) parts.link parts.count (r - 1) before entries at entry out kids out₁ kids₁ end) {size : ℕ} (n : size ≡ get_or sizes p 0) where
+        pub place_node_fits : Fits w32 (at + size)
+        place_node_fits = let a = asks.space.nodes in record { fits = omega (arith, a, n) }
+
+        pub place_node_low : 1 ≤ at + size
+        place_node_low = let e = parts_size in omega (arith, e, n)
+
+        end_is : end ≡ entry + part_entries links sizes (step_of parts.shape) parts.link parts.count
+        end_is = w.ends
+
+        all_entries_lem : part_entries links sizes (step_of parts.shape) parts.link parts.count + parts.count * (1 + key_count (step_of parts.shape)) ≡ part_sizes links sizes (step_of parts.shape) parts.link parts.count
+        all_entries_lem = parts_entries nodes heads links classes sizes (Fit heads links classes sizes (r - 1)) (fit_one nodes heads links classes sizes (r - 1)) (step_of parts.shape) parts.link parts.count parts_fit
+
+        pub place_parent : ParentAsks links sizes (shape_kind parts.shape) parts.link parts.count before entries at (at + size - 1) end out₁ kids₁
+        place_parent =
             let e = parts_size in
-            rw z (record {
-              arrays = asks.arrays;
-              fit = parts_fit;
-              space = rw (← e) asks.space;
-            })
+            let g = end_is in
+            let h = all_entries_lem in
+            let a = asks.space.nodes in
+            let b = asks.space.children in
+            let c' = asks.space.out_nodes in
+            let d = asks.space.out_children in
+            let o : length out₁ ≡ length out = let u = w.nodes_are in ap (λ (x : List ℕ). length x) u ∙ length-sets out (at * 5) (part_nodes links sizes (step_of parts.shape) nodes (place_nodes nodes heads links classes sizes (r - 1)) parts.link parts.count (entries + entry)) in
+            let m : length kids₁ ≡ length kids = let u = w.children_are in ap (λ (x : List ℕ). length x) u ∙ length-sets kids entry (part_children links sizes (step_of parts.shape) (place_children heads links classes sizes (r - 1)) parts.link parts.count (before + at)) in
+            record {
+              places = asks.arrays.linked.places;
+              inside = parts_fit.inside;
+              counted = omega (arith, e, n);
+              few = omega (arith, a, e, n);
+              before_nodes = asks.space.before_nodes;
+              before_entries = asks.space.before_entries;
+              last = omega (arith, b, e, g, h);
+              out_nodes = rw o (omega (arith, c', e, n));
+              out_children = rw m (omega (arith, d, e, g, h));
+            }
 
-        module _ {step : ℕ} (z : step ≡ step_by kind) {nodes out₁ kids₁ : List ℕ} {end : ℕ} (w : PartsWritten nodes heads links classes sizes step link count (r - 1) before entries at entry out kids out₁ kids₁ end) {size : ℕ} (n : size ≡ get_or sizes p 0) where
-          pub place_node_fits : Fits w32 (at + size)
-          place_node_fits = let a = asks.space.nodes in record { fits = omega (arith, a, n) }
-
-          pub place_node_low : 1 ≤ at + size
-          place_node_low = let e = parts_size in omega (arith, e, n)
-
-          end_is : end ≡ entry + part_entries links sizes (step_by kind) link count
-          end_is = w.ends ∙ ap (λ (x : ℕ). entry + part_entries links sizes x link count) z
-
-          all_entries_lem : part_entries links sizes (step_by kind) link count + count * (1 + key_count (step_by kind)) ≡ part_sizes links sizes (step_by kind) link count
-          all_entries_lem = parts_entries nodes heads links classes sizes (Fit heads links classes sizes (r - 1)) (fit_one nodes heads links classes sizes (r - 1)) (step_by kind) link count parts_fit
-
-          pub place_parent : ParentAsks links sizes kind link count before entries at (at + size - 1) end out₁ kids₁
-          place_parent =
-              let e = parts_size in
-              let g = end_is in
-              let h = all_entries_lem in
-              let a = asks.space.nodes in
-              let b = asks.space.children in
-              let c' = asks.space.out_nodes in
-              let d = asks.space.out_children in
-              let o : length out₁ ≡ length out = let u = w.nodes_are in ap (λ (x : List ℕ). length x) u ∙ length-sets out (at * 5) (part_nodes links sizes step nodes (place_nodes nodes heads links classes sizes (r - 1)) link count (entries + entry)) in
-              let m : length kids₁ ≡ length kids = let u = w.children_are in ap (λ (x : List ℕ). length x) u ∙ length-sets kids entry (part_children links sizes step (place_children heads links classes sizes (r - 1)) link count (before + at)) in
-              record {
-                places = asks.arrays.linked.places;
-                inside = parts_fit.inside;
-                counted = omega (arith, e, n);
-                few = omega (arith, a, e, n);
-                before_nodes = asks.space.before_nodes;
-                before_entries = asks.space.before_entries;
-                last = omega (arith, b, e, g, h);
-                out_nodes = rw o (omega (arith, c', e, n));
-                out_children = rw m (omega (arith, d, e, g, h));
-              }
-
-          pub place_done : {out₂ kids₂ : List ℕ} → ParentWritten links sizes kind link count before entries at (at + size - 1) end out₁ kids₁ out₂ kids₂ → PlaceWritten nodes heads links classes sizes p r before entries at entry out kids out₂ kids₂
-          place_done {out₂} {kids₂} u =
-              let e = parts_size in
-              let g = end_is in
-              let five = parts_nodes nodes heads links classes sizes (Fit heads links classes sizes (r - 1)) (place_nodes nodes heads links classes sizes (r - 1)) (λ x y f. (fit_one nodes heads links classes sizes (r - 1) x f, fit_nodes nodes heads links classes sizes (r - 1) x y f)) (step_by kind) link count (entries + entry) parts_fit in
-              let own = parts_children nodes heads links classes sizes (Fit heads links classes sizes (r - 1)) (place_children heads links classes sizes (r - 1)) (fit_children nodes heads links classes sizes (r - 1)) (step_by kind) link count (before + at) parts_fit in
-              let place : entries + end ≡ entries + entry + part_entries links sizes (step_by kind) link count = omega (arith, g) in
-              record {
-                nodes_are = u.node_is
-                    ∙ (ap (λ (x : ℕ). sets out₁ ((at + size - 1) * 5) (node_entry (parent_kind kind) x count)) place
-                    ∙ (ap (λ (x : List ℕ). sets x ((at + size - 1) * 5) (node_entry (parent_kind kind) (entries + entry + part_entries links sizes (step_by kind) link count) count))
-                    (w.nodes_are ∙ ap (λ (x : ℕ). sets out (at * 5) (part_nodes links sizes x nodes (place_nodes nodes heads links classes sizes (r - 1)) link count (entries + entry))) z)
-                    ∙ (sets_on out (at * 5) ((at + size - 1) * 5) (part_nodes links sizes (step_by kind) nodes (place_nodes nodes heads links classes sizes (r - 1)) link count (entries + entry)) (node_entry (parent_kind kind) (entries + entry + part_entries links sizes (step_by kind) link count) count) (omega (arith, five, e, n))
-                    ∙ ap (sets out (at * 5)) (sym (nodes_parent nodes (entries + entry))))));
-                children_are = u.children_are
-                    ∙ (ap (λ (x : List ℕ). sets x end (part_numbers links sizes (step_by kind) link count (before + at)))
-                    (w.children_are ∙ ap (λ (x : ℕ). sets kids entry (part_children links sizes x (place_children heads links classes sizes (r - 1)) link count (before + at))) z)
-                    ∙ (sets_on kids entry end (part_children links sizes (step_by kind) (place_children heads links classes sizes (r - 1)) link count (before + at)) (part_numbers links sizes (step_by kind) link count (before + at)) (omega (arith, g, own))
-                    ∙ ap (sets kids entry) (sym (children_parent (before + at)))));
-              }
+        pub place_done : {out₂ kids₂ : List ℕ} → ParentWritten links sizes (shape_kind parts.shape) parts.link parts.count before entries at (at + size - 1) end out₁ kids₁ out₂ kids₂ → PlaceWritten nodes heads links classes sizes p r before entries at entry out kids out₂ kids₂
+        place_done {out₂} {kids₂} u =
+            let e = parts_size in
+            let g = end_is in
+            let five = parts_nodes nodes heads links classes sizes (Fit heads links classes sizes (r - 1)) (place_nodes nodes heads links classes sizes (r - 1)) (λ x y f. (fit_one nodes heads links classes sizes (r - 1) x f, fit_nodes nodes heads links classes sizes (r - 1) x y f)) (step_of parts.shape) parts.link parts.count (entries + entry) parts_fit in
+            let own = parts_children nodes heads links classes sizes (Fit heads links classes sizes (r - 1)) (place_children heads links classes sizes (r - 1)) (fit_children nodes heads links classes sizes (r - 1)) (step_of parts.shape) parts.link parts.count (before + at) parts_fit in
+            let place : entries + end ≡ entries + entry + part_entries links sizes (step_of parts.shape) parts.link parts.count = omega (arith, g) in
+            record {
+              nodes_are = u.node_is
+                  ∙ (ap (λ (x : ℕ). sets out₁ ((at + size - 1) * 5) (node_entry (parent_kind (shape_kind parts.shape)) x parts.count)) place
+                  ∙ (ap (λ (x : List ℕ). sets x ((at + size - 1) * 5) (node_entry (parent_kind (shape_kind parts.shape)) (entries + entry + part_entries links sizes (step_of parts.shape) parts.link parts.count) parts.count))
+                  w.nodes_are
+                  ∙ (sets_on out (at * 5) ((at + size - 1) * 5) (part_nodes links sizes (step_of parts.shape) nodes (place_nodes nodes heads links classes sizes (r - 1)) parts.link parts.count (entries + entry)) (node_entry (parent_kind (shape_kind parts.shape)) (entries + entry + part_entries links sizes (step_of parts.shape) parts.link parts.count) parts.count) (omega (arith, five, e, n))
+                  ∙ ap (sets out (at * 5)) (sym (nodes_parent nodes (entries + entry))))));
+              children_are = u.children_are
+                  ∙ (ap (λ (x : List ℕ). sets x end (part_numbers links sizes (step_of parts.shape) parts.link parts.count (before + at)))
+                  w.children_are
+                  ∙ (sets_on kids entry end (part_children links sizes (step_of parts.shape) (place_children heads links classes sizes (r - 1)) parts.link parts.count (before + at)) (part_numbers links sizes (step_of parts.shape) parts.link parts.count (before + at)) (omega (arith, g, own))
+                  ∙ ap (sets kids entry) (sym (children_parent (before + at)))));
+            }

@@ -12,9 +12,9 @@ use Rattle.table.specs.Tables.{kind_of, first_word_of, count_of}
 use Rattle.planner.specs.Layout.{entry, below, words}
 use Rattle.planner.specs.Entries.{Wrote, put_entries}
 use Rattle.planner.proofs.buffer.Written.{sets_append}
-use Rattle.common_example.specs.code.Graph.{kind_at, start_at, count_at}
+use Rattle.common_example.specs.code.Graph.{kind_at, start_at, count_at, step_by, link_by}
 use Rattle.common_example.specs.code.Classes.{class_in}
-use Rattle.common_example.specs.code.Writing.{node_entry, literal_entry, key_count, key_words, key_number, leaf_node, step_by, link_by, parent_kind, size_from, part_sizes, part_entries, part_numbers, part_nodes, part_children, parent_nodes, head_nodes, parent_children, head_children, place_nodes, place_children, PartsFit, HeadFit, Fit, LiteralAsks, KeyAsks, KeyWritten}
+use Rattle.common_example.specs.code.Writing.{node_entry, literal_entry, key_count, key_words, key_number, leaf_node, parent_kind, size_from, part_sizes, part_entries, part_numbers, part_nodes, part_children, parent_nodes, head_nodes, parent_children, head_children, place_nodes, place_children, PartsFit, HeadFit, Fit, LiteralAsks, KeyAsks, KeyWritten}
 
 -- 1. stores
 pub sets_on : (l : List ℕ) (i j : ℕ) (xs ys : List ℕ) → j ≡ i + length xs → sets (sets l i xs) j ys ≡ sets l i (xs ++ ys)

@@ -1,4 +1,4 @@
-use Rattle.common_example.proofs.loops.writing.WriteParts.{writing_start, writing_link, writing_next, writing_part, writing_one, writing_key, writing_place, writing_to, writing_end, writing_on, writing_ends, place_falls, parts_fall, place_class, place_level, place_inside, place_leaf_asks, place_leaf, place_start, place_parts, place_node_fits, place_node_low, place_parent, place_done}
+use Rattle.common_example.proofs.loops.writing.WriteParts.{writing_start, writing_link, writing_next, writing_part, writing_one, writing_key, writing_place, writing_to, writing_end, writing_on, writing_ends, place_falls, parts_fall, place_class, place_asks, place_level, place_inside, place_leaf_asks, place_leaf, place_parts, place_node_fits, place_node_low, place_parent, place_done}
 use Rattle.common_example.proofs.loops.writing.WriteLoops.{more_left, none_left}
 use Rattle.std.proofs.Common.{◌≡◌, ◌+◌, ◌-◌, ◌<◌, arith}
 use borrow.Author.Rules.{rules}
@@ -10,20 +10,14 @@ write_parts-loop-part-init t c = search (writing_start, rules)
 pub write_parts-write_key-value-requires : goal.write_parts-write_key-value-requires
 write_parts-write_key-value-requires t c = search (writing_key, more_left, rules)
 
-pub write_parts-offset_bounds-links-from : goal.write_parts-offset_bounds-links-from
-write_parts-offset_bounds-links-from t c = search (writing_link, more_left, rules)
+pub write_parts-offset_bounds-source-from : goal.write_parts-offset_bounds-source-from
+write_parts-offset_bounds-source-from t c = search (writing_link, more_left, rules)
 
-pub write_parts-bounds-links-from : goal.write_parts-bounds-links-from
-write_parts-bounds-links-from t c = search (writing_link, more_left, rules)
+pub write_parts-bounds-source-from : goal.write_parts-bounds-source-from
+write_parts-bounds-source-from t c = search (writing_link, more_left, rules)
 
 pub write_parts-write_place-requires : goal.write_parts-write_place-requires
 write_parts-write_place-requires t c = (search (place_falls, rules), search (writing_place, more_left, rules))
-
-pub write_parts-offset_bounds-links-from-in-loop-part : goal.write_parts-offset_bounds-links-from-in-loop-part
-write_parts-offset_bounds-links-from-in-loop-part t c = search (writing_link, more_left, rules)
-
-pub write_parts-bounds-links-from-in-loop-part : goal.write_parts-bounds-links-from-in-loop-part
-write_parts-bounds-links-from-in-loop-part t c = search (writing_link, more_left, rules)
 
 pub write_parts-size_at-size-requires : goal.write_parts-size_at-size-requires
 write_parts-size_at-size-requires t c = search (writing_part, more_left, rules)
@@ -42,8 +36,8 @@ write_parts-overflow_add-from t c = search (writing_next, more_left, rules)
 
 pub write_parts-loop-part-preserved : goal.write_parts-loop-part-preserved
 write_parts-loop-part-preserved t c = let go = c.loop-part.invariant in
-    let more : 0 < c.args.count - c.loop-part._part = omega arith in
-    let e : c.args.count - (c.loop-part._part + 1) ≡ c.args.count - c.loop-part._part - 1 = omega arith in
+    let more : 0 < c.args.parts.count - c.loop-part._part = omega arith in
+    let e : c.args.parts.count - (c.loop-part._part + 1) ≡ c.args.parts.count - c.loop-part._part - 1 = omega arith in
     rw e (search (writing_on go more, rules))
 
 pub write_parts-returns : goal.write_parts-returns
@@ -52,53 +46,32 @@ write_parts-returns t c = search (writing_ends, none_left, rules)
 pub write_place-class_of-class-requires : goal.write_place-class_of-class-requires
 write_place-class_of-class-requires t c = search (place_class, rules)
 
+pub write_place-parts_at-requires : goal.write_place-parts_at-requires
+write_place-parts_at-requires t c = search (place_asks, rules)
+
 pub write_place-write_literal-requires : goal.write_place-write_literal-requires
 write_place-write_literal-requires t c = search (place_leaf_asks, rules)
 
-pub write_place-returns-then-kind-le1 : goal.write_place-returns-then-kind-le1
-write_place-returns-then-kind-le1 t c = search (place_leaf, rules)
-
-pub write_place-first_link-link-requires : goal.write_place-first_link-link-requires
-write_place-first_link-link-requires t c = search (place_start, rules)
+pub write_place-returns-in_default : goal.write_place-returns-in_default
+write_place-returns-in_default t c = place_leaf c.requires c.class_of-class.ensures _ c.parts_at.ensures c.in_default.is c.leaf_node.ensures c.write_literal.ensures
 
 pub write_place-overflow_sub-rest : goal.write_place-overflow_sub-rest
 write_place-overflow_sub-rest t c = search (place_level, rules)
 
 pub write_place-write_parts-end-requires : goal.write_place-write_parts-end-requires
-write_place-write_parts-end-requires t c = let asks = c.requires in
-    let class = c.class_of-class.ensures in
-    let kind = c.head_word-kind.ensures in
-    let start = c.head_word.ensures in
-    let link = c.first_link-link.ensures in
-    let count = c.head_word-count.ensures in
-    let step = c.link_step.ensures in
-    (search (parts_fall, place_level, rules), place_parts asks class kind (search rules) start link count step)
+write_place-write_parts-end-requires t c = (search (parts_fall, place_level, rules), place_parts c.requires c.class_of-class.ensures c.parts_at.ensures c.in-Some.is)
 
 pub write_place-size_at-requires : goal.write_place-size_at-requires
 write_place-size_at-requires t c = search (place_inside, rules)
 
 pub write_place-overflow_add-node : goal.write_place-overflow_add-node
-write_place-overflow_add-node t c = search (place_node_fits, rules)
+write_place-overflow_add-node t c = place_node_fits c.requires c.class_of-class.ensures c.parts_at.ensures c.in-Some.is c.write_parts-end.ensures c.size_at.ensures
 
 pub write_place-overflow_sub-node : goal.write_place-overflow_sub-node
-write_place-overflow_sub-node t c = search (place_node_low, rules)
+write_place-overflow_sub-node t c = place_node_low c.requires c.class_of-class.ensures c.parts_at.ensures c.in-Some.is c.write_parts-end.ensures c.size_at.ensures
 
 pub write_place-write_parent-requires : goal.write_place-write_parent-requires
-write_place-write_parent-requires t c = let asks = c.requires in
-    let class = c.class_of-class.ensures in
-    let kind = c.head_word-kind.ensures in
-    let start = c.head_word.ensures in
-    let link = c.first_link-link.ensures in
-    let count = c.head_word-count.ensures in
-    let step = c.link_step.ensures in
-    place_parent asks class kind (search (c.if-kind-le1.false, rules)) start link count step c.write_parts-end.ensures c.size_at.ensures
+write_place-write_parent-requires t c = place_parent c.requires c.class_of-class.ensures c.parts_at.ensures c.in-Some.is c.write_parts-end.ensures c.size_at.ensures
 
 pub write_place-returns : goal.write_place-returns
-write_place-returns t c = let asks = c.requires in
-    let class = c.class_of-class.ensures in
-    let kind = c.head_word-kind.ensures in
-    let start = c.head_word.ensures in
-    let link = c.first_link-link.ensures in
-    let count = c.head_word-count.ensures in
-    let step = c.link_step.ensures in
-    place_done asks class kind (search (c.if-kind-le1.false, rules)) start link count step c.write_parts-end.ensures c.size_at.ensures c.write_parent.ensures
+write_place-returns t c = place_done c.requires c.class_of-class.ensures c.parts_at.ensures c.in-Some.is c.write_parts-end.ensures c.size_at.ensures c.write_parent.ensures

@@ -1,9 +1,10 @@
 use Rattle.common_example.proofs.loops.writing.WriteLoops.{numbered, unnumbered}
+use Rattle.common_example.proofs.loops.graph.PartsTold.{fields_step, items_keyless}
 use borrow.Author.Rules.{rules}
 use Rattle.common_example.proofs.writing.number_key.Goals as goal
 
-pub returns-then-step-eq8 : goal.returns-then-step-eq8
-returns-then-step-eq8 c = search (numbered, rules)
+pub returns-in-Fields : goal.returns-in-Fields
+returns-in-Fields c = search (numbered, fields_step, rules)
 
-pub returns : goal.returns
-returns c = search (unnumbered, rules)
+pub returns-in-Items : goal.returns-in-Items
+returns-in-Items c = unnumbered _ _ _ _ (items_keyless (search rules))

@@ -12,11 +12,11 @@ number_key-value-requires c = search (number_asks, more_left, rules)
 pub overflow_add-node : goal.overflow_add-node
 overflow_add-node c = search (number_key_fits, more_left, rules)
 
-pub offset_bounds-links-from : goal.offset_bounds-links-from
-offset_bounds-links-from c = search (number_link, more_left, rules)
+pub offset_bounds-source-from : goal.offset_bounds-source-from
+offset_bounds-source-from c = search (number_link, more_left, rules)
 
-pub bounds-links-from : goal.bounds-links-from
-bounds-links-from c = search (number_link, more_left, rules)
+pub bounds-source-from : goal.bounds-source-from
+bounds-source-from c = search (number_link, more_left, rules)
 
 pub size_at-requires : goal.size_at-requires
 size_at-requires c = search (number_place, more_left, rules)
@@ -37,7 +37,7 @@ pub overflow_add-from : goal.overflow_add-from
 overflow_add-from c = search (number_next, more_left, rules)
 
 pub loop-part-preserved : goal.loop-part-preserved
-loop-part-preserved c = let e : c.args.count - (c.loop-part._part + 1) ≡ c.args.count - c.loop-part._part - 1 = omega arith in rw e (search (numbering_on, more_left, rules))
+loop-part-preserved c = let e : c.args.parts.count - (c.loop-part._part + 1) ≡ c.args.parts.count - c.loop-part._part - 1 = omega arith in rw e (search (numbering_on, more_left, rules))
 
 pub returns : goal.returns
 returns c = search (numbering_ends, none_left, rules)

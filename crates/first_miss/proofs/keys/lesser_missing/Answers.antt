@@ -2,11 +2,11 @@ use Rattle.first_miss.proofs.nodes.KeyLaws.{lesser_there, lesser_first, lesser_l
 use borrow.Author.Rules.{rules}
 use Rattle.first_miss.proofs.keys.lesser_missing.Goals as goal
 
-pub returns-then-value-ne0 : goal.returns-then-value-ne0
-returns-then-value-ne0 c = search (lesser_there, rules)
+pub returns-then-is_some : goal.returns-then-is_some
+returns-then-is_some c = search (lesser_there, rules)
 
-pub returns-then-least-eq0 : goal.returns-then-least-eq0
-returns-then-least-eq0 c = search (lesser_first, rules)
+pub returns-in_default : goal.returns-in_default
+returns-in_default c = search (lesser_first, rules)
 
 pub returns-then-comes_before : goal.returns-then-comes_before
 returns-then-comes_before c = search (lesser_less, rules)

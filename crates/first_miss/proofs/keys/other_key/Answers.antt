@@ -11,11 +11,11 @@ overflow_mul-i c = search (seeking_twice, rules)
 pub overflow_add-first : goal.overflow_add-first
 overflow_add-first c = search (seeking_place, rules)
 
-pub value_under-value-requires : goal.value_under-value-requires
-value_under-value-requires c = search (seeking_object, rules)
+pub value_under-requires : goal.value_under-requires
+value_under-requires c = search (seeking_object, rules)
 
-pub returns-then-value-eq0 : goal.returns-then-value-eq0
-returns-then-value-eq0 c = search (seeking_found, rules)
+pub returns-then-is_none : goal.returns-then-is_none
+returns-then-is_none c = search (seeking_found, rules)
 
 pub loop-i-preserved : goal.loop-i-preserved
 loop-i-preserved c = search (seeking_on, rules)

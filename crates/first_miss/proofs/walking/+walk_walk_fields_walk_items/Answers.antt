@@ -1,5 +1,5 @@
 use Rattle.first_miss.proofs.nodes.WalkNodes.{ask_literal, came_literal, ask_name, array_misses, ask_items, came_array, ask_object, object_misses, ask_fields, came_object, parts_fall}
-use Rattle.first_miss.proofs.nodes.WalkParts.{items_start, items_left_fits, items_right_fits, items_ask, items_fall, items_fail, items_on, items_end, fields_start, fields_object, fields_twice, fields_place, fields_value, fields_fall, fields_ask, fields_fail, fields_on, fields_end}
+use Rattle.first_miss.proofs.nodes.WalkParts.{items_start, items_left_fits, items_right_fits, items_ask, items_fall, items_fail, items_on, items_end, fields_start, fields_object, fields_twice, fields_place, fields_value, fields_fall, fields_some, fields_ask, fields_fail, fields_on, fields_end}
 use borrow.Author.Rules.{rules}
 use Rattle.first_miss.proofs.walking.+walk_walk_fields_walk_items.Goals as goal
 
@@ -45,17 +45,20 @@ walk_fields-overflow_add-place t c = search (fields_place, rules)
 pub walk_fields-overflow_add-place-in-loop-i : goal.walk_fields-overflow_add-place-in-loop-i
 walk_fields-overflow_add-place-in-loop-i t c = search (fields_value, rules)
 
-pub walk_fields-value_under-part-requires : goal.walk_fields-value_under-part-requires
-walk_fields-value_under-part-requires t c = search (fields_object, rules)
+pub walk_fields-value_under-requires : goal.walk_fields-value_under-requires
+walk_fields-value_under-requires t c = search (fields_object, rules)
+
+pub walk_fields-unwrap-part-requires : goal.walk_fields-unwrap-part-requires
+walk_fields-unwrap-part-requires t c = fields_some c.loop-i.invariant c.loop-i-test.true c.child_at-key.ensures c.child_at-value.ensures c.value_under.ensures
 
 pub walk_fields-walk-requires : goal.walk_fields-walk-requires
-walk_fields-walk-requires t c = (fields_fall c.loop-i.invariant c.loop-i-test.true c.child_at-value.ensures c.decreases, fields_ask c.loop-i.invariant c.loop-i-test.true c.child_at-key.ensures c.child_at-value.ensures c.value_under-part.ensures)
+walk_fields-walk-requires t c = (fields_fall c.loop-i.invariant c.loop-i-test.true c.child_at-value.ensures c.decreases, fields_ask c.loop-i.invariant c.loop-i-test.true c.child_at-key.ensures c.child_at-value.ensures c.value_under.ensures c.unwrap-part.ensures)
 
 pub walk_fields-returns-in_err-walk : goal.walk_fields-returns-in_err-walk
-walk_fields-returns-in_err-walk t c = search (fields_fail c.loop-i.invariant c.loop-i-test.true c.child_at-key.ensures c.child_at-value.ensures c.value_under-part.ensures c.walk.ensures, rules)
+walk_fields-returns-in_err-walk t c = search (fields_fail c.loop-i.invariant c.loop-i-test.true c.child_at-key.ensures c.child_at-value.ensures c.value_under.ensures c.unwrap-part.ensures c.walk.ensures, rules)
 
 pub walk_fields-loop-i-preserved : goal.walk_fields-loop-i-preserved
-walk_fields-loop-i-preserved t c = fields_on c.loop-i.invariant c.loop-i-test.true c.child_at-key.ensures c.child_at-value.ensures c.value_under-part.ensures c.walk.ensures c.in_ok-walk.was
+walk_fields-loop-i-preserved t c = fields_on c.loop-i.invariant c.loop-i-test.true c.child_at-key.ensures c.child_at-value.ensures c.value_under.ensures c.unwrap-part.ensures c.walk.ensures c.in_ok-walk.was
 
 pub walk_fields-returns : goal.walk_fields-returns
 walk_fields-returns t c = search (fields_end, rules)

@@ -1,5 +1,6 @@
+use mathlib.Core.Path.{refl}
 use Rattle.matching.proofs.Entries.{ask_bind, bound, ignored, ask_compare, compared, ask_literal, literal_compared, some_rest, ask_items, ask_fields, parts_fall, entry_falls}
-use Rattle.matching.proofs.Parts.{not_array, uneven_items, taking_start, taking_link, taking_from_fits, taking_asks, taking_fails, taking_on, taking_ends, not_object, ask_key_sets, other_keys, fields_start, fields_object, fields_link, fields_index_fits, fields_child, fields_key_word, fields_asks, fields_fail, fields_on, fields_end}
+use Rattle.matching.proofs.Parts.{not_array, uneven_items, taking_start, taking_link, taking_from_fits, taking_asks, taking_fails, taking_on, taking_ends, not_object, ask_key_sets, other_keys, fields_start, fields_object, fields_link, fields_index_fits, fields_child, fields_key_word, fields_some, fields_asks, fields_fail, fields_on, fields_end}
 use borrow.Author.Rules.{rules}
 use Rattle.matching.proofs.inner.+match_entry_match_fields_match_items.Goals as goal
 
@@ -46,19 +47,16 @@ pub match_fields-returns-then-not-same_key_sets : goal.match_fields-returns-then
 match_fields-returns-then-not-same_key_sets t c = search (other_keys, rules)
 
 pub match_fields-loop-i-init : goal.match_fields-loop-i-init
-match_fields-loop-i-init t c = fields_start c.requires c.kind_of.ensures c.if-kind_of-ne-OBJECT.false c.same_key_sets.ensures c.if-not-same_key_sets.false-raw c.entry_number-start.ensures.0
+match_fields-loop-i-init t c = fields_start c.requires c.kind_of.ensures c.if-kind_of-ne-OBJECT.false c.same_key_sets.ensures c.if-not-same_key_sets.false-raw refl
 
 pub match_fields-overflow_cast-i : goal.match_fields-overflow_cast-i
 match_fields-overflow_cast-i t c = fields_index_fits c.loop-i.invariant c.loop-i-test.true
 
-pub match_fields-overflow_add-start : goal.match_fields-overflow_add-start
-match_fields-overflow_add-start t c = search (fields_link c.loop-i.invariant c.loop-i-test.true, rules)
+pub match_fields-bounds-plan-start : goal.match_fields-bounds-plan-start
+match_fields-bounds-plan-start t c = search (fields_link, rules)
 
-pub match_fields-offset_bounds-links-start : goal.match_fields-offset_bounds-links-start
-match_fields-offset_bounds-links-start t c = search (fields_link c.loop-i.invariant c.loop-i-test.true, rules)
-
-pub match_fields-bounds-links-start : goal.match_fields-bounds-links-start
-match_fields-bounds-links-start t c = search (fields_link, rules)
+pub match_fields-bounds-plan-field : goal.match_fields-bounds-plan-field
+match_fields-bounds-plan-field t c = fields_key_word c.loop-i.invariant c.loop-i-test.true refl
 
 pub match_fields-overflow_mul-key : goal.match_fields-overflow_mul-key
 match_fields-overflow_mul-key t c = search (fields_child, rules)
@@ -66,23 +64,20 @@ match_fields-overflow_mul-key t c = search (fields_child, rules)
 pub match_fields-overflow_add-key : goal.match_fields-overflow_add-key
 match_fields-overflow_add-key t c = search (fields_child, rules)
 
-pub match_fields-offset_bounds-scratch-field : goal.match_fields-offset_bounds-scratch-field
-match_fields-offset_bounds-scratch-field t c = search (fields_child, rules)
+pub match_fields-value_under-requires : goal.match_fields-value_under-requires
+match_fields-value_under-requires t c = search (fields_object, rules)
 
-pub match_fields-bounds-scratch-field : goal.match_fields-bounds-scratch-field
-match_fields-bounds-scratch-field t c = fields_key_word c.loop-i.invariant c.loop-i-test.true c.entry_number-field.ensures.0
-
-pub match_fields-value_under-part-requires : goal.match_fields-value_under-part-requires
-match_fields-value_under-part-requires t c = search (fields_object, rules)
+pub match_fields-unwrap-part-requires : goal.match_fields-unwrap-part-requires
+match_fields-unwrap-part-requires t c = fields_some c.loop-i.invariant c.loop-i-test.true refl c.value_under.ensures
 
 pub match_fields-match_entry-requires : goal.match_fields-match_entry-requires
-match_fields-match_entry-requires t c = (entry_falls _ _ c.decreases, fields_asks c.loop-i.invariant c.loop-i-test.true c.entry_number-field.ensures.0 c.value_under-part.ensures)
+match_fields-match_entry-requires t c = (entry_falls _ _ c.decreases, fields_asks c.loop-i.invariant c.loop-i-test.true refl c.value_under.ensures c.unwrap-part.ensures)
 
 pub match_fields-returns-then-not-match_entry : goal.match_fields-returns-then-not-match_entry
-match_fields-returns-then-not-match_entry t c = fields_fail c.loop-i.invariant c.loop-i-test.true c.entry_number-field.ensures.0 c.value_under-part.ensures c.match_entry.ensures c.if-not-match_entry.true-raw
+match_fields-returns-then-not-match_entry t c = fields_fail c.loop-i.invariant c.loop-i-test.true refl c.value_under.ensures c.unwrap-part.ensures c.match_entry.ensures c.if-not-match_entry.true-raw
 
 pub match_fields-loop-i-preserved : goal.match_fields-loop-i-preserved
-match_fields-loop-i-preserved t c = fields_on c.loop-i.invariant c.loop-i-test.true c.entry_number-field.ensures.0 c.value_under-part.ensures c.match_entry.ensures c.if-not-match_entry.false-raw
+match_fields-loop-i-preserved t c = fields_on c.loop-i.invariant c.loop-i-test.true refl c.value_under.ensures c.unwrap-part.ensures c.match_entry.ensures c.if-not-match_entry.false-raw
 
 pub match_fields-returns : goal.match_fields-returns
 match_fields-returns t c = search (fields_end, rules)
@@ -94,28 +89,22 @@ pub match_items-returns-then-count_of-count : goal.match_items-returns-then-coun
 match_items-returns-then-count_of-count t c = search (uneven_items, rules)
 
 pub match_items-loop-i-init : goal.match_items-loop-i-init
-match_items-loop-i-init t c = taking_start c.requires c.kind_of.ensures c.if-kind_of-ne-ARRAY.false c.count_of.ensures c.if-count_of-count.false c.entry_number-start.ensures.0 c.first_of-from.ensures
+match_items-loop-i-init t c = taking_start c.requires c.kind_of.ensures c.if-kind_of-ne-ARRAY.false c.count_of.ensures c.if-count_of-count.false refl c.first_of-from.ensures
 
-pub match_items-overflow_add-start : goal.match_items-overflow_add-start
-match_items-overflow_add-start t c = search (taking_link, rules)
-
-pub match_items-offset_bounds-links-start : goal.match_items-offset_bounds-links-start
-match_items-offset_bounds-links-start t c = search (taking_link, rules)
-
-pub match_items-bounds-links-start : goal.match_items-bounds-links-start
-match_items-bounds-links-start t c = search (taking_link, rules)
+pub match_items-bounds-plan-start : goal.match_items-bounds-plan-start
+match_items-bounds-plan-start t c = search (taking_link, rules)
 
 pub match_items-overflow_add-from : goal.match_items-overflow_add-from
 match_items-overflow_add-from t c = search (taking_from_fits, rules)
 
 pub match_items-match_entry-requires : goal.match_items-match_entry-requires
-match_items-match_entry-requires t c = (entry_falls _ _ c.decreases, taking_asks c.loop-i.invariant c.loop-i-test.true c.entry_number-item.ensures.0 c.child_at-part.ensures)
+match_items-match_entry-requires t c = (entry_falls _ _ c.decreases, taking_asks c.loop-i.invariant c.loop-i-test.true refl c.child_at-part.ensures)
 
 pub match_items-returns-then-not-match_entry : goal.match_items-returns-then-not-match_entry
-match_items-returns-then-not-match_entry t c = taking_fails c.loop-i.invariant c.loop-i-test.true c.entry_number-item.ensures.0 c.child_at-part.ensures c.match_entry.ensures c.if-not-match_entry.true-raw
+match_items-returns-then-not-match_entry t c = taking_fails c.loop-i.invariant c.loop-i-test.true refl c.child_at-part.ensures c.match_entry.ensures c.if-not-match_entry.true-raw
 
 pub match_items-loop-i-preserved : goal.match_items-loop-i-preserved
-match_items-loop-i-preserved t c = taking_on c.loop-i.invariant c.loop-i-test.true c.entry_number-item.ensures.0 c.child_at-part.ensures c.match_entry.ensures c.if-not-match_entry.false-raw
+match_items-loop-i-preserved t c = taking_on c.loop-i.invariant c.loop-i-test.true refl c.child_at-part.ensures c.match_entry.ensures c.if-not-match_entry.false-raw
 
 pub match_items-returns : goal.match_items-returns
 match_items-returns t c = search (taking_ends, rules)

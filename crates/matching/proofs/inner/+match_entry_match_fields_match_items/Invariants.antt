@@ -10,10 +10,10 @@ abbrev pub decreases-match_fields : goal.decreases-match_fields
 decreases-match_fields l = 2 * l.rest + 1
 
 abbrev pub invariant-match_fields-loop-i : goal.invariant-match_fields-loop-i
-invariant-match_fields-loop-i l = TakingFields (contents l.tables) l.scratch l.starts l.links l.at l.count l.value l.rest l.initial.list l.start l.i l.list
+invariant-match_fields-loop-i l = TakingFields (contents l.tables) l.plan.scratch.now l.plan.links.now.starts l.plan.links.now.entries l.at l.count l.value l.rest l.initial.list l.start l.i l.list
 
 abbrev pub decreases-match_items : goal.decreases-match_items
 decreases-match_items l = 2 * l.rest + 1
 
 abbrev pub invariant-match_items-loop-i : goal.invariant-match_items-loop-i
-invariant-match_items-loop-i l = TakingItems (contents l.tables) l.scratch l.starts l.links l.at l.count l.value l.rest l.initial.list l.start l.from l.i l.list
+invariant-match_items-loop-i l = TakingItems (contents l.tables) l.plan.scratch.now l.plan.links.now.starts l.plan.links.now.entries l.at l.count l.value l.rest l.initial.list l.start l.from l.i l.list

@@ -2,8 +2,8 @@ use Rattle.matching.proofs.Carried.{pattern_links, pattern_asks, pattern_matched
 use borrow.Author.Rules.{rules}
 use Rattle.matching.proofs.inner.match_pattern.Goals as goal
 
-pub link_entries-linked-requires : goal.link_entries-linked-requires
-link_entries-linked-requires c = search (pattern_links, rules)
+pub link_entries-links-requires : goal.link_entries-links-requires
+link_entries-links-requires c = search (pattern_links, rules)
 
 pub match_entry-requires : goal.match_entry-requires
 match_entry-requires c = search (pattern_asks, rules)

@@ -1,4 +1,4 @@
-use Rattle.matching.proofs.reading.Chains.{chain_fits, chaining_start, chaining_index, chaining_word, chaining_base, chaining_index_fits, chaining_bytes, chaining_pair, chaining_small, chaining_sum, chaining_low, chaining_place, chaining_on, chaining_ends}
+use Rattle.matching.proofs.reading.Chains.{chain_fits, chaining_start, chaining_index, chaining_word, chaining_bytes, chaining_pair, chaining_small, chaining_sum, chaining_low, chaining_place, chaining_on, chaining_ends}
 use borrow.Author.Rules.{rules}
 use Rattle.matching.proofs.links.link_children.Goals as goal
 
@@ -7,12 +7,6 @@ overflow_add-child c = search (chain_fits, rules)
 
 pub loop-i-init : goal.loop-i-init
 loop-i-init c = search (chaining_start, rules)
-
-pub overflow_mul-child : goal.overflow_mul-child
-overflow_mul-child c = search (chaining_base, rules)
-
-pub overflow_add-child-in-loop-i : goal.overflow_add-child-in-loop-i
-overflow_add-child-in-loop-i c = search (chaining_index_fits, rules)
 
 pub offset_bounds-scratch-child : goal.offset_bounds-scratch-child
 offset_bounds-scratch-child c = search (chaining_bytes, rules)

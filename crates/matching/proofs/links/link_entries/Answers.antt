@@ -5,12 +5,6 @@ use Rattle.matching.proofs.links.link_entries.Goals as goal
 pub loop-at-init : goal.loop-at-init
 loop-at-init c = search (linking_start, rules)
 
-pub overflow_mul-at : goal.overflow_mul-at
-overflow_mul-at c = search (linking_index, rules)
-
-pub overflow_add-at : goal.overflow_add-at
-overflow_add-at c = search (linking_index, rules)
-
 pub offset_bounds-scratch-at : goal.offset_bounds-scratch-at
 offset_bounds-scratch-at c = search (linking_index, rules)
 

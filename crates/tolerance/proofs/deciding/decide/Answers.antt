@@ -9,7 +9,7 @@ pub returns-then-not-meet : goal.returns-then-not-meet
 returns-then-not-meet c = search (decided_never, rules)
 
 pub returns-then-all_free : goal.returns-then-all_free
-returns-then-all_free c = decided_always c.requires c.own_labels-labels.ensures c.ends_of-low.ensures c.ends_of-high.ensures c.meet.ensures c.if-not-meet.false-raw c.all_free.ensures c.if-all_free.true
+returns-then-all_free c = search (decided_always, rules)
 
 pub returns : goal.returns
-returns c = decided_sometimes c.requires c.own_labels-labels.ensures c.ends_of-low.ensures c.ends_of-high.ensures c.meet.ensures c.if-not-meet.false-raw c.all_free.ensures c.if-all_free.false
+returns c = search (decided_sometimes, rules)

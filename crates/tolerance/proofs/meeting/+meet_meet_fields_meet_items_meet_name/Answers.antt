@@ -17,17 +17,17 @@ meet-returns-then-kind-eq-NAME t c = search (met_name, rules)
 pub meet-returns-then-kind_of-kind : goal.meet-returns-then-kind_of-kind
 meet-returns-then-kind_of-kind t c = search (met_kinds, rules)
 
-pub meet-returns-then-count_of-count : goal.meet-returns-then-count_of-count
-meet-returns-then-count_of-count t c = search (met_counts, rules)
+pub meet-returns-then-count_of : goal.meet-returns-then-count_of
+meet-returns-then-count_of t c = search (met_counts, rules)
 
 pub meet-meet_items-requires : goal.meet-meet_items-requires
-meet-meet_items-requires t c = (parts_fall c.requires c.decreases, ask_items c.requires c.kind_of-kind.ensures c.if-kind-le-LAST_LITERAL.false c.if-kind-eq-NAME.false c.kind_of.ensures c.if-kind_of-kind.false c.count_of-count.ensures c.count_of.ensures c.if-count_of-count.false c.if-kind-eq-ARRAY.true c.first_of-at.ensures c.first_of-from.ensures)
+meet-meet_items-requires t c = (parts_fall c.requires c.decreases, ask_items c.requires c.kind_of-kind.ensures c.if-kind-le-LAST_LITERAL.false c.if-kind-eq-NAME.false c.kind_of.ensures c.if-kind_of-kind.false c.count_of-2.ensures c.count_of.ensures c.if-count_of.false c.if-kind-eq-ARRAY.true)
 
 pub meet-returns-then-kind-eq-ARRAY : goal.meet-returns-then-kind-eq-ARRAY
 meet-returns-then-kind-eq-ARRAY t c = search (met_array, rules)
 
 pub meet-meet_fields-requires : goal.meet-meet_fields-requires
-meet-meet_fields-requires t c = (parts_fall c.requires c.decreases, ask_fields c.requires c.kind_of-kind.ensures c.if-kind-le-LAST_LITERAL.false c.if-kind-eq-NAME.false c.kind_of.ensures c.if-kind_of-kind.false c.count_of-count.ensures c.count_of.ensures c.if-count_of-count.false c.if-kind-eq-ARRAY.false)
+meet-meet_fields-requires t c = (parts_fall c.requires c.decreases, ask_fields c.requires c.kind_of-kind.ensures c.if-kind-le-LAST_LITERAL.false c.if-kind-eq-NAME.false c.kind_of.ensures c.if-kind_of-kind.false c.count_of-2.ensures c.count_of.ensures c.if-count_of.false c.if-kind-eq-ARRAY.false)
 
 pub meet-returns : goal.meet-returns
 meet-returns t c = search (met_object, rules)
@@ -44,20 +44,20 @@ meet_fields-overflow_add-place t c = search (fields_place, rules)
 pub meet_fields-overflow_add-place-in-loop-i : goal.meet_fields-overflow_add-place-in-loop-i
 meet_fields-overflow_add-place-in-loop-i t c = search (fields_value, rules)
 
-pub meet_fields-value_under-other-requires : goal.meet_fields-value_under-other-requires
-meet_fields-value_under-other-requires t c = search (fields_object, rules)
+pub meet_fields-value_under-requires : goal.meet_fields-value_under-requires
+meet_fields-value_under-requires t c = search (fields_object, rules)
 
-pub meet_fields-returns-then-other-eq0 : goal.meet_fields-returns-then-other-eq0
-meet_fields-returns-then-other-eq0 t c = search (fields_missing, rules)
+pub meet_fields-returns-in_default : goal.meet_fields-returns-in_default
+meet_fields-returns-in_default t c = search (fields_missing, rules)
 
 pub meet_fields-meet-requires : goal.meet_fields-meet-requires
-meet_fields-meet-requires t c = (fields_fall c.loop-i.invariant c.loop-i-test.true c.child_at-value.ensures c.decreases, fields_ask c.loop-i.invariant c.loop-i-test.true c.child_at-key.ensures c.child_at-value.ensures c.value_under-other.ensures c.if-other-eq0.false)
+meet_fields-meet-requires t c = (fields_fall c.loop-i.invariant c.loop-i-test.true c.child_at-value.ensures c.decreases, fields_ask c.loop-i.invariant c.loop-i-test.true c.child_at-key.ensures c.child_at-value.ensures c.value_under.ensures c.in-Some.is)
 
 pub meet_fields-returns-then-not-meet : goal.meet_fields-returns-then-not-meet
 meet_fields-returns-then-not-meet t c = search (fields_fail, rules)
 
 pub meet_fields-loop-i-preserved : goal.meet_fields-loop-i-preserved
-meet_fields-loop-i-preserved t c = fields_on c.loop-i.invariant c.loop-i-test.true c.child_at-key.ensures c.child_at-value.ensures c.value_under-other.ensures c.if-other-eq0.false c.meet.ensures c.if-not-meet.false-raw
+meet_fields-loop-i-preserved t c = fields_on c.loop-i.invariant c.loop-i-test.true c.child_at-key.ensures c.child_at-value.ensures c.value_under.ensures c.in-Some.is c.meet.ensures c.if-not-meet.false-raw
 
 pub meet_fields-returns : goal.meet_fields-returns
 meet_fields-returns t c = search (fields_end, rules)
@@ -78,7 +78,7 @@ pub meet_items-returns-then-not-meet : goal.meet_items-returns-then-not-meet
 meet_items-returns-then-not-meet t c = search (items_fail, rules)
 
 pub meet_items-loop-i-preserved : goal.meet_items-loop-i-preserved
-meet_items-loop-i-preserved t c = items_on c.loop-i.invariant c.loop-i-test.true c.child_at-a.ensures c.child_at-b.ensures c.meet.ensures c.if-not-meet.false-raw
+meet_items-loop-i-preserved t c = items_on c.loop-i.invariant c.loop-i-test.true c.child_at-item.ensures c.child_at-other.ensures c.meet.ensures c.if-not-meet.false-raw
 
 pub meet_items-returns : goal.meet_items-returns
 meet_items-returns t c = search (items_end, rules)

@@ -7,7 +7,7 @@ abbrev pub decreases-numbers_ok : goal.decreases-numbers_ok
 decreases-numbers_ok l = l.node
 
 abbrev pub invariant-loop-i : goal.invariant-loop-i
-invariant-loop-i l = Ranging (contents l.tables) l.lowest l.highest l.node l.first l.step l.count l.i
+invariant-loop-i l = Ranging (contents l.tables) l.ranges.lowest.now l.ranges.highest.now l.node l.first l.step l.count l.i
 
 abbrev pub decreases-loop-i : goal.decreases-loop-i
 decreases-loop-i l = l.count - l.i

@@ -2,8 +2,8 @@ use Rattle.common_example.proofs.loops.graph.LiteralOrder.{count_fits, ask_find,
 use borrow.Author.Rules.{rules}
 use Rattle.common_example.proofs.graph.likes.add_node.Goals as goal
 
-pub returns-then-not-literal : goal.returns-then-not-literal
-returns-then-not-literal c = search (added_none, rules)
+pub returns-then-not-same_literals : goal.returns-then-not-same_literals
+returns-then-not-same_literals c = search (added_none, rules)
 
 pub find_literal-requires : goal.find_literal-requires
 find_literal-requires c = search (ask_find, rules)

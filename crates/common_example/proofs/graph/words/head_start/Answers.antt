@@ -2,11 +2,11 @@ use Rattle.common_example.proofs.loops.graph.GraphLoops.{start_none, start_liter
 use borrow.Author.Rules.{rules}
 use Rattle.common_example.proofs.graph.words.head_start.Goals as goal
 
-pub returns-then-known-eq0 : goal.returns-then-known-eq0
-returns-then-known-eq0 c = search (start_none, rules)
+pub returns-then-kind-eq-NOTHING : goal.returns-then-kind-eq-NOTHING
+returns-then-kind-eq-NOTHING c = search (start_none, rules)
 
-pub returns-then-known-eq1 : goal.returns-then-known-eq1
-returns-then-known-eq1 c = search (start_literal, rules)
+pub returns-then-kind-eq-LITERAL : goal.returns-then-kind-eq-LITERAL
+returns-then-kind-eq-LITERAL c = search (start_literal, rules)
 
 pub overflow_mul-result : goal.overflow_mul-result
 overflow_mul-result c = search (link_four, rules)

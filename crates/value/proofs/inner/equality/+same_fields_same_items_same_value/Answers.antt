@@ -14,20 +14,20 @@ same_fields-overflow_add-place t c = search (by_key_place, rules)
 pub same_fields-overflow_add-place-in-loop-i : goal.same_fields-overflow_add-place-in-loop-i
 same_fields-overflow_add-place-in-loop-i t c = search (by_key_value, rules)
 
-pub same_fields-value_under-other-requires : goal.same_fields-value_under-other-requires
-same_fields-value_under-other-requires t c = search (by_key_object, rules)
+pub same_fields-value_under-requires : goal.same_fields-value_under-requires
+same_fields-value_under-requires t c = search (by_key_object, rules)
 
-pub same_fields-returns-then-other-eq0 : goal.same_fields-returns-then-other-eq0
-same_fields-returns-then-other-eq0 t c = search (by_key_missing, rules)
+pub same_fields-returns-in_default : goal.same_fields-returns-in_default
+same_fields-returns-in_default t c = search (by_key_missing, rules)
 
 pub same_fields-same_value-requires : goal.same_fields-same_value-requires
-same_fields-same_value-requires t c = (child_falls (by_key_below c.loop-i.invariant c.loop-i-test.true c.child_at-value.ensures) c.decreases, by_key_ask c.loop-i.invariant c.loop-i-test.true c.child_at-key.ensures c.child_at-value.ensures c.value_under-other.ensures c.if-other-eq0.false)
+same_fields-same_value-requires t c = (child_falls (by_key_below c.loop-i.invariant c.loop-i-test.true c.child_at-value.ensures) c.decreases, by_key_ask c.loop-i.invariant c.loop-i-test.true c.child_at-key.ensures c.child_at-value.ensures c.value_under.ensures c.in-Some.is)
 
 pub same_fields-returns-then-not-same_value : goal.same_fields-returns-then-not-same_value
 same_fields-returns-then-not-same_value t c = search (by_key_fails, rules)
 
 pub same_fields-loop-i-preserved : goal.same_fields-loop-i-preserved
-same_fields-loop-i-preserved t c = by_key_on c.loop-i.invariant c.loop-i-test.true c.child_at-key.ensures c.child_at-value.ensures c.value_under-other.ensures c.if-other-eq0.false c.same_value.ensures c.if-not-same_value.false-raw
+same_fields-loop-i-preserved t c = by_key_on c.loop-i.invariant c.loop-i-test.true c.child_at-key.ensures c.child_at-value.ensures c.value_under.ensures c.in-Some.is c.same_value.ensures c.if-not-same_value.false-raw
 
 pub same_fields-returns : goal.same_fields-returns
 same_fields-returns t c = search (by_key_ends, rules)

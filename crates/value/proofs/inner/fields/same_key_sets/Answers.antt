@@ -14,11 +14,11 @@ overflow_mul-i c = search (covering_twice, rules)
 pub overflow_add-first : goal.overflow_add-first
 overflow_add-first c = search (covering_place, rules)
 
-pub value_under-value-requires : goal.value_under-value-requires
-value_under-value-requires c = search (covering_object, rules)
+pub value_under-requires : goal.value_under-requires
+value_under-requires c = search (covering_object, rules)
 
-pub returns-then-value-eq0 : goal.returns-then-value-eq0
-returns-then-value-eq0 c = search (covering_fails, rules)
+pub returns-then-is_none : goal.returns-then-is_none
+returns-then-is_none c = search (covering_fails, rules)
 
 pub loop-i-preserved : goal.loop-i-preserved
 loop-i-preserved c = search (covering_on, rules)
