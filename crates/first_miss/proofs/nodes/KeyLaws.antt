@@ -136,7 +136,8 @@ module _ {T : Tables} {a b first left : ℕ} {least : Prelude.Option ℕ} (go : 
       pub leasting_ask : LesserAsks T b key least
       leasting_ask =
           let (l, d, q) = key_of T first (count_of T.nodes a) fielded (left - 1) lower in
-          record { keyed = go.asks.right; key_ok = record { key = l; is = rw is d }; least_ok = go.ok }
+          let n = key-node fielded.asks (left - 1) lower in
+          record { keyed = go.asks.right; key_ok = record { key = l; is = rw is d; low = rw is n.low }; least_ok = go.ok }
 
       pub leasting_on : {r : Prelude.Option ℕ} → LesserTold T b key least r → Leasting T a b first (left - 1) r
       unfolding missing_key slots_of fields

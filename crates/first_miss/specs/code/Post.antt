@@ -40,6 +40,7 @@ slot_at T (Some n) = slot_by n (literal_at T n)
 pub record IsKey (T : Tables) (n : ℕ) : Type 0 where
   pub key : Literal
   pub is : literal_at T n ≡ some key
+  pub low : 1 ≤ n
 
 -- the least key so far, and one that is looked for in an object
 pub record LesserAsks (T : Tables) (object key : ℕ) (least : Prelude.Option ℕ) : Type 0 where
